@@ -1,0 +1,10 @@
+use Rattle.std.proofs.Common.{◌≡◌, ◌∙◌, ap, sym}
+use Rattle.hickory_wire.specs.DomainName.{DomainName}
+use Rattle.hickory_wire.specs.NameOrder.{lower_labels}
+use Rattle.hickory_wire.proofs.SameNames.{lower_labels-twice}
+use Rattle.hickory_wire.proofs.lower_name.LowerName.new.Goals as goal
+
+pub invariant_of-result : goal.invariant_of-result
+invariant_of-result c =
+    let e : c.in_ok-name.name.labels ≡ lower_labels c.args.name.now.labels = ap (λ (d : DomainName). d.labels) c.in_ok-name.ensures in
+    ap lower_labels e ∙ lower_labels-twice c.args.name.now.labels ∙ sym e

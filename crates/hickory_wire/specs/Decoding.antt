@@ -1,0 +1,73 @@
+-- What reading gives of a reply that was written.
+use Rattle.std.specs.Prelude.{◌≡◌, ℕ, zero, suc, ◌%◌, ◌<◌, ◌^◌, List, ◌++◌, length, take, map, ◌||◌, Option, None, option_map, IfSome}
+use Rattle.std.specs.List.{AllByRecursion}
+use Rattle.hickory_wire.specs.EdnsFields.{EdnsFields}
+use Rattle.hickory_wire.specs.MessageLayout.{ItemsAt, IsSectionRecord, tsig_record}
+use Rattle.hickory_wire.specs.MessageReading.{high_code, with_high_code}
+use Rattle.hickory_wire.specs.QuestionLayout.{QuestionAt, IsFormedQuestion}
+use Rattle.hickory_wire.specs.RecordData.{IsOption}
+use Rattle.hickory_wire.specs.RecordLayout.{IsFormedRecord}
+use Rattle.hickory_wire.specs.Reply.{Reply}
+use Rattle.hickory_wire.specs.Writing.{Fronts, asked_bytes, is_any_cut}
+use Rattle.hickory_wire.specs.declared.header.Metadata.{Metadata}
+use Rattle.hickory_wire.specs.declared.message.Message.{Message}
+use Rattle.hickory_wire.specs.declared.query.Query.{Query}
+use Rattle.hickory_wire.specs.declared.rdata.RData.{RData}
+use Rattle.hickory_wire.specs.declared.record.Proof.TheVariants.{Indeterminate}
+use Rattle.hickory_wire.specs.declared.record.Record.{Record}
+
+-- the record as it is read: nothing is known of its proof
+abbrev pub unproved : {R : Type 0} → Record R → Record R
+unproved r = record r { proof = Indeterminate }
+
+-- a record of a section that reads back as itself, but for its proof
+pub record IsReadable (r : Record RData) : Type 0 where
+  pub formed : IsFormedRecord (unproved r)
+  pub section : IsSectionRecord r
+
+-- fields that fit the OPT record
+pub record IsFormedEdns (e : EdnsFields) : Type 0 where
+  pub max_payload : e.max_payload < 2 ^ 16
+  pub rcode_high : e.rcode_high < 2 ^ 8
+  pub version : e.version < 2 ^ 8
+  pub reserved_flags : e.reserved_flags < 2 ^ 15
+  pub options : AllByRecursion IsOption e.options
+
+-- id, kind and code within their bits
+pub record IsFormedMetadata (m : Metadata) : Type 0 where
+  pub id : m.id < 2 ^ 16
+  pub op_code : m.op_code < 2 ^ 4
+  pub response_code : m.response_code < 2 ^ 12
+
+-- The reply reads back: its questions stand behind the header in just the bytes that are repeated, and none of their names leads
+-- into the header; each record reads back as itself; no OPT, TSIG or SIG stands in a section.
+pub record IsDecodable (reply : Reply) (queries : List Query) : Type 0 where
+  pub metadata : IsFormedMetadata reply.metadata
+  pub asked : ItemsAt (QuestionAt 12 (asked_bytes reply)) 12 queries (length (asked_bytes reply))
+  pub questions : AllByRecursion IsFormedQuestion queries
+  pub question_count : reply.question_count ≡ length queries
+  pub answers : AllByRecursion IsReadable reply.answers
+  pub authorities : AllByRecursion IsReadable reply.authorities
+  pub soa : AllByRecursion IsReadable reply.soa
+  pub additionals : AllByRecursion IsReadable reply.additionals
+  pub edns : IfSome reply.edns IsFormedEdns
+  pub signature : IfSome reply.signature (λ signature. IsFormedRecord (tsig_record (unproved signature)))
+
+-- what an option holds, where so much of its list was written
+abbrev pub front_of_option : {A : Type 0} → ℕ → Option A → Option A
+front_of_option zero content = None
+front_of_option (suc n) content = content
+
+-- the message of header, questions and what was written
+abbrev pub decoded_message : Reply → List Query → Fronts → Message
+decoded_message reply queries f = record {
+  metadata = with_high_code
+      (record reply.metadata { truncation = reply.metadata.truncation || is_any_cut f; response_code = reply.metadata.response_code % 16 })
+      (high_code (front_of_option f.opt.count reply.edns));
+  queries = queries;
+  answers = map unproved (take f.answers.count reply.answers);
+  authorities = map unproved (take f.authorities.count (reply.authorities ++ reply.soa));
+  additionals = map unproved (take f.additionals.count reply.additionals);
+  edns = front_of_option f.opt.count reply.edns;
+  signature = option_map unproved (front_of_option f.signature.count reply.signature);
+}

@@ -1,0 +1,87 @@
+-- How a message stands in bytes: its header, its sections one behind the other, and what each section may hold (RFC 1035 section 4.1).
+use Rattle.std.specs.Prelude.{◌≡◌, ℕ, List, [], ◌∷◌, ◌++◌, length, Bool, false, not, filter, map, Option, Some, None, option_to_list, ◌==◌}
+use Rattle.std.specs.List.{AllByRecursion}
+use Rattle.hickory_wire.specs.EdnsFields.{EdnsFields}
+use Rattle.hickory_wire.specs.HeaderLayout.{HeaderAt}
+use Rattle.hickory_wire.specs.QuestionLayout.{QuestionAt, IsFormedQuestion}
+use Rattle.hickory_wire.specs.RecordData.{type_of}
+use Rattle.hickory_wire.specs.RecordLayout.{RecordAt}
+use Rattle.hickory_wire.specs.SectionReading.{is_additional_type, edns_of}
+use Rattle.hickory_wire.specs.MessageReading.{high_code, with_high_code}
+use Rattle.hickory_wire.specs.declared.header.Header.{Header}
+use Rattle.hickory_wire.specs.declared.message.Message.{Message}
+use Rattle.hickory_wire.specs.declared.query.Query.{Query}
+use Rattle.hickory_wire.specs.declared.rdata.RData.{RData}
+use Rattle.hickory_wire.specs.declared.rdata.RData.TheVariants as rdata
+use Rattle.hickory_wire.specs.declared.record.Record.{Record}
+use Rattle.hickory_wire.specs.declared.tsig.TSIG.{TSIG}
+
+-- Items stand one behind the other from place on, and next is the place behind the last.
+abbrev pub ItemsAt : {A : Type 0} → (ℕ → A → ℕ → Type 0) → ℕ → List A → ℕ → Type 0
+ItemsAt at place [] next = next ≡ place
+ItemsAt at place (x ∷ xs) next = (middle : ℕ) × at place x middle × ItemsAt at middle xs next
+
+-- A question as it is read.
+pub record QuestionRead (bytes : List ℕ) (place : ℕ) (query : Query) (next : ℕ) : Type 0 where
+  pub stands : QuestionAt 0 bytes place query next
+  pub formed : IsFormedQuestion query
+
+-- no OPT, TSIG or SIG
+abbrev pub IsSectionRecord : Record RData → Type 0
+IsSectionRecord r = is_additional_type (type_of r.rdata) ≡ false
+
+-- whether a record is an OPT, and whether it is a TSIG
+abbrev pub is_opt : Record RData → Bool
+is_opt r = type_of r.rdata == 41
+
+abbrev pub is_tsig : Record RData → Bool
+is_tsig r = type_of r.rdata == 250
+
+-- An OPT record at the root that says this (RFC 6891 sections 6.1.2 and 6.1.3).
+pub record SaysEdns (r : Record RData) (edns : EdnsFields) : Type 0 where
+  pub root : r.name.labels ≡ []
+  pub rdata : r.rdata ≡ rdata.OPT edns.options
+  pub says : edns ≡ edns_of r edns.options
+
+-- The OPT records of a section, at most one, and what it says.
+abbrev pub HasEdns : List (Record RData) → Option EdnsFields → Type 0
+HasEdns [] edns = edns ≡ None
+HasEdns (r ∷ []) edns = (fields : EdnsFields) × SaysEdns r fields × (edns ≡ Some fields)
+HasEdns (r ∷ q ∷ others) edns = ⊥
+
+-- a TSIG record among records of any data
+abbrev pub tsig_record : Record TSIG → Record RData
+tsig_record r = record { name = r.name; dns_class = r.dns_class; ttl = r.ttl; rdata = rdata.TSIG r.rdata; proof = r.proof }
+
+-- The records of an additional section, in their order: a TSIG, if there is one, is the last (RFC 8945 section 5.1); before it there
+-- is at most one OPT (RFC 6891 section 6.1.1), at the root (section 6.1.2); the others are its records.
+pub record AdditionalSection (all records : List (Record RData)) (edns : Option EdnsFields) (signature : Option (Record TSIG)) : Type 0 where
+  pub unsigned : List (Record RData)
+  pub opts : List (Record RData)
+  pub signature_last : all ≡ unsigned ++ map tsig_record (option_to_list signature)
+  pub one_signature : filter is_tsig unsigned ≡ []
+  pub opt_records : filter is_opt unsigned ≡ opts
+  pub others : records ≡ filter (λ r. not (is_opt r)) unsigned
+  pub one_opt : HasEdns opts edns
+
+-- The bytes begin with this message.
+pub record MessageAt (bytes : List ℕ) (m : Message) : Type 0 where
+  pub header : Header
+  pub all : List (Record RData)
+  pub answers_at : ℕ
+  pub authorities_at : ℕ
+  pub additionals_at : ℕ
+  pub stop : ℕ
+  pub header_stands : HeaderAt bytes header
+  pub queries : ItemsAt (QuestionRead bytes) 12 m.queries answers_at
+  pub answers : ItemsAt (RecordAt bytes) answers_at m.answers authorities_at
+  pub authorities : ItemsAt (RecordAt bytes) authorities_at m.authorities additionals_at
+  pub additionals : ItemsAt (RecordAt bytes) additionals_at all stop
+  pub query_count : length m.queries ≡ header.counts.queries
+  pub answer_count : length m.answers ≡ header.counts.answers
+  pub authority_count : length m.authorities ≡ header.counts.authorities
+  pub additional_count : length all ≡ header.counts.additionals
+  pub answers_plain : AllByRecursion IsSectionRecord m.answers
+  pub authorities_plain : AllByRecursion IsSectionRecord m.authorities
+  pub section : AdditionalSection all m.additionals m.edns m.signature
+  pub metadata : m.metadata ≡ with_high_code header.metadata (high_code m.edns)

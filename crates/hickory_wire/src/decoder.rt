@@ -1,0 +1,132 @@
+//! Reading from the front of a message to its end.
+
+ghost use Rattle.std.specs.Prelude.{◌≡◌, ◌≢◌, IfOk, IfErr, ◌≤◌, ◌<◌, length, slice_range, ℕ};
+ghost use Rattle.std.specs.Int.{w8, w16, w32};
+ghost use Rattle.hickory_wire.specs.Cursor.{Cursor};
+ghost use Rattle.hickory_wire.specs.DomainName.{DomainName};
+ghost use Rattle.hickory_wire.specs.Reading.{Gives, number, octets};
+ghost use Rattle.hickory_wire.specs.NameLayout.{NameAt, NameFault, IsFullyQualified};
+ghost use Rattle.hickory_wire.specs.NameReading.{name};
+ghost use Rattle.hickory_wire.specs.declared.error.DecodeError.TheVariants.{Memory, InsufficientBytes};
+
+use crate::error::DecodeError;
+use crate::name::Name;
+use crate::name_reader::read_name_at;
+use bytes::Buf;
+use std::alloc::Global;
+use std::marker::Model;
+
+/// A place in the bytes of a message, from where it is read on.
+#[derive(Drop)]
+pub struct BinDecoder<'a> {
+    bytes: &'a [u8],
+    index: usize,
+}
+
+impl<'a> Model for BinDecoder<'a> {
+    ghost Value = { Cursor };
+
+    ghost view = { λ decoder. record { bytes = decoder.bytes.now; place = decoder.index } };
+
+    ghost invariant = { λ decoder. decoder.index ≤ length decoder.bytes.now };
+}
+
+impl<'a> BinDecoder<'a> {
+    /// The front of a message.
+    pub fn new(bytes: &'a [u8]) -> Self
+        ensures { result ≡ record { bytes = bytes.now; place = 0 } }
+    {
+        BinDecoder { bytes, index: 0 }
+    }
+
+    /// How many bytes lie before this place.
+    pub fn index(&self) -> usize
+        ensures place { result ≡ self.now.place }
+        ensures within { result ≤ length self.now.bytes }
+    {
+        self.index
+    }
+
+    /// The bytes from `start` up to this place. `InsufficientBytes` where `start` lies behind it.
+    pub fn slice_from(&self, start: usize) -> Result<&'a [u8], DecodeError>
+        ensures found { IfOk result (λ s. (start ≤ self.now.place) × (s.now ≡ slice_range self.now.bytes start self.now.place)) }
+        ensures fault { IfErr result (λ e. (self.now.place < start) × (e ≡ InsufficientBytes)) }
+    {
+        if start > self.index {
+            return Err(DecodeError::InsufficientBytes);
+        }
+        Ok(&self.bytes[start..self.index])
+    }
+
+    pub(crate) fn read_u8(&mut self) -> Result<u8, DecodeError>
+        ensures { Gives (λ n. n) result self.old self.new (number w8) }
+    {
+        let mut rest = &self.bytes[self.index..];
+        match rest.try_get_u8() {
+            Ok(number) => {
+                self.index += 1;
+                Ok(number)
+            }
+            Err(_) => Err(DecodeError::InsufficientBytes),
+        }
+    }
+
+    pub(crate) fn read_u16(&mut self) -> Result<u16, DecodeError>
+        ensures { Gives (λ n. n) result self.old self.new (number w16) }
+    {
+        let mut rest = &self.bytes[self.index..];
+        match rest.try_get_u16() {
+            Ok(number) => {
+                self.index += 2;
+                Ok(number)
+            }
+            Err(_) => Err(DecodeError::InsufficientBytes),
+        }
+    }
+
+    pub(crate) fn read_u32(&mut self) -> Result<u32, DecodeError>
+        ensures { Gives (λ n. n) result self.old self.new (number w32) }
+    {
+        let mut rest = &self.bytes[self.index..];
+        match rest.try_get_u32() {
+            Ok(number) => {
+                self.index += 4;
+                Ok(number)
+            }
+            Err(_) => Err(DecodeError::InsufficientBytes),
+        }
+    }
+
+    /// The next `count` bytes, which stay where they are.
+    pub(crate) fn read_slice(&mut self, count: usize) -> Result<&'a [u8], DecodeError>
+        ensures { Gives (λ s. s.now) result self.old self.new (octets count) }
+    {
+        let rest = &self.bytes[self.index..];
+        if rest.len() < count {
+            return Err(DecodeError::InsufficientBytes);
+        }
+        self.index += count;
+        Ok(&rest[..count])
+    }
+
+    #[tactic(auto, unfolding(crate::specs::NameReading::name))]
+    fn next_name(&mut self, alloc: Global) -> Result<Name, DecodeError>
+        ensures { Gives (λ n. n) result self.old self.new name }
+    {
+        let (name, next) = read_name_at(alloc, self.bytes, self.index)?;
+        self.index = next;
+        Ok(name)
+    }
+
+    /// The name at this place, with the case of its letters, fully qualified; it may be compressed (RFC 1035, section 4.1.4).
+    ///
+    /// Then the place is the one behind it. An error is the first fault there, or `Memory`; the place is then left open.
+    pub fn read_name(&mut self, alloc: Global) -> Result<Name, DecodeError>
+        ensures exact { Gives (λ n. n) result self.old self.new name }
+        ensures found { IfOk result (λ n. NameAt 0 self.old.bytes self.old.place n self.new.place × IsFullyQualified n) }
+        ensures only { (n : DomainName) (next : ℕ) → NameAt 0 self.old.bytes self.old.place n next → IsFullyQualified n → result ≢ Err Memory → (result ≡ Ok n) × (self.new.place ≡ next) }
+        ensures fault { IfErr result (λ e. e ≢ Memory → NameFault self.old.bytes self.old.place e) }
+    {
+        self.next_name(alloc)
+    }
+}

@@ -1,0 +1,70 @@
+//! The labels of a name that is being made.
+
+ghost use Rattle.std.specs.Prelude.{◌≡◌, ◌+◌, ◌<◌, [], ◌∷◌, ◌++◌, length, IfOk};
+ghost use Rattle.hickory_wire.specs.DomainName.{DomainName, wire_form, IsLabel};
+
+use crate::name::Name;
+use std::alloc::{AllocError, Global};
+use std::marker::Model;
+
+/// The most bytes that a name has in wire form, with its end byte (RFC 1035, section 2.3.4).
+pub(crate) const MAX_NAME_LEN: usize = 255;
+
+/// Labels in wire form, in an array on the stack.
+///
+/// It takes some 260 bytes: keep it a local variable.
+#[derive(Drop)]
+pub(crate) struct Labels {
+    bytes: [u8; MAX_NAME_LEN],
+    len: usize,
+}
+
+impl Model for Labels {
+    ghost use Rattle.std.specs.Prelude.{List, ℕ, take, ◌<◌};
+    ghost use Rattle.hickory_wire.specs.DomainName.{IsWire, cut};
+
+    ghost Value = { List (List ℕ) };
+
+    ghost view = { λ labels. cut (take labels.len labels.bytes) };
+
+    ghost invariant = { λ labels. (labels.len < 255) × IsWire (take labels.len labels.bytes) };
+}
+
+impl Labels {
+    /// No labels.
+    pub(crate) fn new() -> Labels
+        ensures { result ≡ [] }
+    {
+        Labels {
+            bytes: [0; MAX_NAME_LEN],
+            len: 0,
+        }
+    }
+
+    /// How many bytes they take in wire form, without the end byte.
+    pub(crate) fn wire_len(&self) -> usize
+        ensures size { result ≡ length (wire_form self.now) }
+        ensures small { result < 255 }
+    {
+        self.len
+    }
+
+    /// Puts a label behind the others.
+    pub(crate) fn push(&mut self, label: &[u8])
+        requires label { IsLabel label.now }
+        requires fits { length (wire_form self.old) + 1 + length label.now < 255 }
+        ensures { self.new ≡ self.old ++ label.now ∷ [] }
+    {
+        let start = self.len + 1;
+        self.bytes[self.len] = label.len() as u8;
+        self.bytes[start..start + label.len()].copy_from_slice(label);
+        self.len = start + label.len();
+    }
+
+    /// The name of these labels.
+    pub(crate) fn to_name(&self, alloc: Global, is_fqdn: bool) -> Result<Name, AllocError>
+        ensures { IfOk result (λ name. name ≡ record { labels = self.now; is_fqdn = is_fqdn }) }
+    {
+        Name::from_wire(alloc, &self.bytes[..self.len], is_fqdn)
+    }
+}

@@ -1,0 +1,50 @@
+//! DNS messages in bytes: names, records, EDNS, reading and writing.
+#![tactic(auto)]
+
+mod boxed;
+mod compare;
+mod decoder;
+mod dns_class;
+mod edns;
+mod error;
+mod header;
+mod items;
+mod labels;
+pub mod laws;
+mod lower_name;
+mod message;
+mod name;
+mod name_reader;
+mod name_text;
+mod octets;
+mod op_code;
+mod protocol;
+mod query;
+mod rdata;
+mod record;
+pub mod record_laws;
+mod record_sameness;
+mod record_type;
+mod response_code;
+mod tsig;
+
+pub use boxed::Boxed;
+pub use decoder::BinDecoder;
+pub use dns_class::DNSClass;
+pub use edns::{Edns, EdnsOption, NSIDPayload};
+pub use error::{DecodeError, NameError, ProtoError};
+pub use header::{Header, HeaderCounts, MessageType, Metadata};
+pub use items::Items;
+pub use lower_name::LowerName;
+pub use message::Message;
+pub use name::Name;
+pub use octets::Octets;
+pub use op_code::OpCode;
+pub use protocol::Protocol;
+pub use query::{LowerQuery, Query};
+pub use rdata::{MX, RData, SOA};
+pub use record::{Proof, Record};
+pub use record_sameness::record_comparisons;
+pub use record_type::RecordType;
+pub use response_code::ResponseCode;
+pub use tsig::{TSIG, TSigResponseContext, TSigResponseKind, TsigError};

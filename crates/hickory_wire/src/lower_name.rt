@@ -1,0 +1,111 @@
+//! Domain names in lower case.
+
+ghost use Rattle.std.specs.Prelude.{◌≡◌, IfOk};
+ghost use Rattle.std.specs.Ordering.{as_partial_cmp};
+ghost use Rattle.std.specs.Cmp.{eq_by_cmp_equiv, partial_equiv_from_equiv, partial_order_from_total};
+ghost use Rattle.std.specs.Cmp.Rules.{comparing};
+ghost use Rattle.std.proofs.Common.{rules};
+ghost use Rattle.hickory_wire.specs.DomainName.{DomainName};
+ghost use Rattle.hickory_wire.specs.NameOrder.{name_cmp, name_eq, name_cmp_total, lower_name, lower_labels};
+ghost use Rattle.hickory_wire.specs.NameHash.{name_hash_input, name_hash_alike};
+
+use crate::name::Name;
+use std::alloc::{AllocError, Global};
+use std::cmp::Ordering;
+use std::hash::{Hash, Hasher};
+use std::marker::Model;
+
+/// A domain name whose labels are in lower case, as a key of zones and records.
+///
+/// It is compared, ordered and hashed as the `Name` that it holds.
+#[derive(Drop)]
+pub struct LowerName {
+    name: Name,
+}
+
+impl Model for LowerName {
+    ghost use Rattle.std.specs.Prelude.{◌≡◌};
+    ghost use Rattle.hickory_wire.specs.DomainName.{DomainName};
+    ghost use Rattle.hickory_wire.specs.NameOrder.{lower_labels};
+
+    ghost Value = { DomainName };
+
+    ghost view = { λ lower. lower.name };
+
+    ghost invariant = { λ lower. lower_labels lower.name.labels ≡ lower.name.labels };
+}
+
+impl LowerName {
+    /// A copy of a name with its labels in lower case; it is fully qualified where the name is.
+    pub fn new(alloc: Global, name: &Name) -> Result<LowerName, AllocError>
+        ensures { IfOk result (λ lower. lower ≡ lower_name name.now) }
+    {
+        let name = name.to_lowercase(alloc)?;
+        Ok(LowerName { name })
+    }
+
+    /// The name that it holds. Its labels are in lower case.
+    pub fn as_name(&self) -> &Name
+        ensures name { result.now ≡ self.now }
+        ensures lower { lower_labels self.now.labels ≡ self.now.labels }
+    {
+        &self.name
+    }
+}
+
+impl Clone for LowerName {
+    ghost is_clone = { λ source copy. copy ≡ source };
+
+    fn clone(&self) -> Result<LowerName, AllocError> {
+        let name = self.name.clone()?;
+        Ok(LowerName { name })
+    }
+}
+
+impl PartialEq for LowerName {
+    ghost eq = { name_eq };
+
+    ghost laws = { partial_equiv_from_equiv (eq_by_cmp_equiv name_cmp_total) };
+
+    fn eq(&self, other: &LowerName) -> bool {
+        self.name == other.name
+    }
+}
+
+impl Eq for LowerName {
+    ghost laws = { eq_by_cmp_equiv name_cmp_total };
+}
+
+impl PartialOrd for LowerName {
+    ghost partial_cmp = { as_partial_cmp name_cmp };
+
+    ghost laws = { partial_order_from_total name_cmp_total };
+
+    fn partial_cmp(&self, other: &LowerName) -> Option<Ordering> {
+        Some(self.cmp(other))
+    }
+}
+
+impl Ord for LowerName {
+    ghost cmp = { name_cmp };
+
+    ghost total = { name_cmp_total };
+
+    ghost matches_partial_cmp = { Prim.search (comparing, rules) };
+
+    ghost matches_eq = { Prim.search (comparing, rules) };
+
+    fn cmp(&self, other: &LowerName) -> Ordering {
+        self.name.cmp(&other.name)
+    }
+}
+
+impl Hash for LowerName {
+    ghost hash_input = { name_hash_input };
+
+    ghost respects_eq = { name_hash_alike };
+
+    fn hash<H: Hasher>(&self, state: &mut H) {
+        self.name.hash(state);
+    }
+}

@@ -1,0 +1,242 @@
+//! Domain names.
+
+ghost use Rattle.std.specs.Prelude.{◌≡◌, ◌↔◌, [], length, map, IfOk, true, IsTrue};
+ghost use Rattle.std.specs.Char.{to_ascii_lowercase};
+ghost use Rattle.std.specs.Ordering.{eq_by_cmp, as_partial_cmp};
+ghost use Rattle.std.specs.Cmp.{eq_by_cmp_equiv, partial_equiv_from_equiv, partial_order_from_total};
+ghost use Rattle.std.specs.Cmp.Rules.{comparing};
+ghost use Rattle.std.proofs.Common.{rules};
+ghost use Rattle.hickory_wire.specs.DomainName.{DomainName, wire_form, IsWire, cut};
+ghost use Rattle.hickory_wire.specs.NameOrder.{name_cmp, name_eq, name_cmp_total, Encloses, is_wildcard, counted_labels, lower_name};
+ghost use Rattle.hickory_wire.specs.NameHash.{name_hash_input, name_hash_alike};
+
+use crate::compare::compare_from_last;
+use crate::labels::MAX_NAME_LEN;
+use std::alloc::{AllocError, Global};
+use std::cmp::Ordering;
+use std::hash::{Hash, Hasher};
+use std::marker::Model;
+
+/// A domain name: its labels, and whether it is fully qualified (RFC 1035, section 3.1).
+///
+/// Each label has 1 to 63 bytes, and the name at most 255 in wire form. The case of letters is kept. Two names are
+/// equal where both or neither are fully qualified and their labels are equal without regard to ASCII case
+/// (RFC 4343); `Ord` and `Hash` go by the same. Names are ordered by their labels in lower case, as bytes, from the
+/// last one on, a name that runs out first being less; then the one that isn't fully qualified is less.
+#[derive(Drop)]
+pub struct Name {
+    // The labels in wire form, without the end byte. The root has none, and so takes no memory.
+    wire: Option<Vec<u8>>,
+    is_fqdn: bool,
+}
+
+/// A copy of bytes with ASCII letters in lower case.
+fn lowered(alloc: Global, bytes: &[u8]) -> Result<Vec<u8>, AllocError>
+    ensures { IfOk result (λ copy. copy.items ≡ map to_ascii_lowercase bytes.now) }
+{
+    let mut copy = Vec::from_slice(alloc, bytes)?;
+    copy.make_ascii_lowercase();
+    Ok(copy)
+}
+
+impl Model for Name {
+    ghost use Rattle.hickory_wire.specs.DomainName.{DomainName, IsWire, cut, held};
+
+    ghost Value = { DomainName };
+
+    ghost view = { λ name. record { labels = cut (held (λ v. v.items) name.wire); is_fqdn = name.is_fqdn } };
+
+    ghost invariant = { λ name. IsWire (held (λ v. v.items) name.wire) };
+}
+
+impl Name {
+    /// The root: no labels, and fully qualified. It takes no memory.
+    pub fn root() -> Name
+        ensures { result ≡ record { labels = []; is_fqdn = true } }
+    {
+        Name {
+            wire: None,
+            is_fqdn: true,
+        }
+    }
+
+    /// The labels in wire form, without the end byte.
+    pub(crate) fn as_wire(&self) -> &[u8]
+        ensures labels { result.now ≡ wire_form self.now.labels }
+        ensures is_wire { IsWire result.now }
+    {
+        match &self.wire {
+            None => &[],
+            Some(bytes) => bytes.as_slice(),
+        }
+    }
+
+    /// The name of the labels in these bytes.
+    pub(crate) fn from_wire(alloc: Global, bytes: &[u8], is_fqdn: bool) -> Result<Name, AllocError>
+        requires { IsWire bytes.now }
+        ensures { IfOk result (λ name. name ≡ record { labels = cut bytes.now; is_fqdn = is_fqdn }) }
+    {
+        let wire = if bytes.is_empty() {
+            None
+        } else {
+            Some(Vec::from_slice(alloc, bytes)?)
+        };
+        Ok(Name { wire, is_fqdn })
+    }
+
+    /// Whether it is the root: no labels, and fully qualified.
+    pub fn is_root(&self) -> bool
+        ensures { IsTrue result ↔ (self.now ≡ record { labels = []; is_fqdn = true }) }
+    {
+        self.is_fqdn && self.as_wire().is_empty()
+    }
+
+    /// Whether it is fully qualified.
+    pub fn is_fqdn(&self) -> bool
+        ensures { result ≡ self.now.is_fqdn }
+    {
+        self.is_fqdn
+    }
+
+    /// Marks it as fully qualified, or as not.
+    pub fn set_fqdn(&mut self, is_fqdn: bool)
+        ensures { self.new ≡ record self.old { is_fqdn = is_fqdn } }
+    {
+        self.is_fqdn = is_fqdn;
+    }
+
+    fn label_count(&self) -> usize
+        ensures { result ≡ length self.now.labels }
+    {
+        let wire = self.as_wire();
+        let mut count = 0;
+        let mut place = 0;
+        while place < wire.len() {
+            place += 1 + usize::from(wire[place]);
+            count += 1;
+        }
+        count
+    }
+
+    /// Whether the first label is `*` (RFC 4592, section 2.1.1).
+    pub(crate) fn is_wildcard(&self) -> bool
+        ensures { result ≡ is_wildcard self.now.labels }
+    {
+        let wire = self.as_wire();
+        wire.len() > 1 && wire[0] == 1 && wire[1] == b'*'
+    }
+
+    /// How many labels it has, a first label `*` not counted.
+    pub fn num_labels(&self) -> usize
+        ensures { result ≡ counted_labels self.now.labels }
+    {
+        let count = self.label_count();
+        if count > 0 && self.is_wildcard() {
+            count - 1
+        } else {
+            count
+        }
+    }
+
+    /// Whether it equals or encloses the other: its labels are the last labels of the other, letter case aside.
+    /// Whether the two are fully qualified does not matter.
+    pub fn zone_of(&self, other: &Name) -> bool
+        ensures { IsTrue result ↔ Encloses self.now.labels other.now.labels }
+    {
+        let _ = &self.wire;
+        let _ = &other.wire;
+        let own = self.as_wire();
+        let all = other.as_wire();
+        let mut place = 0;
+        while own.len() < all.len() - place {
+            place += 1 + usize::from(all[place]);
+        }
+        own.eq_ignore_ascii_case(&all[place..])
+    }
+
+    /// A copy with its labels in lower case.
+    pub(crate) fn to_lowercase(&self, alloc: Global) -> Result<Name, AllocError>
+        ensures { IfOk result (λ name. name ≡ lower_name self.now) }
+    {
+        let wire = match &self.wire {
+            None => None,
+            Some(bytes) => Some(lowered(alloc, bytes)?),
+        };
+        Ok(Name {
+            wire,
+            is_fqdn: self.is_fqdn,
+        })
+    }
+}
+
+impl Clone for Name {
+    ghost is_clone = { λ source copy. copy ≡ source };
+
+    fn clone(&self) -> Result<Name, AllocError> {
+        let wire = match &self.wire {
+            None => None,
+            Some(bytes) => Some(bytes.clone()?),
+        };
+        Ok(Name {
+            wire,
+            is_fqdn: self.is_fqdn,
+        })
+    }
+}
+
+impl PartialEq for Name {
+    ghost eq = { name_eq };
+
+    ghost laws = { partial_equiv_from_equiv (eq_by_cmp_equiv name_cmp_total) };
+
+    fn eq(&self, other: &Name) -> bool {
+        let _ = &other.wire;
+        self.is_fqdn == other.is_fqdn && self.as_wire().eq_ignore_ascii_case(other.as_wire())
+    }
+}
+
+impl Eq for Name {
+    ghost laws = { eq_by_cmp_equiv name_cmp_total };
+}
+
+impl PartialOrd for Name {
+    ghost partial_cmp = { as_partial_cmp name_cmp };
+
+    ghost laws = { partial_order_from_total name_cmp_total };
+
+    fn partial_cmp(&self, other: &Name) -> Option<Ordering> {
+        Some(self.cmp(other))
+    }
+}
+
+impl Ord for Name {
+    ghost cmp = { name_cmp };
+
+    ghost total = { name_cmp_total };
+
+    ghost matches_partial_cmp = { Prim.search (comparing, rules) };
+
+    ghost matches_eq = { Prim.search (comparing, rules) };
+
+    fn cmp(&self, other: &Name) -> Ordering {
+        let _ = &other.wire;
+        let marks = self.is_fqdn.cmp(&other.is_fqdn);
+        compare_from_last(self.as_wire(), other.as_wire()).then(marks)
+    }
+}
+
+impl Hash for Name {
+    ghost hash_input = { name_hash_input };
+
+    ghost respects_eq = { name_hash_alike };
+
+    fn hash<H: Hasher>(&self, state: &mut H) {
+        let wire = self.as_wire();
+        let mut buffer = [0; MAX_NAME_LEN];
+        let lowered = &mut buffer[..wire.len()];
+        lowered.copy_from_slice(wire);
+        lowered.make_ascii_lowercase();
+        state.write(lowered);
+        self.is_fqdn.hash(state);
+    }
+}

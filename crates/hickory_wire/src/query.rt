@@ -1,0 +1,95 @@
+//! Questions.
+
+ghost use Rattle.std.specs.Prelude.{◌≡◌, IfOk};
+ghost use Rattle.hickory_wire.specs.NameOrder.{lower_name};
+
+use crate::dns_class::DNSClass;
+use crate::lower_name::LowerName;
+use crate::name::Name;
+use crate::record_type::RecordType;
+use std::alloc::{AllocError, Global};
+use std::marker::Model;
+
+/// A question: what is asked of a name (RFC 1035 section 4.1.2).
+///
+/// Equal are questions of one name in any letter case, one type and one class.
+#[derive(Drop, PartialEq, Eq)]
+pub struct Query {
+    /// The name asked about.
+    pub name: Name,
+    /// The type asked for.
+    pub query_type: RecordType,
+    /// The class asked for.
+    pub query_class: DNSClass,
+}
+
+impl Clone for Query {
+    ghost is_clone = { λ source copy. copy ≡ source };
+
+    fn clone(&self) -> Result<Query, AllocError> {
+        Ok(Query {
+            name: self.name.clone()?,
+            query_type: self.query_type,
+            query_class: self.query_class,
+        })
+    }
+}
+
+/// A question with its name in lower case beside the name as it was sent.
+///
+/// A contract sees the question as it was sent.
+#[derive(Drop)]
+pub struct LowerQuery {
+    original: Query,
+    name: LowerName,
+}
+
+impl Model for LowerQuery {
+    ghost use Rattle.std.specs.Prelude.{◌≡◌};
+    ghost use Rattle.hickory_wire.specs.NameOrder.{lower_name};
+    ghost use Rattle.hickory_wire.specs.declared.query.Query.{Query};
+
+    ghost Value = { Query };
+
+    ghost view = { λ q. q.original };
+
+    ghost invariant = { λ q. q.name ≡ lower_name q.original.name };
+}
+
+impl LowerQuery {
+    /// The question, whose name is lowered once for all.
+    pub fn new(alloc: Global, original: Query) -> Result<LowerQuery, AllocError>
+        ensures { IfOk result (λ q. q ≡ original) }
+    {
+        let name = LowerName::new(alloc, &original.name)?;
+        Ok(LowerQuery { original, name })
+    }
+
+    /// The question as it was sent.
+    pub fn original(&self) -> &Query
+        ensures { result.now ≡ self.now }
+    {
+        &self.original
+    }
+
+    /// The name in lower case.
+    pub fn name(&self) -> &LowerName
+        ensures { result.now ≡ lower_name self.now.name }
+    {
+        &self.name
+    }
+
+    /// The type asked for.
+    pub fn query_type(&self) -> RecordType
+        ensures { result ≡ self.now.query_type }
+    {
+        self.original.query_type
+    }
+
+    /// The class asked for.
+    pub fn query_class(&self) -> DNSClass
+        ensures { result ≡ self.now.query_class }
+    {
+        self.original.query_class
+    }
+}

@@ -1,0 +1,41 @@
+//! Resource records.
+
+ghost use Rattle.std.specs.Prelude.{◌≡◌};
+
+use crate::dns_class::DNSClass;
+use crate::name::Name;
+use crate::rdata::RData;
+
+/// What is known of a record's DNSSEC proof (RFC 4035 section 4.3).
+#[derive(Clone, Copy, Debug, PartialEq, Eq)]
+pub enum Proof {
+    /// A chain of trust leads to it.
+    Secure,
+    /// It lies below a delegation that is known to be unsigned.
+    Insecure,
+    /// Its proof should be there and is not, or is wrong.
+    Bogus,
+    /// Nothing is known. Records read from bytes have this.
+    Indeterminate,
+}
+
+/// A resource record (RFC 1035 section 4.1.3).
+///
+/// Equal are records of one owner name in any letter case, one class and equal data; the type is that of the data.
+/// TTL and proof are not compared, as in RFC 2136 section 1.1.
+#[derive(Drop)]
+#[derive_where(PartialEq, Eq; R)]
+pub struct Record<R = RData> {
+    /// The owner name.
+    pub name: Name,
+    /// The class.
+    pub dns_class: DNSClass,
+    /// How long it may be kept, in seconds.
+    #[derive_where(skip)]
+    pub ttl: u32,
+    /// The data, with their type.
+    pub rdata: R,
+    /// What is known of its proof.
+    #[derive_where(skip(EqHashOrd))]
+    pub proof: Proof,
+}

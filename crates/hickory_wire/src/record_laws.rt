@@ -1,0 +1,57 @@
+//! Laws of records and questions, each the contract of a function with nothing to do: how they stand in bytes is how they are read.
+
+ghost use Rattle.std.specs.Prelude.{◌≡◌, ◌≤◌, ◌⊎◌, ◌↔◌, ℕ, List, [], Ok};
+ghost use Rattle.hickory_wire.specs.Bytes.{AreBytes, KeepsFrom};
+ghost use Rattle.hickory_wire.specs.Cursor.{Cursor};
+ghost use Rattle.hickory_wire.specs.QuestionLayout.{QuestionAt, IsFormedQuestion};
+ghost use Rattle.hickory_wire.specs.RecordData.{OptionsOf};
+ghost use Rattle.hickory_wire.specs.RecordLayout.{FormAt, IsFormedRecord, RecordAt};
+ghost use Rattle.hickory_wire.specs.RecordReading.{options_of, question, resource};
+ghost use Rattle.hickory_wire.specs.declared.edns.EdnsOption.{EdnsOption};
+ghost use Rattle.hickory_wire.specs.declared.query.Query.{Query};
+ghost use Rattle.hickory_wire.specs.declared.rdata.RData.{RData};
+ghost use Rattle.hickory_wire.specs.declared.rdata.RData.TheVariants.{OPT};
+ghost use Rattle.hickory_wire.specs.declared.record.Record.{Record};
+
+/// A record and a question stay where they are when bytes are put behind them or bytes below their floor change.
+pub fn form_keeps()
+    ensures record { (old new : List ℕ) (floor lower place next : ℕ) (r : Record RData) → KeepsFrom floor old new → lower ≤ floor → FormAt floor old place r next → FormAt lower new place r next }
+    ensures question { (old new : List ℕ) (floor lower place next : ℕ) (q : Query) → KeepsFrom floor old new → lower ≤ floor → QuestionAt floor old place q next → QuestionAt lower new place q next }
+{}
+
+/// A record that stands in its form is the one that is read.
+pub fn form_is_read()
+    ensures { (bytes : List ℕ) (floor place next : ℕ) (r : Record RData) → IsFormedRecord r → FormAt floor bytes place r next → resource (record { bytes = bytes; place = place }) ≡ Ok (r, record { bytes = bytes; place = next }) }
+{}
+
+/// A record that is read is the one that stands there, and reading leaves the bytes.
+pub fn read_is_record_at()
+    ensures at { (c : Cursor) (r : Record RData) (next : ℕ) → AreBytes c.bytes → RecordAt c.bytes c.place r next ↔ (resource c ≡ Ok (r, record c { place = next })) }
+    ensures kept { (c next : Cursor) (r : Record RData) → AreBytes c.bytes → resource c ≡ Ok (r, next) → next.bytes ≡ c.bytes }
+{}
+
+/// A record that is read stands in its form, unless it is an OPT record whose octets are not made of options; and a record in its form
+/// is one that is read.
+pub fn record_at_has_form()
+    ensures form { (bytes : List ℕ) (place next : ℕ) (r : Record RData) → RecordAt bytes place r next → (FormAt 0 bytes place r next × IsFormedRecord r) ⊎ (r.rdata ≡ OPT []) }
+    ensures back { (bytes : List ℕ) (floor place next : ℕ) (r : Record RData) → IsFormedRecord r → FormAt floor bytes place r next → RecordAt bytes place r next }
+{}
+
+/// The options that are read of octets are those that the octets hold.
+pub fn options_are_held()
+    ensures { (octets : List ℕ) (options : List EdnsOption) → AreBytes octets → (options_of octets ≡ options) ↔ OptionsOf octets options }
+{}
+
+/// At a place there is one record and one question at most.
+pub fn one_record()
+    ensures read { (bytes : List ℕ) (place p q : ℕ) (r s : Record RData) → AreBytes bytes → RecordAt bytes place r p → RecordAt bytes place s q → (r ≡ s) × (p ≡ q) }
+    ensures formed { (bytes : List ℕ) (floor other place p q : ℕ) (r s : Record RData) → IsFormedRecord r → IsFormedRecord s → FormAt floor bytes place r p → FormAt other bytes place s q → (r ≡ s) × (p ≡ q) }
+    ensures question { (bytes : List ℕ) (floor other place p q : ℕ) (m n : Query) → IsFormedQuestion m → IsFormedQuestion n → QuestionAt floor bytes place m p → QuestionAt other bytes place n q → (m ≡ n) × (p ≡ q) }
+{}
+
+/// A question that is read is the one that stands there, and reading leaves the bytes.
+pub fn read_is_question_at()
+    ensures stands { (bytes : List ℕ) (floor place next : ℕ) (q : Query) → IsFormedQuestion q → QuestionAt floor bytes place q next → question (record { bytes = bytes; place = place }) ≡ Ok (q, record { bytes = bytes; place = next }) }
+    ensures at { (c : Cursor) (q : Query) (next : ℕ) → AreBytes c.bytes → (QuestionAt 0 c.bytes c.place q next × IsFormedQuestion q) ↔ (question c ≡ Ok (q, record c { place = next })) }
+    ensures kept { (c next : Cursor) (q : Query) → AreBytes c.bytes → question c ≡ Ok (q, next) → next.bytes ≡ c.bytes }
+{}
