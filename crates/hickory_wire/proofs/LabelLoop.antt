@@ -1,9 +1,11 @@
 -- Labels that were read before, and those that are still read.
-use Rattle.std.proofs.Common.{◌≡◌, ℕ, ◌+◌, ◌<◌, ◌≤◌, List, [], ◌∷◌, ◌++◌, length, Option, Some, None, Ok, Err, refl, sym, ap, ◌∙◌, append_assoc, arith}
+use Rattle.std.proofs.Common.{◌≡◌, ℕ, ◌+◌, ◌<◌, ◌≤◌, List, [], ◌∷◌, ◌++◌, length, Option, Some, None, Result, Ok, Err, refl, sym, ap, ◌∙◌, append_assoc, arith}
 use Rattle.std.specs.Prelude.{unwrap_or, slice_get, IfSome}
 use Rattle.std.proofs.lemmas.List.{append-nil}
 use Rattle.hickory_wire.specs.declared.error.DecodeError.{DecodeError}
-use Rattle.hickory_wire.specs.Reading.{◌>>=◌}
+use Rattle.hickory_wire.specs.Reading.{◌>>=◌, Fails}
+use Rattle.std.specs.Prelude.{MatchResult}
+use Rattle.std.specs.Result.{IsErrAnd}
 use Rattle.hickory_wire.specs.NameReading.{LabelsRead, target, label_at, labels_from}
 use Rattle.hickory_wire.specs.NameLayout.{LabelsFault}
 use Rattle.hickory_wire.specs.NameLayout.LabelsAt.{at_end}
@@ -53,3 +55,8 @@ pointer_here bytes front after start place size high low total so_far s h far so
 pub within_either : (after : Option ℕ) (place limit : ℕ) → IfSome after (λ a. a ≤ limit) → place ≤ limit → unwrap_or after place ≤ limit
 within_either None place limit h le = le
 within_either (Some a) place limit h le = h
+
+-- an error that is passed on is the fault of the whole
+pub fails_with : {X : Type 0} (r : Result X DecodeError) (d : DecodeError) (P : X → Type 0) (total : LabelsRead) → IsErrAnd r (λ e. e ≡ d) → total ≡ Err d → MatchResult r P (λ e. Fails e total)
+fails_with (Ok x) d P total h k = absurd h
+fails_with (Err e) d P total h k = λ _. k ∙ ap (λ (x : DecodeError). let y : LabelsRead = Err x in y) (sym h)

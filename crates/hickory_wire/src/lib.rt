@@ -10,10 +10,11 @@ mod error;
 mod header;
 mod items;
 mod labels;
-pub mod laws;
 mod lower_name;
 mod message;
+pub mod message_laws;
 mod name;
+pub mod name_laws;
 mod name_reader;
 mod name_text;
 mod octets;
@@ -48,3 +49,8 @@ pub use record_sameness::record_comparisons;
 pub use record_type::RecordType;
 pub use response_code::ResponseCode;
 pub use tsig::{TSIG, TSigResponseContext, TSigResponseKind, TsigError};
+
+#[cfg(test)]
+mod name_tests;
+#[cfg(test)]
+mod value_tests;

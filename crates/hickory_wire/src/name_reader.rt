@@ -1,7 +1,8 @@
 //! Reading a name from the bytes of a message.
 
-ghost use Rattle.std.specs.Prelude.{◌≡◌, ◌≢◌, ◌≤◌, length, map, MatchResult, IfOk, IfSome, slice_get, ◌<◌, true};
-ghost use Rattle.hickory_wire.specs.NameReading.{labels_from};
+ghost use Rattle.std.specs.Prelude.{◌≡◌, ◌≢◌, ◌≤◌, length, map, MatchResult, IfOk, IfSome, slice_get, ◌<◌, ◌+◌, true, Some, ℕ};
+ghost use Rattle.hickory_wire.specs.NameReading.{labels_from, target};
+ghost use Rattle.hickory_wire.specs.NameLayout.{LabelsFault};
 ghost use Rattle.hickory_wire.specs.DomainName.{AreLabels};
 ghost use Rattle.hickory_wire.specs.Reading.{Fails};
 
@@ -21,6 +22,48 @@ fn byte_at(bytes: &[u8], place: usize) -> Option<u8>
     ensures in_range { IfSome result (λ _. place < length bytes.now) }
 {
     bytes.get(place).copied()
+}
+
+/// The place behind the label of `count` bytes whose length byte stands at `place`, in a name of `size` bytes so far.
+fn label_end(bytes: &[u8], place: usize, size: usize, count: usize) -> Result<usize, DecodeError>
+    requires count { slice_get bytes.now place ≡ Some count }
+    requires label { (0 < count) × (count < 64) }
+    requires size { size ≤ 255 }
+    ensures { MatchResult result
+        (λ end. (end ≡ place + 1 + count) × (end ≤ length bytes.now) × (size + 1 + count ≤ 255))
+        (λ e. (start : ℕ) → LabelsFault bytes.now start place size e) }
+{
+    let end = place + 1 + count;
+    if bytes.len() < end {
+        return Err(DecodeError::InsufficientBytes);
+    }
+    if size + 1 + count > MAX_NAME_LEN {
+        return Err(DecodeError::NameTooLong);
+    }
+    Ok(end)
+}
+
+/// Where the pointer whose first byte `high` stands at `place` leads: before `start`, where its run of labels began.
+fn pointer_target(
+    bytes: &[u8],
+    start: usize,
+    place: usize,
+    high: usize,
+) -> Result<usize, DecodeError>
+    requires high { slice_get bytes.now place ≡ Some high }
+    requires pointer { (192 ≤ high) × (high < 256) }
+    ensures { MatchResult result
+        (λ goal. (goal < start) × (place + 2 ≤ length bytes.now) × ((low : ℕ) × (slice_get bytes.now (place + 1) ≡ Some low) × (goal ≡ target high low)))
+        (λ e. (size : ℕ) → LabelsFault bytes.now start place size e) }
+{
+    let Some(low) = byte_at(bytes, place + 1) else {
+        return Err(DecodeError::InsufficientBytes);
+    };
+    let target = (high - POINTER_BITS) * 256 + usize::from(low);
+    if target >= start {
+        return Err(DecodeError::PointerNotPriorToLabel);
+    }
+    Ok(target)
 }
 
 /// The name at a place, fully qualified, and the place behind it.
@@ -50,26 +93,14 @@ pub(crate) fn read_name_at(
             return Ok((name, after.unwrap_or(place + 1)));
         }
         if high < LABEL_LIMIT {
-            let next = place + 1 + high;
-            if bytes.len() < next {
-                return Err(DecodeError::InsufficientBytes);
-            }
-            if size + 1 + high > MAX_NAME_LEN {
-                return Err(DecodeError::NameTooLong);
-            }
-            labels.push(&bytes[place + 1..next]);
+            let end = label_end(bytes, place, size, high)?;
+            labels.push(&bytes[place + 1..end]);
             size += 1 + high;
-            place = next;
+            place = end;
         } else if high < POINTER_BITS {
             return Err(DecodeError::UnrecognizedLabelCode);
         } else {
-            let Some(low) = byte_at(bytes, place + 1) else {
-                return Err(DecodeError::InsufficientBytes);
-            };
-            let target = (high - POINTER_BITS) * 256 + usize::from(low);
-            if target >= start {
-                return Err(DecodeError::PointerNotPriorToLabel);
-            }
+            let target = pointer_target(bytes, start, place, high)?;
             after = Some(after.unwrap_or(place + 2));
             start = target;
             place = target;

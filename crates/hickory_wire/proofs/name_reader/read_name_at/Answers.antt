@@ -1,8 +1,8 @@
-use Rattle.std.proofs.Common.{arith, ◌≡◌, ◌∙◌, sym, ap, add_assoc, ◌++◌, ◌∷◌, [], take, drop, ◌+◌, length, Some, List, ℕ}
+use Rattle.std.proofs.Common.{arith, ◌≡◌, ◌∙◌, sym, ap, add_assoc, ◌++◌, ◌∷◌, [], take, drop, ◌+◌, ◌<◌, length, Some, List, ℕ}
 use Rattle.std.specs.Prelude.{slice_get}
-use Rattle.hickory_wire.specs.NameReading.{label_at}
-use Rattle.hickory_wire.proofs.LabelSteps.{no_byte, unknown, label_short, name_long, pointer_short, leads_on}
-use Rattle.hickory_wire.proofs.LabelLoop.{fails_here, ends_here, label_here, pointer_here, within_either}
+use Rattle.hickory_wire.specs.NameReading.{target, label_at}
+use Rattle.hickory_wire.proofs.LabelSteps.{no_byte, unknown}
+use Rattle.hickory_wire.proofs.LabelLoop.{fails_here, fails_with, ends_here, label_here, pointer_here, within_either}
 use Rattle.hickory_wire.proofs.WireForm.{wire-push}
 use Rattle.hickory_wire.specs.DomainName.{wire_form, DomainName}
 use Rattle.std.proofs.lemmas.List.{length-take, length-drop}
@@ -21,31 +21,6 @@ returns-then-high-eq0-clause-gives c =
     let e : c.in_ok-name.name.labels ≡ l.labels = ap (λ (d : DomainName). d.labels) c.in_ok-name.ensures in
     rw (c.unwrap_or.ensures, e) (ends_here _ _ l.after l.start l.place l.size _ l.invariant.so_far l.invariant.size h)
 
-pub returns-then-bytes-next-clause-gives : goal.returns-then-bytes-next-clause-gives
-returns-then-bytes-next-clause-gives c = λ _.
-    let l = c.labels in
-    let n = c.from-high.result in
-    let h : slice_get c.args.bytes.now l.place ≡ Some n = cc in
-    fails_here _ _ l.after l.start l.place l.size _ _ l.invariant.so_far l.invariant.size (label_short l.start l.place l.size n h (omega arith) (omega arith) (omega arith))
-
-pub returns-then-size-high-gt-MAX_NAME_LEN-clause-gives : goal.returns-then-size-high-gt-MAX_NAME_LEN-clause-gives
-returns-then-size-high-gt-MAX_NAME_LEN-clause-gives c = λ _.
-    let l = c.labels in
-    let n = c.from-high.result in
-    let h : slice_get c.args.bytes.now l.place ≡ Some n = cc in
-    fails_here _ _ l.after l.start l.place l.size _ _ l.invariant.so_far l.invariant.size (name_long l.start l.place l.size n h (omega arith) (omega arith) (omega arith) (omega arith))
-
-pub labels-preserved-then-high-lt-LABEL_LIMIT : goal.labels-preserved-then-high-lt-LABEL_LIMIT
-labels-preserved-then-high-lt-LABEL_LIMIT c =
-    let l = c.labels in
-    let n = c.from-high.result in
-    let h : slice_get c.args.bytes.now l.place ≡ Some n = cc in
-    let e : c.push.new.self ≡ l.labels ++ label_at c.args.bytes.now l.place n ∷ [] = c.push.ensures ∙ ap (λ (k : ℕ). l.labels ++ take k (drop (l.place + 1) c.args.bytes.now) ∷ []) (omega arith) in
-    let next = label_here _ _ l.after l.start l.place l.size n _ l.invariant.so_far h (omega arith) (omega arith) (omega arith) (omega arith) in
-    let len : length (label_at c.args.bytes.now l.place n) ≡ n = omega (arith, length-take n (drop (l.place + 1) c.args.bytes.now), length-drop (l.place + 1) c.args.bytes.now) in
-    let grown : length (wire_form c.push.new.self) ≡ length (wire_form l.labels) + (1 + n) = omega (arith, ap (λ (ls : List (List ℕ)). length (wire_form ls)) e, ap length (wire-push l.labels (label_at c.args.bytes.now l.place n)), length-append (wire_form l.labels) (length (label_at c.args.bytes.now l.place n) ∷ label_at c.args.bytes.now l.place n), len) in
-    record { so_far = rw (e, ← add_assoc l.size 1 n) next; size = omega arith; written = omega (arith, l.invariant.written, grown); after = l.invariant.after }
-
 pub returns-then-high-lt-POINTER_BITS-clause-gives : goal.returns-then-high-lt-POINTER_BITS-clause-gives
 returns-then-high-lt-POINTER_BITS-clause-gives c = λ _.
     let l = c.labels in
@@ -53,26 +28,43 @@ returns-then-high-lt-POINTER_BITS-clause-gives c = λ _.
     let h : slice_get c.args.bytes.now l.place ≡ Some n = cc in
     fails_here _ _ l.after l.start l.place l.size _ _ l.invariant.so_far l.invariant.size (unknown l.start l.place l.size n h (omega arith) (omega arith))
 
-pub returns-in_default-byte_at-clause-gives : goal.returns-in_default-byte_at-clause-gives
-returns-in_default-byte_at-clause-gives c = λ _.
+pub labels-preserved-then-high-lt-LABEL_LIMIT : goal.labels-preserved-then-high-lt-LABEL_LIMIT
+labels-preserved-then-high-lt-LABEL_LIMIT c =
     let l = c.labels in
     let n = c.from-high.result in
-    let h : slice_get c.args.bytes.now l.place ≡ Some n = cc in
-    fails_here _ _ l.after l.start l.place l.size _ _ l.invariant.so_far l.invariant.size (pointer_short l.start l.place l.size n h (omega arith) (sym c.in_default-byte_at.ensures.value))
-
-pub returns-then-target-start-clause-gives : goal.returns-then-target-start-clause-gives
-returns-then-target-start-clause-gives c = λ _.
-    let l = c.labels in
-    let n = c.from-high.result in
-    let h : slice_get c.args.bytes.now l.place ≡ Some n = cc in
-    let k : slice_get c.args.bytes.now (l.place + 1) ≡ Some c.from.result = cc in
-    fails_here _ _ l.after l.start l.place l.size _ _ l.invariant.so_far l.invariant.size (leads_on l.start l.place l.size n c.from.result h (omega arith) k (omega arith))
+    let bytes : List ℕ = c.args.bytes.now in
+    let h : slice_get bytes l.place ≡ Some n = cc in
+    let end = c.in_ok-end.ensures in
+    let e : c.push.new.self ≡ l.labels ++ label_at bytes l.place n ∷ [] = c.push.ensures ∙ ap (λ (k : ℕ). l.labels ++ take k (drop (l.place + 1) bytes) ∷ []) (omega (arith, end.0)) in
+    let next = label_here _ _ l.after l.start l.place l.size n _ l.invariant.so_far h (omega arith) (omega arith) (omega (arith, end.0, end.1)) (omega (arith, end.2)) in
+    let len : length (label_at bytes l.place n) ≡ n = omega (arith, end.0, end.1, length-take n (drop (l.place + 1) bytes), length-drop (l.place + 1) bytes) in
+    let grown : length (wire_form c.push.new.self) ≡ length (wire_form l.labels) + (1 + n) =
+    omega (arith, ap (λ (ls : List (List ℕ)). length (wire_form ls)) e, ap length (wire-push l.labels (label_at bytes l.place n)), length-append (wire_form l.labels) (length (label_at bytes l.place n) ∷ label_at bytes l.place n), len) in
+    record { so_far = rw (e, end.0, ← add_assoc l.size 1 n) next; size = omega (arith, end.2); written = omega (arith, l.invariant.written, grown); after = l.invariant.after }
 
 pub labels-preserved : goal.labels-preserved
 labels-preserved c =
     let l = c.labels in
     let n = c.from-high.result in
     let h : slice_get c.args.bytes.now l.place ≡ Some n = cc in
-    let k : slice_get c.args.bytes.now (l.place + 1) ≡ Some c.from.result = cc in
-    let e = pointer_here _ _ l.after l.start l.place l.size n c.from.result _ l.invariant.so_far l.invariant.size h (omega arith) k (omega arith) in
-    record { so_far = rw c.unwrap_or-else-high-lt-POINTER_BITS.ensures e; size = l.invariant.size; written = l.invariant.written; after = rw c.unwrap_or-else-high-lt-POINTER_BITS.ensures (within_either l.after (l.place + 2) _ l.invariant.after (omega (arith, c.in-Some-byte_at.ensures.in_range))) }
+    let t = c.in_ok-target.ensures in
+    let lt : target n t.2.0 < l.start = omega (arith, t.0, t.2.2) in
+    let e = pointer_here _ _ l.after l.start l.place l.size n t.2.0 _ l.invariant.so_far l.invariant.size h (omega arith) t.2.1 lt in
+    record {
+      so_far = rw (c.unwrap_or-else-high-lt-POINTER_BITS.ensures, t.2.2) e;
+      size = l.invariant.size;
+      written = l.invariant.written;
+      after = rw c.unwrap_or-else-high-lt-POINTER_BITS.ensures (within_either l.after (l.place + 2) _ l.invariant.after (omega (arith, t.1)));
+    }
+
+pub returns-in_err-end-clause-gives : goal.returns-in_err-end-clause-gives
+returns-in_err-end-clause-gives c =
+    let l = c.labels in
+    let total = fails_here _ _ l.after l.start l.place l.size _ _ l.invariant.so_far l.invariant.size (c.in_err-end.ensures l.start) in
+    fails_with _ _ _ _ c.from_residual-in_err-end.ensures.1 total
+
+pub returns-in_err-target-clause-gives : goal.returns-in_err-target-clause-gives
+returns-in_err-target-clause-gives c =
+    let l = c.labels in
+    let total = fails_here _ _ l.after l.start l.place l.size _ _ l.invariant.so_far l.invariant.size (c.in_err-target.ensures l.size) in
+    fails_with _ _ _ _ c.from_residual-in_err-target.ensures.1 total

@@ -1,0 +1,9 @@
+use Rattle.hickory_wire.proofs.ByteTexts.{here}
+use Rattle.hickory_wire.proofs.WholeMessage.{message_found, message_here}
+use Rattle.hickory_wire.proofs.message_laws.message_readings.Goals as goal
+
+pub returns-clause-reads : goal.returns-clause-reads
+returns-clause-reads c = λ bytes m a. (λ r. message_found bytes a m r.stop r.reads, λ at. record { stop = here bytes at.stop; reads = message_here bytes a m at })
+
+pub returns-clause-stops : goal.returns-clause-stops
+returns-clause-stops c = λ bytes m a at. message_here bytes a m at

@@ -1,0 +1,20 @@
+use Rattle.std.proofs.Common.{sym, ap, ◌∙◌}
+use Rattle.hickory_wire.specs.Cursor.{Cursor}
+use Rattle.hickory_wire.specs.declared.message.Message.{Message}
+use Rattle.hickory_wire.proofs.ByteTexts.{here}
+use Rattle.hickory_wire.proofs.StringSteps.{ok_is}
+use Rattle.hickory_wire.proofs.WholeMessage.{message_here}
+use Rattle.hickory_wire.proofs.message_laws.one_message.Goals as goal
+
+pub returns-clause-same : goal.returns-clause-same
+returns-clause-same c = λ bytes m n r s. ap (λ (z : Message × Cursor). z.0) (ok_is (m, r.stop) (n, s.stop) (sym r.reads ∙ s.reads))
+
+pub returns-clause-stands : goal.returns-clause-stands
+returns-clause-stands c = λ bytes m n a x y.
+    ap (λ (z : Message × Cursor). z.0) (ok_is (m, here bytes x.stop) (n, here bytes y.stop) (sym (message_here bytes a m x) ∙ message_here bytes a n y))
+
+pub returns-clause-no_fault : goal.returns-clause-no_fault
+returns-clause-no_fault c = λ bytes m e r f. cc
+
+pub returns-clause-one_fault : goal.returns-clause-one_fault
+returns-clause-one_fault c = λ bytes d e r f. cc

@@ -1,0 +1,11 @@
+use Rattle.std.proofs.Common.{◌++◌}
+use Rattle.hickory_wire.proofs.ByteTexts.{here}
+use Rattle.hickory_wire.proofs.MessageTail.{message_keeps, both_bytes}
+use Rattle.hickory_wire.proofs.Stable.{KeepsFrom-append}
+use Rattle.hickory_wire.proofs.WholeMessage.{message_found, message_here}
+use Rattle.hickory_wire.proofs.message_laws.reads_ignores_tail.Goals as goal
+
+pub returns : goal.returns
+returns c = λ bytes more m a b r.
+    let at = message_keeps (KeepsFrom-append 0 bytes more) m (message_found bytes a m r.stop r.reads) in
+    record { stop = here (bytes ++ more) at.stop; reads = message_here (bytes ++ more) (both_bytes bytes more a b) m at }
