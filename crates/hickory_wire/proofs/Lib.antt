@@ -12,6 +12,8 @@ pub mod LabelBounds
 pub mod LabelLoop
 pub mod LabelOrder
 pub mod LabelSteps
+pub mod LiteralReplies
+pub mod Literals
 pub mod MessageTail
 pub mod NameLaws
 pub mod NameSpelling

@@ -17,12 +17,12 @@ use Rattle.hickory_wire.specs.declared.record.Proof.TheVariants.{Indeterminate}
 use Rattle.hickory_wire.specs.declared.record.Record.{Record}
 
 -- the record as it is read: nothing is known of its proof
-abbrev pub unproved : {R : Type 0} → Record R → Record R
-unproved r = record r { proof = Indeterminate }
+abbrev pub without_proof : {R : Type 0} → Record R → Record R
+without_proof r = record r { proof = Indeterminate }
 
 -- a record of a section that reads back as itself, but for its proof
 pub record IsReadable (r : Record RData) : Type 0 where
-  pub formed : IsFormedRecord (unproved r)
+  pub formed : IsFormedRecord (without_proof r)
   pub section : IsSectionRecord r
 
 -- fields that fit the OPT record
@@ -51,7 +51,7 @@ pub record IsDecodable (reply : Reply) (queries : List Query) : Type 0 where
   pub soa : AllByRecursion IsReadable reply.soa
   pub additionals : AllByRecursion IsReadable reply.additionals
   pub edns : IfSome reply.edns IsFormedEdns
-  pub signature : IfSome reply.signature (λ signature. IsFormedRecord (tsig_record (unproved signature)))
+  pub signature : IfSome reply.signature (λ signature. IsFormedRecord (tsig_record (without_proof signature)))
 
 -- what an option holds, where so much of its list was written
 abbrev pub front_of_option : {A : Type 0} → ℕ → Option A → Option A
@@ -65,9 +65,9 @@ decoded_message reply queries f = record {
       (record reply.metadata { truncation = reply.metadata.truncation || is_any_cut f; response_code = reply.metadata.response_code % 16 })
       (high_code (front_of_option f.opt.count reply.edns));
   queries = queries;
-  answers = map unproved (take f.answers.count reply.answers);
-  authorities = map unproved (take f.authorities.count (reply.authorities ++ reply.soa));
-  additionals = map unproved (take f.additionals.count reply.additionals);
+  answers = map without_proof (take f.answers.count reply.answers);
+  authorities = map without_proof (take f.authorities.count (reply.authorities ++ reply.soa));
+  additionals = map without_proof (take f.additionals.count reply.additionals);
   edns = front_of_option f.opt.count reply.edns;
-  signature = option_map unproved (front_of_option f.signature.count reply.signature);
+  signature = option_map without_proof (front_of_option f.signature.count reply.signature);
 }

@@ -22,4 +22,6 @@ pub mod RecordSameness
 pub mod RecordSize
 pub mod Reply
 pub mod SectionReading
+pub mod Worked
+pub mod WorkedReplies
 pub mod Writing

@@ -5,8 +5,8 @@ use Rattle.hickory_wire.specs.declared.header.MessageType.TheVariants.{Response}
 use Rattle.hickory_wire.specs.declared.header.Metadata.{Metadata}
 
 -- no flag is set, and there is no error
-abbrev pub request_metadata : ℕ → MessageType → ℕ → Metadata
-request_metadata id message_type op_code = record {
+abbrev pub bare_metadata : ℕ → MessageType → ℕ → Metadata
+bare_metadata id message_type op_code = record {
   id = id;
   message_type = message_type;
   op_code = op_code;
@@ -21,4 +21,4 @@ request_metadata id message_type op_code = record {
 
 -- a reply has the request's id, kind, RD and CD
 abbrev pub response_to : Metadata → Metadata
-response_to request = record (request_metadata request.id Response request.op_code) { recursion_desired = request.recursion_desired; checking_disabled = request.checking_disabled }
+response_to request = record (bare_metadata request.id Response request.op_code) { recursion_desired = request.recursion_desired; checking_disabled = request.checking_disabled }

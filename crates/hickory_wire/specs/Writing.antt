@@ -2,7 +2,7 @@
 -- Records are left out one by one, and TC tells of any that were: also of additionals, which RFC 2181 section 9 would let go silently.
 use Rattle.std.specs.Prelude.{◌≡◌, ℕ, ◌+◌, ◌<◌, ◌≤◌, List, [], ◌∷◌, ◌++◌, length, take, drop, replicate, Bool, true, false, ◌||◌, Option, Some, None}
 use Rattle.hickory_wire.specs.HeaderLayout.{header_octets}
-use Rattle.hickory_wire.specs.Metadata.{request_metadata}
+use Rattle.hickory_wire.specs.Metadata.{bare_metadata}
 use Rattle.hickory_wire.specs.RecordLayout.{FormAt}
 use Rattle.hickory_wire.specs.RecordSize.{full_size, form_fault}
 use Rattle.hickory_wire.specs.Reply.{Reply, reply_lists}
@@ -121,7 +121,7 @@ pub record GetsStuck (limit : ℕ) (reply : Reply) (e : ProtoError) : Type 0 whe
 
 -- the header of the shortest reply there is: ServFail and nothing else
 abbrev pub fallback_header : ℕ → Header
-fallback_header id = record { metadata = record (request_metadata id Response 0) { response_code = 2 }; counts = record { queries = 0; answers = 0; authorities = 0; additionals = 0 } }
+fallback_header id = record { metadata = record (bare_metadata id Response 0) { response_code = 2 }; counts = record { queries = 0; answers = 0; authorities = 0; additionals = 0 } }
 
 -- A reply encoded within a limit, and its header, with the whole response code: the reply written; or, where header and questions pass the
 -- limit or a record without a form is met, twelve bytes that say ServFail.

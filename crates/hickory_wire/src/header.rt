@@ -1,7 +1,7 @@
 //! The header of a message.
 
 ghost use Rattle.std.specs.Prelude.{◌≡◌, false};
-ghost use Rattle.hickory_wire.specs.Metadata.{response_to, request_metadata};
+ghost use Rattle.hickory_wire.specs.Metadata.{response_to, bare_metadata};
 
 use crate::op_code::OpCode;
 use crate::response_code::ResponseCode;
@@ -43,7 +43,7 @@ pub struct Metadata {
 impl Metadata {
     /// No flag is set, and the code is NoError.
     pub fn new(id: u16, message_type: MessageType, op_code: OpCode) -> Metadata
-        ensures { result ≡ request_metadata id message_type op_code }
+        ensures { result ≡ bare_metadata id message_type op_code }
     {
         Metadata {
             id,

@@ -28,6 +28,7 @@ mod record_sameness;
 mod record_type;
 mod response_code;
 mod tsig;
+pub mod worked;
 
 pub use boxed::Boxed;
 pub use decoder::BinDecoder;

@@ -6,7 +6,7 @@ ghost use Rattle.hickory_wire.specs.Bytes.{AreBytes, BytesAt};
 ghost use Rattle.hickory_wire.specs.HeaderLayout.{AreCounts, HeaderAt, first_flags, header_octets, metadata_of, second_flags};
 ghost use Rattle.hickory_wire.specs.MessageLayout.{AdditionalSection, IsSectionRecord, ItemsAt, MessageAt, QuestionRead};
 ghost use Rattle.hickory_wire.specs.MessageReading.{Fault, Reads, front_of, message};
-ghost use Rattle.hickory_wire.specs.Metadata.{request_metadata};
+ghost use Rattle.hickory_wire.specs.Metadata.{bare_metadata};
 ghost use Rattle.hickory_wire.specs.RecordLayout.{RecordAt};
 ghost use Rattle.hickory_wire.specs.RecordReading.{question};
 ghost use Rattle.hickory_wire.specs.SectionReading.{Additionals, additionals_after, header, items, no_additionals, section_record};
@@ -67,36 +67,4 @@ pub fn one_message()
 /// Bytes that are put behind a message are not read: the message stays the same.
 pub fn reads_ignores_tail()
     ensures { (bytes more : List ℕ) (m : Message) → AreBytes bytes → AreBytes more → Reads bytes m → Reads (bytes ++ more) m }
-{}
-
-/// Flags worked out by hand (RFC 1035 section 4.1.1): QR, AA and RD; QR, RD and code 5; QR, opcode 5 and code 5; QR and AA; QR, TC and code 5.
-pub fn worked_flags()
-    ensures authoritative { metadata_of 7 0x85 0x00 ≡ record (request_metadata 7 message_type.Response 0) { authoritative = true; recursion_desired = true } }
-    ensures refused { metadata_of 7 0x81 0x05 ≡ record (request_metadata 7 message_type.Response 0) { recursion_desired = true; response_code = 5 } }
-    ensures update_refused { metadata_of 7 0xa8 0x05 ≡ record (request_metadata 7 message_type.Response 5) { response_code = 5 } }
-    ensures answer { metadata_of 7 0x84 0x00 ≡ record (request_metadata 7 message_type.Response 0) { authoritative = true } }
-    ensures truncated { metadata_of 7 0x82 0x05 ≡ record (request_metadata 7 message_type.Response 0) { truncation = true; response_code = 5 } }
-{}
-
-/// Messages worked out by hand, and how they are read: a status request and a response of nothing else; a question for the addresses of
-/// www.example.com.; an OPT of version 1 with payload 1232; a response whose code 16 stands in header and OPT, with DO; a TSIG. And their
-/// first faults: two OPTs, an OPT that is not at the root, an OPT among the answers, a record behind a TSIG, and no bytes.
-pub fn worked_messages()
-    ensures status { Reads (0x00 ∷ 0x04 ∷ 0x10 ∷ 0x00 ∷ 0x00 ∷ 0x00 ∷ 0x00 ∷ 0x00 ∷ 0x00 ∷ 0x00 ∷ 0x00 ∷ 0x00 ∷ [])
-        (record { metadata = request_metadata 4 message_type.Query 2; queries = []; answers = []; authorities = []; additionals = []; edns = None; signature = None }) }
-    ensures response { Reads (0x00 ∷ 0x03 ∷ 0x80 ∷ 0x00 ∷ 0x00 ∷ 0x00 ∷ 0x00 ∷ 0x00 ∷ 0x00 ∷ 0x00 ∷ 0x00 ∷ 0x00 ∷ [])
-        (record { metadata = request_metadata 3 message_type.Response 0; queries = []; answers = []; authorities = []; additionals = []; edns = None; signature = None }) }
-    ensures question { Reads (0x12 ∷ 0x34 ∷ 0x01 ∷ 0x00 ∷ 0x00 ∷ 0x01 ∷ 0x00 ∷ 0x00 ∷ 0x00 ∷ 0x00 ∷ 0x00 ∷ 0x00 ∷ 0x03 ∷ 0x77 ∷ 0x77 ∷ 0x77 ∷ 0x07 ∷ 0x65 ∷ 0x78 ∷ 0x61 ∷ 0x6d ∷ 0x70 ∷ 0x6c ∷ 0x65 ∷ 0x03 ∷ 0x63 ∷ 0x6f ∷ 0x6d ∷ 0x00 ∷ 0x00 ∷ 0x01 ∷ 0x00 ∷ 0x01 ∷ [])
-        (record { metadata = record (request_metadata 0x1234 message_type.Query 0) { recursion_desired = true }; queries = record { name = record { labels = (0x77 ∷ 0x77 ∷ 0x77 ∷ []) ∷ (0x65 ∷ 0x78 ∷ 0x61 ∷ 0x6d ∷ 0x70 ∷ 0x6c ∷ 0x65 ∷ []) ∷ (0x63 ∷ 0x6f ∷ 0x6d ∷ []) ∷ []; is_fqdn = true }; query_type = 1; query_class = 1 } ∷ []; answers = []; authorities = []; additionals = []; edns = None; signature = None }) }
-    ensures version_one { Reads (0x00 ∷ 0x06 ∷ 0x00 ∷ 0x00 ∷ 0x00 ∷ 0x00 ∷ 0x00 ∷ 0x00 ∷ 0x00 ∷ 0x00 ∷ 0x00 ∷ 0x01 ∷ 0x00 ∷ 0x00 ∷ 0x29 ∷ 0x04 ∷ 0xd0 ∷ 0x00 ∷ 0x01 ∷ 0x00 ∷ 0x00 ∷ 0x00 ∷ 0x00 ∷ [])
-        (record { metadata = request_metadata 6 message_type.Query 0; queries = []; answers = []; authorities = []; additionals = []; edns = Some (record { max_payload = 1232; rcode_high = 0; version = 1; dnssec_ok = false; reserved_flags = 0; options = [] }); signature = None }) }
-    ensures bad_version { Reads (0x00 ∷ 0x08 ∷ 0x80 ∷ 0x00 ∷ 0x00 ∷ 0x00 ∷ 0x00 ∷ 0x00 ∷ 0x00 ∷ 0x00 ∷ 0x00 ∷ 0x01 ∷ 0x00 ∷ 0x00 ∷ 0x29 ∷ 0x02 ∷ 0x00 ∷ 0x01 ∷ 0x00 ∷ 0x80 ∷ 0x00 ∷ 0x00 ∷ 0x00 ∷ [])
-        (record { metadata = record (request_metadata 8 message_type.Response 0) { response_code = 16 }; queries = []; answers = []; authorities = []; additionals = []; edns = Some (record { max_payload = 512; rcode_high = 1; version = 0; dnssec_ok = true; reserved_flags = 0; options = [] }); signature = None }) }
-    ensures signed { Reads (0x00 ∷ 0x09 ∷ 0x00 ∷ 0x00 ∷ 0x00 ∷ 0x00 ∷ 0x00 ∷ 0x00 ∷ 0x00 ∷ 0x00 ∷ 0x00 ∷ 0x01 ∷ 0x00 ∷ 0x00 ∷ 0xfa ∷ 0x00 ∷ 0xff ∷ 0x00 ∷ 0x00 ∷ 0x00 ∷ 0x00 ∷ 0x00 ∷ 0x14 ∷ 0x00 ∷ 0x00 ∷ 0x00 ∷ 0x00 ∷ 0x00 ∷ 0x00 ∷ 0x09 ∷ 0x01 ∷ 0x2c ∷ 0x00 ∷ 0x03 ∷ 0x01 ∷ 0x02 ∷ 0x03 ∷ 0x00 ∷ 0x09 ∷ 0x00 ∷ 0x00 ∷ 0x00 ∷ 0x00 ∷ [])
-        (record { metadata = request_metadata 9 message_type.Query 0; queries = []; answers = []; authorities = []; additionals = []; edns = None; signature = Some (record { name = record { labels = []; is_fqdn = true }; dns_class = 255; ttl = 0; rdata = record { algorithm = record { labels = []; is_fqdn = true }; time = 9; fudge = 300; mac = 1 ∷ 2 ∷ 3 ∷ []; oid = 9; error = 0; other = [] }; proof = Indeterminate }) }) }
-    ensures two_opts { Fault (0x00 ∷ 0x05 ∷ 0x00 ∷ 0x00 ∷ 0x00 ∷ 0x00 ∷ 0x00 ∷ 0x00 ∷ 0x00 ∷ 0x00 ∷ 0x00 ∷ 0x02 ∷ 0x00 ∷ 0x00 ∷ 0x29 ∷ 0x04 ∷ 0xd0 ∷ 0x00 ∷ 0x00 ∷ 0x00 ∷ 0x00 ∷ 0x00 ∷ 0x00 ∷ 0x00 ∷ 0x00 ∷ 0x29 ∷ 0x04 ∷ 0xd0 ∷ 0x00 ∷ 0x00 ∷ 0x00 ∷ 0x00 ∷ 0x00 ∷ 0x00 ∷ []) DuplicateEdns }
-    ensures opt_not_at_root { Fault (0x00 ∷ 0x05 ∷ 0x00 ∷ 0x00 ∷ 0x00 ∷ 0x00 ∷ 0x00 ∷ 0x00 ∷ 0x00 ∷ 0x00 ∷ 0x00 ∷ 0x01 ∷ 0x01 ∷ 0x61 ∷ 0x00 ∷ 0x00 ∷ 0x29 ∷ 0x04 ∷ 0xd0 ∷ 0x00 ∷ 0x00 ∷ 0x00 ∷ 0x00 ∷ 0x00 ∷ 0x00 ∷ []) EdnsNameNotRoot }
-    ensures opt_in_answers { Fault (0x00 ∷ 0x05 ∷ 0x00 ∷ 0x00 ∷ 0x00 ∷ 0x00 ∷ 0x00 ∷ 0x01 ∷ 0x00 ∷ 0x00 ∷ 0x00 ∷ 0x00 ∷ 0x00 ∷ 0x00 ∷ 0x29 ∷ 0x04 ∷ 0xd0 ∷ 0x00 ∷ 0x00 ∷ 0x00 ∷ 0x00 ∷ 0x00 ∷ 0x00 ∷ []) RecordNotInAdditionals }
-    ensures behind_tsig { Fault (0x00 ∷ 0x05 ∷ 0x00 ∷ 0x00 ∷ 0x00 ∷ 0x00 ∷ 0x00 ∷ 0x00 ∷ 0x00 ∷ 0x00 ∷ 0x00 ∷ 0x02 ∷ 0x00 ∷ 0x00 ∷ 0xfa ∷ 0x00 ∷ 0xff ∷ 0x00 ∷ 0x00 ∷ 0x00 ∷ 0x00 ∷ 0x00 ∷ 0x11 ∷ 0x00 ∷ 0x00 ∷ 0x00 ∷ 0x00 ∷ 0x00 ∷ 0x00 ∷ 0x00 ∷ 0x00 ∷ 0x00 ∷ 0x00 ∷ 0x00 ∷ 0x00 ∷ 0x00 ∷ 0x00 ∷ 0x00 ∷ 0x00 ∷ 0x00 ∷ 0x00 ∷ 0x00 ∷ 0x01 ∷ 0x00 ∷ 0x01 ∷ 0x00 ∷ 0x00 ∷ 0x00 ∷ 0x00 ∷ 0x00 ∷ 0x00 ∷ []) RecordAfterSignature }
-    ensures no_bytes { Fault [] InsufficientBytes }
 {}

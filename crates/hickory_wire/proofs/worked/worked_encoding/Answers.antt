@@ -1,0 +1,31 @@
+-- Replies that are encoded: the one that fits, those that are too large, and one with no form.
+use Rattle.std.proofs.Common.{◌++◌, [], refl, arith}
+use Rattle.hickory_wire.specs.Worked.{a_record}
+use Rattle.hickory_wire.specs.WorkedReplies.{formless_reply, too_long_string}
+use Rattle.hickory_wire.specs.Writing.{asked_bytes}
+use Rattle.hickory_wire.specs.Writing.Encoded.{written, too_large, formless}
+use Rattle.hickory_wire.specs.Writing.ListsWritten.{stuck_list}
+use Rattle.hickory_wire.specs.declared.error.ProtoError.TheVariants.{CharacterDataTooLong}
+use Rattle.hickory_wire.proofs.LiteralReplies.{www_written, put_address}
+use Rattle.hickory_wire.proofs.worked.worked_encoding.Goals as goal
+
+pub returns-clause-www : goal.returns-clause-www
+returns-clause-www c = written www_written
+
+pub returns-clause-question_too_large : goal.returns-clause-question_too_large
+returns-clause-question_too_large c = too_large (omega arith) refl
+
+pub returns-clause-header_too_large : goal.returns-clause-header_too_large
+returns-clause-header_too_large c = too_large (omega arith) refl
+
+pub returns-clause-formless : goal.returns-clause-formless
+returns-clause-formless c = formless {e = CharacterDataTooLong} (record {
+  body = asked_bytes formless_reply ++ a_record;
+  fronts = [];
+  fits = omega arith;
+  lists = stuck_list {count = 1} (record {
+    counted = omega arith;
+    puts = (asked_bytes formless_reply ++ a_record, put_address 512 (asked_bytes formless_reply) (omega arith) (omega arith), refl);
+    ends = record { next = too_long_string; rest = []; is = refl; formless = refl };
+  });
+}) refl
