@@ -8,6 +8,7 @@ pub mod FormIsRead
 pub mod FormKeeps
 pub mod HeaderBits
 pub mod HeaderLaws
+pub mod ItemsRead
 pub mod LabelBounds
 pub mod LabelLoop
 pub mod LabelOrder
@@ -18,9 +19,11 @@ pub mod MessageTail
 pub mod NameLaws
 pub mod NameSpelling
 pub mod OptionSteps
+pub mod OptionsRead
 pub mod ReadData
 pub mod ReadFields
 pub mod ReadRecords
+pub mod ReadSteps
 pub mod RecordComparing
 pub mod RecordSorts
 pub mod RecordsAgree
@@ -29,5 +32,6 @@ pub mod SectionItems
 pub mod Stable
 pub mod Stands
 pub mod StringSteps
+pub mod StringsRead
 pub mod WholeMessage
 pub mod WireForm

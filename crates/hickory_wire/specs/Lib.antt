@@ -13,6 +13,7 @@ pub mod NameLayout
 pub mod NameOrder
 pub mod NameReading
 pub mod NameText
+pub mod OptionReading
 pub mod QuestionLayout
 pub mod Reading
 pub mod RecordData

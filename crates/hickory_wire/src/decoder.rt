@@ -1,10 +1,10 @@
 //! Reading from the front of a message to its end.
 
-ghost use Rattle.std.specs.Prelude.{◌≡◌, ◌≢◌, IfOk, IfErr, ◌≤◌, ◌<◌, length, slice_range, ℕ};
+ghost use Rattle.std.specs.Prelude.{◌≡◌, ◌≢◌, IfOk, IfErr, ◌+◌, ◌^◌, ◌≤◌, ◌<◌, length, slice_range, ℕ};
 ghost use Rattle.std.specs.Int.{w8, w16, w32};
 ghost use Rattle.hickory_wire.specs.Cursor.{Cursor};
 ghost use Rattle.hickory_wire.specs.DomainName.{DomainName};
-ghost use Rattle.hickory_wire.specs.Reading.{Gives, number, octets};
+ghost use Rattle.hickory_wire.specs.Reading.{Gives, number, octets, rest_of};
 ghost use Rattle.hickory_wire.specs.NameLayout.{NameAt, NameFault, IsFullyQualified};
 ghost use Rattle.hickory_wire.specs.NameReading.{name};
 ghost use Rattle.hickory_wire.specs.declared.error.DecodeError.TheVariants.{Memory, InsufficientBytes};
@@ -56,6 +56,14 @@ impl<'a> BinDecoder<'a> {
             return Err(DecodeError::InsufficientBytes);
         }
         Ok(&self.bytes[start..self.index])
+    }
+
+    /// How many bytes lie from this place on.
+    pub(crate) fn remaining(&self) -> usize
+        ensures count { result ≡ length (rest_of self.now) }
+        ensures fits { self.now.place + result < 2 ^ 64 }
+    {
+        self.bytes.len() - self.index
     }
 
     pub(crate) fn read_u8(&mut self) -> Result<u8, DecodeError>

@@ -1,8 +1,9 @@
 //! EDNS, the extension mechanisms for DNS (RFC 6891).
 
-ghost use Rattle.std.specs.Prelude.{◌≡◌, ◌++◌, ◌∷◌, ◌==◌, ◌≤◌, ◌<◌, [], false, length, max, find, OnOk, OnErr, IfOk, IfErr};
+ghost use Rattle.std.specs.Prelude.{◌≡◌, ◌/◌, ◌%◌, ◌^◌, ◌++◌, ◌∷◌, ◌==◌, ◌≤◌, ◌<◌, [], false, length, max, find, OnOk, OnErr, IfOk, IfErr};
 ghost use Rattle.std.specs.Option.{option_copied};
 
+use crate::dns_class::DNSClass;
 use crate::error::ProtoError;
 use crate::items::Items;
 use crate::octets::Octets;
@@ -68,6 +69,20 @@ impl Edns {
             dnssec_ok: false,
             reserved_flags: 0,
             options: Items::new(alloc),
+        }
+    }
+
+    /// What an OPT record of this class, this TTL and these options says (RFC 6891 sections 6.1.2 and 6.1.3).
+    pub(crate) fn from_opt(dns_class: DNSClass, ttl: u32, options: Items<EdnsOption>) -> Edns
+        ensures { result ≡ record { max_payload = dns_class; rcode_high = ttl / 2 ^ 24; version = ttl / 2 ^ 16 % 256; dnssec_ok = ttl / 2 ^ 15 % 2 == 1; reserved_flags = ttl % 2 ^ 15; options = options } }
+    {
+        Edns {
+            max_payload: dns_class.value(),
+            rcode_high: (ttl >> 24) as u8,
+            version: ((ttl >> 16) % 256) as u8,
+            dnssec_ok: (ttl >> 15) % 2 == 1,
+            reserved_flags: (ttl % 0x8000) as u16,
+            options,
         }
     }
 

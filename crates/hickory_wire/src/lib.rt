@@ -1,17 +1,21 @@
 //! DNS messages in bytes: names, records, EDNS, reading and writing.
 #![tactic(auto)]
 
+mod additionals;
 mod boxed;
 mod compare;
 mod decoder;
 mod dns_class;
 mod edns;
+mod edns_options;
 mod error;
 mod header;
+mod header_decoder;
 mod items;
 mod labels;
 mod lower_name;
 mod message;
+mod message_decoder;
 pub mod message_laws;
 mod name;
 pub mod name_laws;
@@ -23,6 +27,7 @@ mod protocol;
 mod query;
 mod rdata;
 mod record;
+mod record_decoder;
 pub mod record_laws;
 mod record_sameness;
 mod record_type;
@@ -51,6 +56,8 @@ pub use record_type::RecordType;
 pub use response_code::ResponseCode;
 pub use tsig::{TSIG, TSigResponseContext, TSigResponseKind, TsigError};
 
+#[cfg(test)]
+mod decoder_tests;
 #[cfg(test)]
 mod name_tests;
 #[cfg(test)]

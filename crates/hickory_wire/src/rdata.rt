@@ -105,6 +105,31 @@ pub enum RData {
     },
 }
 
+impl RData {
+    ghost use Rattle.hickory_wire.specs.RecordData.{type_of};
+
+    /// The type that these data are of.
+    pub fn record_type(&self) -> RecordType
+        ensures { result ≡ type_of self.now }
+    {
+        match self {
+            RData::A(_) => RecordType::A,
+            RData::AAAA(_) => RecordType::AAAA,
+            RData::NS(_) => RecordType::NS,
+            RData::CNAME(_) => RecordType::CNAME,
+            RData::PTR(_) => RecordType::PTR,
+            RData::MX(_) => RecordType::MX,
+            RData::SOA(_) => RecordType::SOA,
+            RData::TXT(_) => RecordType::TXT,
+            RData::OPT(_) => RecordType::OPT,
+            RData::TSIG(_) => RecordType::TSIG,
+            RData::NULL(_) => RecordType::NULL,
+            RData::Update0(code) => *code,
+            RData::Unknown { code, .. } => *code,
+        }
+    }
+}
+
 impl Clone for RData {
     ghost is_clone = { λ source copy. copy ≡ source };
 

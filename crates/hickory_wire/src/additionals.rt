@@ -1,0 +1,101 @@
+//! What an additional section holds (RFC 1035 section 4.1, RFC 6891 section 6.1.1, RFC 8945 section 5.1).
+
+ghost use Rattle.std.specs.Prelude.{◌≡◌, length, MatchResult, ◌==◌, Ok, IsTrue};
+ghost use Rattle.hickory_wire.specs.Reading.{Fails};
+ghost use Rattle.hickory_wire.specs.SectionReading.{add_record, no_additionals};
+
+use crate::boxed::Boxed;
+use crate::edns::Edns;
+use crate::error::DecodeError;
+use crate::items::Items;
+use crate::name::Name;
+use crate::rdata::RData;
+use crate::record::Record;
+use crate::tsig::TSIG;
+use std::alloc::Global;
+use std::marker::Model;
+
+/// The records that were read of an additional section, with its OPT and its TSIG apart.
+#[derive(Drop)]
+pub(crate) struct Additionals {
+    pub(crate) records: Items<Record>,
+    pub(crate) edns: Option<Edns>,
+    pub(crate) signature: Option<Boxed<Record<TSIG>>>,
+}
+
+impl Model for Additionals {
+    ghost use Rattle.hickory_wire.specs.SectionReading.{Additionals};
+
+    ghost Value = { Additionals };
+
+    ghost view = { λ a. record { records = a.records; edns = a.edns; signature = a.signature } };
+}
+
+fn has_no_label(name: &Name) -> bool
+    ensures { result ≡ (length name.now.labels == 0) }
+{
+    name.as_wire().is_empty()
+}
+
+impl Additionals {
+    /// No records.
+    pub(crate) fn new(alloc: Global) -> Additionals
+        ensures { result ≡ no_additionals }
+    {
+        Additionals {
+            records: Items::new(alloc),
+            edns: None,
+            signature: None,
+        }
+    }
+
+    /// Puts the next record where its data belong. On an error nothing is promised of what was read before.
+    #[tactic(auto, unfolding(crate::specs::SectionReading::add_record))]
+    pub(crate) fn add(&mut self, alloc: Global, next: Record) -> Result<(), DecodeError>
+        ensures { MatchResult result (λ _. add_record self.old next ≡ Ok self.new) (λ e. Fails e (add_record self.old next)) }
+    {
+        if self.signature.is_some() {
+            return Err(DecodeError::RecordAfterSignature);
+        }
+        let Record {
+            name,
+            dns_class,
+            ttl,
+            rdata,
+            proof,
+        } = next;
+        match rdata {
+            RData::OPT(options) => {
+                if !has_no_label(&name) {
+                    return Err(DecodeError::EdnsNameNotRoot);
+                }
+                if self.edns.is_some() {
+                    return Err(DecodeError::DuplicateEdns);
+                }
+                self.edns = Some(Edns::from_opt(dns_class, ttl, options));
+                Ok(())
+            }
+            RData::TSIG(signature) => {
+                let signature = Record {
+                    name,
+                    dns_class,
+                    ttl,
+                    rdata: signature.into_inner(),
+                    proof,
+                };
+                self.signature = Some(Boxed::new(alloc, signature)?);
+                Ok(())
+            }
+            rdata => {
+                self.records.push(Record {
+                    name,
+                    dns_class,
+                    ttl,
+                    rdata,
+                    proof,
+                })?;
+                Ok(())
+            }
+        }
+    }
+}

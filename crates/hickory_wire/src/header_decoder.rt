@@ -1,0 +1,73 @@
+//! Reading headers (RFC 1035 section 4.1.1).
+
+ghost use Rattle.std.specs.Prelude.{◌≡◌, ◌<◌, IfOk};
+ghost use Rattle.hickory_wire.specs.HeaderLayout.{bit, metadata_of};
+ghost use Rattle.hickory_wire.specs.Reading.{Gives};
+ghost use Rattle.hickory_wire.specs.SectionReading.{header};
+
+use crate::decoder::BinDecoder;
+use crate::error::DecodeError;
+use crate::header::{Header, HeaderCounts, MessageType, Metadata};
+use crate::op_code::OpCode;
+use crate::response_code::ResponseCode;
+
+/// Whether a bit of a byte is set; bit 0 is the lowest.
+fn bit(byte: u8, k: u32) -> bool
+    requires { k < 8 }
+    ensures { result ≡ bit byte k }
+{
+    (byte >> k) % 2 == 1
+}
+
+/// What the two bytes of flags say.
+fn metadata_of(id: u16, one: u8, two: u8) -> Metadata
+    ensures value { result ≡ metadata_of id one two }
+    ensures low { result.response_code < 16 }
+{
+    Metadata {
+        id,
+        message_type: if bit(one, 7) {
+            MessageType::Response
+        } else {
+            MessageType::Query
+        },
+        op_code: OpCode::new(one / 8 % 16),
+        authoritative: bit(one, 2),
+        truncation: bit(one, 1),
+        recursion_desired: bit(one, 0),
+        recursion_available: bit(two, 7),
+        authentic_data: bit(two, 5),
+        checking_disabled: bit(two, 4),
+        response_code: ResponseCode::new(u16::from(two % 16)),
+    }
+}
+
+impl<'a> BinDecoder<'a> {
+    /// The header at this place, of twelve bytes, with the low four bits of the response code. The unused bit of the
+    /// flags is not looked at.
+    ///
+    /// Then the place is the one behind it. The only error is `InsufficientBytes`, after which the place is left open.
+    /// It needs no memory.
+    #[tactic(auto, unfolding(crate::specs::SectionReading::header))]
+    pub fn read_header(&mut self) -> Result<Header, DecodeError>
+        ensures exact { Gives (λ h. h) result self.old self.new header }
+        ensures low { IfOk result (λ h. h.metadata.response_code < 16) }
+    {
+        let id = self.read_u16()?;
+        let one = self.read_u8()?;
+        let two = self.read_u8()?;
+        let queries = self.read_u16()?;
+        let answers = self.read_u16()?;
+        let authorities = self.read_u16()?;
+        let additionals = self.read_u16()?;
+        Ok(Header {
+            metadata: metadata_of(id, one, two),
+            counts: HeaderCounts {
+                queries,
+                answers,
+                authorities,
+                additionals,
+            },
+        })
+    }
+}

@@ -1,0 +1,147 @@
+//! Reading sections and whole messages (RFC 1035 section 4.1).
+
+ghost use Rattle.std.specs.Prelude.{◌≡◌, ◌≢◌, ◌<◌, [], IfOk, IfErr, MatchResult};
+ghost use Rattle.hickory_wire.specs.MessageReading.{message, high_code, with_high_code, Reads, Fault};
+ghost use Rattle.hickory_wire.specs.Reading.{Gives};
+ghost use Rattle.hickory_wire.specs.RecordReading.{question};
+ghost use Rattle.hickory_wire.specs.SectionReading.{items, is_additional_type, section_record, additionals_after, no_additionals};
+ghost use Rattle.hickory_wire.specs.declared.error.DecodeError.TheVariants.{Memory};
+ghost use Rattle.hickory_wire.specs.declared.message.Message.{Message};
+
+use crate::additionals::Additionals;
+use crate::decoder::BinDecoder;
+use crate::edns::Edns;
+use crate::error::DecodeError;
+use crate::header::Metadata;
+use crate::items::Items;
+use crate::message::Message;
+use crate::query::Query;
+use crate::record::Record;
+use crate::record_type::RecordType;
+use crate::response_code::ResponseCode;
+use std::alloc::Global;
+
+fn is_additional_type(kind: RecordType) -> bool
+    ensures { result ≡ is_additional_type kind }
+{
+    kind == RecordType::OPT || kind == RecordType::TSIG || kind == RecordType::SIG
+}
+
+/// The metadata of a header, with the high bits of the response code from the OPT record.
+fn with_high_code(mut metadata: Metadata, edns: &Option<Edns>) -> Metadata
+    requires { metadata.response_code < 16 }
+    ensures { result ≡ with_high_code metadata (high_code edns.now) }
+{
+    if let Some(edns) = edns {
+        let low = metadata.response_code.low();
+        metadata.response_code = ResponseCode::from_parts(edns.rcode_high(), low);
+    }
+    metadata
+}
+
+impl<'a> BinDecoder<'a> {
+    /// So many questions, one behind the other.
+    ///
+    /// Memory is taken as questions are read: a count that is higher than the questions that are there costs nothing.
+    /// Then the place is the one behind the last. An error is the first fault of the first question that has one, or
+    /// `Memory` where memory was refused. After an error the place is left open.
+    pub fn read_queries(&mut self, alloc: Global, count: u16) -> Result<Items<Query>, DecodeError>
+        ensures { Gives (λ queries. queries) result self.old self.new (items question count []) }
+    {
+        let mut queries = Items::new(alloc);
+        'queries: for _ in 0..count {
+            let query = self.read_query(alloc)?;
+            queries.push(query)?;
+        }
+        Ok(queries)
+    }
+
+    #[tactic(auto, unfolding(crate::specs::SectionReading::section_record))]
+    fn read_section_record(&mut self, alloc: Global) -> Result<Record, DecodeError>
+        ensures { Gives (λ r. r) result self.old self.new section_record }
+    {
+        let next = self.read_record(alloc)?;
+        if is_additional_type(next.rdata.record_type()) {
+            return Err(DecodeError::RecordNotInAdditionals);
+        }
+        Ok(next)
+    }
+
+    /// The records of an answer or authority section.
+    fn read_section(&mut self, alloc: Global, count: u16) -> Result<Items<Record>, DecodeError>
+        ensures { Gives (λ records. records) result self.old self.new (items section_record count []) }
+    {
+        let mut records = Items::new(alloc);
+        'records: for _ in 0..count {
+            let next = self.read_section_record(alloc)?;
+            records.push(next)?;
+        }
+        Ok(records)
+    }
+
+    fn read_additionals(&mut self, alloc: Global, count: u16) -> Result<Additionals, DecodeError>
+        ensures { Gives (λ a. a) result self.old self.new (additionals_after count no_additionals) }
+    {
+        let mut additionals = Additionals::new(alloc);
+        'additionals: for _ in 0..count {
+            let next = self.read_record(alloc)?;
+            additionals.add(alloc, next)?;
+        }
+        Ok(additionals)
+    }
+
+    /// The message at this place, as `Message::read` has it, with pointers counted from the front of the bytes.
+    ///
+    /// Then the place is the one behind it. After an error the place is left open.
+    #[tactic(auto, unfolding(crate::specs::MessageReading::message))]
+    pub fn read_message(&mut self, alloc: Global) -> Result<Message, DecodeError>
+        ensures exact { Gives (λ m. m) result self.old self.new message }
+    {
+        let header = self.read_header()?;
+        let queries = self.read_queries(alloc, header.counts.queries)?;
+        let answers = self.read_section(alloc, header.counts.answers)?;
+        let authorities = self.read_section(alloc, header.counts.authorities)?;
+        let additionals = self.read_additionals(alloc, header.counts.additionals)?;
+        let metadata = with_high_code(header.metadata, &additionals.edns);
+        let Additionals {
+            records,
+            edns,
+            signature,
+        } = additionals;
+        Ok(Message {
+            metadata,
+            queries,
+            answers,
+            authorities,
+            additionals: records,
+            edns,
+            signature,
+        })
+    }
+}
+
+impl Message {
+    /// The message that bytes begin with (RFC 1035 section 4.1); what stands behind it is not looked at.
+    ///
+    /// The OPT record and the TSIG record are taken out of the additional section, and the response code is joined of
+    /// header and OPT record.
+    ///
+    /// An error is the first fault from left to right: those of the header, of each question and of each record, and
+    /// for a record that could be read, `RecordNotInAdditionals` where an OPT, TSIG or SIG record stands among answers
+    /// or authorities, and in the additional section, in this order, `RecordAfterSignature` behind a TSIG record,
+    /// `EdnsNameNotRoot` and `DuplicateEdns`. `Memory` comes only where memory was refused.
+    ///
+    /// Memory is taken as records are read, so the counts of a short message cost nothing. A name's pointers each
+    /// lead before the labels that they end, so a name costs at most as many steps as bytes lie before its end, and
+    /// hostile bytes at most the square of their number.
+    pub fn read(alloc: Global, bytes: &[u8]) -> Result<Message, DecodeError>
+        // What is read stands there.
+        ensures found { IfOk result (λ m. Reads bytes.now m) }
+        // What stands there is read, unless memory is refused.
+        ensures only { (m : Message) → Reads bytes.now m → MatchResult result (λ n. n ≡ m) (λ e. e ≡ Memory) }
+        // An error is the first fault.
+        ensures fault { IfErr result (λ e. e ≢ Memory → Fault bytes.now e) }
+    {
+        BinDecoder::new(bytes).read_message(alloc)
+    }
+}

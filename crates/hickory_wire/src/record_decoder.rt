@@ -1,0 +1,236 @@
+//! Reading records and questions (RFC 1035 sections 4.1.2 and 4.1.3).
+
+ghost use Rattle.std.specs.Prelude.{◌≡◌, ◌+◌, ◌^◌, ◌<◌};
+ghost use Rattle.std.specs.Int.{w16};
+ghost use Rattle.hickory_wire.specs.Reading.{Gives, octets};
+ghost use Rattle.hickory_wire.specs.RecordReading.{string, strings_until, counted_octets, soa, mx, tsig, form, record_data, resource, question};
+
+use crate::boxed::Boxed;
+use crate::decoder::BinDecoder;
+use crate::dns_class::DNSClass;
+use crate::edns_options::options_of;
+use crate::error::DecodeError;
+use crate::items::Items;
+use crate::octets::Octets;
+use crate::query::Query;
+use crate::rdata::{MX, RData, SOA};
+use crate::record::{Proof, Record};
+use crate::record_type::RecordType;
+use crate::tsig::TSIG;
+use std::alloc::Global;
+use std::net::{Ipv4Addr, Ipv6Addr};
+
+impl<'a> BinDecoder<'a> {
+    /// The next `N` bytes.
+    fn read_array<const N: usize>(&mut self) -> Result<[u8; N], DecodeError>
+        ensures { Gives (λ bytes. bytes) result self.old self.new (octets N) }
+    {
+        let mut array = [0; N];
+        array.copy_from_slice(self.read_slice(N)?);
+        Ok(array)
+    }
+
+    /// A character string (RFC 1035 section 3.3).
+    #[tactic(auto, unfolding(crate::specs::RecordReading::string))]
+    fn read_string(&mut self) -> Result<&'a [u8], DecodeError>
+        ensures { Gives (λ s. s.now) result self.old self.new string }
+    {
+        let len = self.read_u8()?;
+        self.read_slice(usize::from(len))
+    }
+
+    /// Character strings, until a place is reached or passed.
+    fn read_strings(&mut self, alloc: Global, stop: usize) -> Result<Items<Octets>, DecodeError>
+        ensures { Gives (λ strings. strings) result self.old self.new (strings_until stop) }
+    {
+        let mut strings = Items::new(alloc);
+        'strings: while self.index() < stop {
+            let string = self.read_string()?;
+            strings.push(Octets::from_slice(alloc, string)?)?;
+        }
+        Ok(strings)
+    }
+
+    /// Bytes behind their length in two bytes.
+    #[tactic(auto, unfolding(crate::specs::RecordReading::counted_octets))]
+    fn read_counted_octets(&mut self, alloc: Global) -> Result<Octets, DecodeError>
+        ensures { Gives (λ o. o) result self.old self.new counted_octets }
+    {
+        let len = self.read_u16()?;
+        self.read_octets(alloc, len)
+    }
+
+    /// So many bytes.
+    fn read_octets(&mut self, alloc: Global, len: u16) -> Result<Octets, DecodeError>
+        ensures { Gives (λ o. o) result self.old self.new (octets len) }
+    {
+        let bytes = self.read_slice(usize::from(len))?;
+        Ok(Octets::from_slice(alloc, bytes)?)
+    }
+
+    #[tactic(auto, unfolding(crate::specs::RecordReading::soa))]
+    fn read_soa(&mut self, alloc: Global) -> Result<RData, DecodeError>
+        ensures { Gives (λ r. r) result self.old self.new soa }
+    {
+        let mname = self.read_name(alloc)?;
+        let rname = self.read_name(alloc)?;
+        let serial = self.read_u32()?;
+        let refresh = self.read_u32()?;
+        let retry = self.read_u32()?;
+        let expire = self.read_u32()?;
+        let minimum = self.read_u32()?;
+        let soa = SOA {
+            mname,
+            rname,
+            serial,
+            refresh,
+            retry,
+            expire,
+            minimum,
+        };
+        Ok(RData::SOA(Boxed::new(alloc, soa)?))
+    }
+
+    #[tactic(auto, unfolding(crate::specs::RecordReading::mx))]
+    fn read_mx(&mut self, alloc: Global) -> Result<RData, DecodeError>
+        ensures { Gives (λ r. r) result self.old self.new mx }
+    {
+        let preference = self.read_u16()?;
+        let exchange = self.read_name(alloc)?;
+        Ok(RData::MX(MX {
+            preference,
+            exchange,
+        }))
+    }
+
+    #[tactic(auto, unfolding(crate::specs::RecordReading::tsig))]
+    fn read_tsig(&mut self, alloc: Global) -> Result<RData, DecodeError>
+        ensures { Gives (λ r. r) result self.old self.new tsig }
+    {
+        let algorithm = self.read_name(alloc)?;
+        let high = self.read_u16()?;
+        let low = self.read_u32()?;
+        let fudge = self.read_u16()?;
+        let mac = self.read_counted_octets(alloc)?;
+        let oid = self.read_u16()?;
+        let error = self.read_u16()?;
+        let other = self.read_counted_octets(alloc)?;
+        let signature = TSIG {
+            algorithm,
+            time: (u64::from(high) << 32) + u64::from(low),
+            fudge,
+            mac,
+            oid,
+            error,
+            other,
+        };
+        Ok(RData::TSIG(Boxed::new(alloc, signature)?))
+    }
+
+    /// Data in the form of their type. The length counts only where the form does not tell it: for character strings,
+    /// options, and types with no form here.
+    #[tactic(auto, unfolding(crate::specs::RecordReading::form))]
+    fn read_form(&mut self, alloc: Global, kind: RecordType, len: u16) -> Result<RData, DecodeError>
+        requires { self.old.place + len < 2 ^ 64 }
+        ensures { Gives (λ r. r) result self.old self.new (form kind len) }
+    {
+        match kind {
+            RecordType::A => Ok(RData::A(Ipv4Addr::from_octets(self.read_array()?))),
+            RecordType::AAAA => Ok(RData::AAAA(Ipv6Addr::from_octets(self.read_array()?))),
+            RecordType::NS => Ok(RData::NS(self.read_name(alloc)?)),
+            RecordType::CNAME => Ok(RData::CNAME(self.read_name(alloc)?)),
+            RecordType::PTR => Ok(RData::PTR(self.read_name(alloc)?)),
+            RecordType::MX => self.read_mx(alloc),
+            RecordType::SOA => self.read_soa(alloc),
+            RecordType::TXT => {
+                let stop = self.index() + usize::from(len);
+                Ok(RData::TXT(self.read_strings(alloc, stop)?))
+            }
+            RecordType::OPT => {
+                let bytes = self.read_slice(usize::from(len))?;
+                Ok(RData::OPT(options_of(alloc, bytes)?))
+            }
+            RecordType::TSIG => self.read_tsig(alloc),
+            RecordType::NULL => Ok(RData::NULL(self.read_octets(alloc, len)?)),
+            code => Ok(RData::Unknown {
+                code,
+                bytes: self.read_octets(alloc, len)?,
+            }),
+        }
+    }
+
+    /// Data of a type, of so many bytes.
+    #[tactic(auto, unfolding(crate::specs::RecordReading::record_data))]
+    fn read_record_data(
+        &mut self,
+        alloc: Global,
+        kind: RecordType,
+        len: u16,
+    ) -> Result<RData, DecodeError>
+        ensures { Gives (λ r. r) result self.old self.new (record_data kind len) }
+    {
+        if self.remaining() < usize::from(len) {
+            return Err(DecodeError::InsufficientBytes);
+        }
+        if len == 0 && kind != RecordType::OPT && kind != RecordType::TSIG {
+            return Ok(RData::Update0(kind));
+        }
+        if len == 0 && kind == RecordType::TSIG {
+            return Err(DecodeError::IncorrectDataLength);
+        }
+        let stop = self.index() + usize::from(len);
+        let rdata = self.read_form(alloc, kind, len)?;
+        if self.index() != stop {
+            return Err(DecodeError::IncorrectDataLength);
+        }
+        Ok(rdata)
+    }
+
+    /// The record at this place (RFC 1035 section 4.1.3): its owner name, type, class and TTL, and its data in the form of
+    /// their type. Nothing is known of its proof.
+    ///
+    /// Data of no bytes are those of a dynamic update, of whatever type (RFC 2136 section 2.4), but for an OPT record,
+    /// which then has no options. Data of a type with no form here are kept as bytes (RFC 3597). Options that are
+    /// malformed are left out, all of them, and are no fault.
+    ///
+    /// Then the place is the one behind the record. An error is the first fault from left to right: those of a name;
+    /// `InsufficientBytes` where a field, or as many bytes as the length says, are not there; those of the data;
+    /// `IncorrectDataLength` where the data end elsewhere than their length says, or a TSIG record has none. `Memory`
+    /// comes only where memory was refused. After an error the place is left open.
+    #[tactic(auto, unfolding(crate::specs::RecordReading::resource))]
+    pub fn read_record(&mut self, alloc: Global) -> Result<Record, DecodeError>
+        ensures { Gives (λ r. r) result self.old self.new resource }
+    {
+        let name = self.read_name(alloc)?;
+        let kind = self.read_u16()?;
+        let class = self.read_u16()?;
+        let ttl = self.read_u32()?;
+        let len = self.read_u16()?;
+        let rdata = self.read_record_data(alloc, RecordType::new(kind), len)?;
+        Ok(Record {
+            name,
+            dns_class: DNSClass::new(class),
+            ttl,
+            rdata,
+            proof: Proof::Indeterminate,
+        })
+    }
+
+    /// The question at this place (RFC 1035 section 4.1.2): a name, a type and a class.
+    ///
+    /// Then the place is the one behind it. An error is the first fault from left to right, those of a name or
+    /// `InsufficientBytes`, or it is `Memory` where memory was refused. After an error the place is left open.
+    #[tactic(auto, unfolding(crate::specs::RecordReading::question))]
+    pub fn read_query(&mut self, alloc: Global) -> Result<Query, DecodeError>
+        ensures { Gives (λ q. q) result self.old self.new question }
+    {
+        let name = self.read_name(alloc)?;
+        let kind = self.read_u16()?;
+        let class = self.read_u16()?;
+        Ok(Query {
+            name,
+            query_type: RecordType::new(kind),
+            query_class: DNSClass::new(class),
+        })
+    }
+}
