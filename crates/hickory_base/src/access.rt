@@ -1,0 +1,254 @@
+//! Access by address: networks that may not use a server, and networks that may.
+//!
+//! The longest network that an address matches decides, as in routing. Between a denied and an allowed network of one
+//! length the denied one wins.
+
+ghost use Rattle.std.specs.Prelude.{◌≡◌, ◌≤◌, ◌↔◌, List, Contains, IsTrue, OnOk, OnErr};
+ghost use Rattle.std.specs.Option.{SomeIff};
+ghost use Rattle.hickory_base.specs.Access.{Network, AccessSets, width, address_of, canonical, first_bits, network_of, Matches, IsLongestMatch, HasFamily, IsAllowed, Inserts, InsertsFirst, SameNetworks, MappedFormIsAllowedAlike, OnlyMembersDecide};
+
+use std::alloc::{AllocError, Global};
+use std::marker::Model;
+use std::net::IpAddr;
+
+/// The 96 bits before the IPv4 address in an IPv4-mapped IPv6 address (RFC 4291, section 2.5.5.2).
+const IPV4_MAPPED_PREFIX: u128 = 0xffff;
+
+/// The family of an address or a network.
+#[derive(Clone, Copy, Debug, PartialEq, Eq)]
+enum Family {
+    Ipv4,
+    Ipv6,
+}
+
+impl Family {
+    /// How many bits an address of the family has.
+    fn width(self) -> u8
+        ensures { result ≡ width self }
+    {
+        match self {
+            Family::Ipv4 => 32,
+            Family::Ipv6 => 128,
+        }
+    }
+}
+
+/// An address as networks are compared with it: its bits as one number, the first bit highest.
+#[derive(Clone, Copy)]
+struct Address {
+    family: Family,
+    bits: u128,
+}
+
+impl Address {
+    fn new(address: IpAddr) -> Self
+        ensures { result ≡ address_of address }
+    {
+        match address {
+            IpAddr::V4(address) => Address {
+                family: Family::Ipv4,
+                bits: u128::from(address.to_bits()),
+            },
+            IpAddr::V6(address) => Address {
+                family: Family::Ipv6,
+                bits: address.to_bits(),
+            },
+        }
+    }
+
+    /// The IPv4 address that an IPv4-mapped IPv6 address holds, and any other address as it is.
+    fn canonical(self) -> Self
+        ensures { result ≡ canonical self }
+    {
+        if self.family == Family::Ipv6 && self.bits >> 32 == IPV4_MAPPED_PREFIX {
+            Address {
+                family: Family::Ipv4,
+                bits: self.bits & 0xffff_ffff,
+            }
+        } else {
+            self
+        }
+    }
+
+    /// The first `count` bits, as a number.
+    fn first_bits(self, count: u8) -> u128
+        requires { count ≤ width self.family }
+        ensures { result ≡ first_bits self count }
+    {
+        let dropped = u32::from(self.family.width() - count);
+        self.bits.checked_shr(dropped).unwrap_or(0)
+    }
+}
+
+/// A network of IPv4 or of IPv6 addresses: those that begin with its prefix (RFC 4632, section 3.1; RFC 4291,
+/// section 2.3). Networks of one family, prefix length and prefix are equal.
+#[derive(Clone, Copy, Debug, PartialEq, Eq)]
+pub struct IpNet {
+    family: Family,
+    prefix_length: u8,
+    /// The bits of the prefix, as a number.
+    prefix: u128,
+}
+
+impl Model for IpNet {
+    ghost Value = { Network };
+
+    ghost view = { λ n. record { family = n.family; prefix_length = n.prefix_length; prefix = n.prefix } };
+
+    ghost invariant = { λ n. n.prefix_length ≤ width n.family };
+
+    ghost inverse = { λ n. record { family = n.family; prefix_length = n.prefix_length; prefix = n.prefix } };
+}
+
+impl IpNet {
+    /// The network of this prefix length, in bits, that `address` lies in: the bits after the prefix do not matter, so
+    /// 10.1.2.3/8 is 10.0.0.0/8. An IPv4-mapped IPv6 address gives an IPv6 network.
+    ///
+    /// `None` where the prefix is longer than the address, 32 bits for IPv4 and 128 for IPv6.
+    pub fn new(address: IpAddr, prefix_length: u8) -> Option<IpNet>
+        ensures { let written = address_of address in
+            SomeIff result (prefix_length ≤ width written.family) (network_of written prefix_length) }
+    {
+        let address = Address::new(address);
+        if prefix_length > address.family.width() {
+            return None;
+        }
+        Some(IpNet {
+            family: address.family,
+            prefix_length,
+            prefix: address.first_bits(prefix_length),
+        })
+    }
+
+    fn matches(&self, address: Address) -> bool
+        ensures { IsTrue result ↔ Matches address self.now }
+    {
+        self.family == address.family && self.prefix == address.first_bits(self.prefix_length)
+    }
+}
+
+/// A set of networks.
+#[derive(Debug, Drop)]
+struct NetworkSet {
+    networks: Vec<IpNet>,
+}
+
+impl Model for NetworkSet {
+    ghost Value = { List Network };
+
+    ghost view = { λ s. s.networks.items };
+}
+
+impl NetworkSet {
+    fn new(alloc: Global) -> Self
+        ensures { (network : Network) → ¬ (Contains result network) }
+    {
+        NetworkSet {
+            networks: Vec::new(alloc),
+        }
+    }
+
+    fn insert(&mut self, networks: &[IpNet]) -> Result<(), AllocError>
+        ensures ok { OnOk result (Inserts self.old networks.now self.new) }
+        ensures err { OnErr result (InsertsFirst self.old networks.now self.new) }
+    {
+        self.networks.extend_from_slice(networks)
+    }
+
+    fn has_family(&self, family: Family) -> bool
+        ensures { IsTrue result ↔ HasFamily self.now family }
+    {
+        self.networks.iter().any(|network| network.family == family)
+    }
+
+    /// The greatest prefix length of the networks that match the address.
+    fn longest_match(&self, address: Address) -> Option<u8>
+        ensures { IsLongestMatch self.now address result }
+    {
+        let mut longest = None;
+        for network in &self.networks {
+            if network.matches(address) {
+                longest = longest.max(Some(network.prefix_length));
+            }
+        }
+        longest
+    }
+}
+
+/// The networks that may not use a server, and those that may.
+#[derive(Debug, Drop)]
+pub struct AccessControl {
+    deny: NetworkSet,
+    allow: NetworkSet,
+}
+
+impl Model for AccessControl {
+    ghost Value = { AccessSets };
+
+    ghost view = { λ a. record { deny = a.deny; allow = a.allow } };
+}
+
+impl AccessControl {
+    /// No network is denied and none is allowed, so that each address may use the server.
+    pub fn new(alloc: Global) -> AccessControl
+        ensures deny { (network : Network) → ¬ (Contains result.deny network) }
+        ensures allow { (network : Network) → ¬ (Contains result.allow network) }
+    {
+        AccessControl {
+            deny: NetworkSet::new(alloc),
+            allow: NetworkSet::new(alloc),
+        }
+    }
+
+    /// Denies the networks, beside those that are denied already. Where memory is refused, those before the first that
+    /// could not be inserted are denied all the same.
+    pub fn insert_deny(&mut self, networks: &[IpNet]) -> Result<(), AllocError>
+        ensures ok { OnOk result (Inserts self.old.deny networks.now self.new.deny) }
+        ensures err { OnErr result (InsertsFirst self.old.deny networks.now self.new.deny) }
+        ensures allow_stays { SameNetworks self.old.allow self.new.allow }
+    {
+        self.deny.insert(networks)
+    }
+
+    /// Allows the networks, beside those that are allowed already. Where memory is refused, those before the first that
+    /// could not be inserted are allowed all the same.
+    pub fn insert_allow(&mut self, networks: &[IpNet]) -> Result<(), AllocError>
+        ensures ok { OnOk result (Inserts self.old.allow networks.now self.new.allow) }
+        ensures err { OnErr result (InsertsFirst self.old.allow networks.now self.new.allow) }
+        ensures deny_stays { SameNetworks self.old.deny self.new.deny }
+    {
+        self.allow.insert(networks)
+    }
+
+    /// Whether the address may use the server. An IPv4-mapped IPv6 address (RFC 4291, section 2.5.5.2) counts as the
+    /// IPv4 address, and only networks of the address's family count.
+    ///
+    /// The longest network that the address matches decides, and a denied one where an allowed one is as long. An
+    /// address that matches no network is refused where its family has allowed networks and no denied ones.
+    pub fn allow(&self, address: IpAddr) -> bool
+        ensures { IsTrue result ↔ IsAllowed self.now.deny self.now.allow address }
+    {
+        let address = Address::new(address).canonical();
+        match (
+            self.deny.longest_match(address),
+            self.allow.longest_match(address),
+        ) {
+            (Some(denied), Some(allowed)) => allowed > denied,
+            (Some(_), None) => false,
+            (None, Some(_)) => true,
+            (None, None) => {
+                self.deny.has_family(address.family) || !self.allow.has_family(address.family)
+            }
+        }
+    }
+}
+
+/// Laws of the rule by which [`AccessControl::allow`] answers: an IPv4 address and its IPv4-mapped IPv6 form get one
+/// answer, and nothing counts of the inserted networks but which ones they are.
+pub fn rule_laws()
+    ensures mapped_form { MappedFormIsAllowedAlike }
+    ensures members { OnlyMembersDecide }
+{}
+
+#[cfg(test)]
+mod tests;
