@@ -149,7 +149,7 @@ some_data : (kind len : ℕ) (bytes : List ℕ) (place next : ℕ) (d : RData) �
 some_data kind len bytes place next d e after within lt = let s = some len kind (omega arith) in by_form kind len bytes place next d e after within s.0 s.1
 
 -- an IPv6 address that stands is read
-aaaa_here : (floor : ℕ) (bytes : List ℕ) (place next : ℕ) (address : Ipv6Addr) → IsIpv6 address → OctetsAt floor bytes place (ipv6_octets address) next
+pub aaaa_here : (floor : ℕ) (bytes : List ℕ) (place next : ℕ) (address : Ipv6Addr) → IsIpv6 address → OctetsAt floor bytes place (ipv6_octets address) next
     → (octets 16 (here bytes place) >>= λ x. Ok (rdata.AAAA (ipv6_of x.0), x.1)) ≡ read_here (rdata.AAAA address) bytes next
 aaaa_here floor bytes place next address f at =
     let size = octets_len address.segments in

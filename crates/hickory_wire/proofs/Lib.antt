@@ -4,6 +4,8 @@ pub mod AddressOctets
 pub mod ByteTexts
 pub mod CountedItems
 pub mod Ends
+pub mod FaultSteps
+pub mod FormFaults
 pub mod FormIsRead
 pub mod FormKeeps
 pub mod HeaderBits
@@ -15,6 +17,7 @@ pub mod LabelOrder
 pub mod LabelSteps
 pub mod LiteralReplies
 pub mod Literals
+pub mod MessageFaultLaws
 pub mod MessageTail
 pub mod NameLaws
 pub mod NameSpelling
@@ -25,13 +28,17 @@ pub mod ReadFields
 pub mod ReadRecords
 pub mod ReadSteps
 pub mod RecordComparing
+pub mod RecordFaultLaws
 pub mod RecordSorts
 pub mod RecordsAgree
 pub mod SameNames
+pub mod SectionFaults
 pub mod SectionItems
 pub mod Stable
 pub mod Stands
 pub mod StringSteps
 pub mod StringsRead
+pub mod TextFaults
+pub mod TsigFaults
 pub mod WholeMessage
 pub mod WireForm

@@ -134,7 +134,7 @@ module _ (bytes : List ℕ) (a : AreBytes bytes) where
       ((record { middle = n.1.place; algorithm = at_n.0; fields = fields }, (omega (arith, s.2, s.3), s.4, s.5, s.6, s.7, s.8, at_n.2)), refl, s.1)
 
   -- a signature that was read stands there
-  tsig_in : (c : Cursor) (x : RData × Cursor) → In bytes c → tsig c ≡ Ok x → Gave 250 c x
+  pub tsig_in : (c : Cursor) (x : RData × Cursor) → In bytes c → tsig c ≡ Ok x → Gave 250 c x
   unfolding tsig tsig_of
   tsig_in c x i e =
       bind_then (name c) (λ n. number w16 n.1 >>= λ h. number w32 h.1 >>= λ l. number w16 l.1 >>= λ f. counted_octets f.1 >>= λ m. number w16 m.1 >>= λ o. number w16 o.1 >>= λ r. counted_octets r.1 >>= λ t. Ok (tsig_of n.0 h.0 l.0 f.0 m.0 o.0 r.0 t.0, t.1)) x _ e (λ n e0 q0.

@@ -5,6 +5,7 @@ pub mod Decoding
 pub mod DomainName
 pub mod EdnsFields
 pub mod HeaderLayout
+pub mod MessageFaults
 pub mod MessageLayout
 pub mod MessageReading
 pub mod Metadata
@@ -17,6 +18,7 @@ pub mod OptionReading
 pub mod QuestionLayout
 pub mod Reading
 pub mod RecordData
+pub mod RecordFaults
 pub mod RecordLayout
 pub mod RecordReading
 pub mod RecordSameness

@@ -9,6 +9,7 @@ mod dns_class;
 mod edns;
 mod edns_options;
 mod error;
+pub mod fault_laws;
 mod header;
 mod header_decoder;
 mod items;

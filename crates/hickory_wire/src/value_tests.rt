@@ -108,23 +108,49 @@ fn a_code_has_four_low_and_eight_high_bits(rt: HostRuntime) {
     assert_eq!(rt; DNSClass::NONE.value(), 254);
 }
 
+/// Whether two address records are equal that have these owner names, TTLs and last octets.
+fn are_equal(alloc: Global, a: (&str, u32, u8), b: (&str, u32, u8)) -> Result<bool, Fail> {
+    let first = address(alloc, a.0, a.1, a.2)?;
+    let second = address(alloc, b.0, b.1, b.2)?;
+    Ok(first == second)
+}
+
 #[test]
-fn records_compare_without_ttl_proof_and_letter_case(rt: HostRuntime) -> Result<(), Fail> {
+fn records_compare_without_ttl_and_letter_case(rt: HostRuntime) -> Result<(), Fail> {
+    let alloc = rt.alloc();
+    let www = ("www.example.com.", 3600, 1);
+    assert!(rt; are_equal(alloc, www, ("WWW.Example.COM.", 60, 1))?);
+    assert!(rt; !are_equal(alloc, www, ("www.example.com.", 3600, 2))?);
+    assert!(rt; !are_equal(alloc, www, ("www.example.com", 3600, 1))?);
+    assert!(rt; !are_equal(alloc, www, ("example.com.", 3600, 1))?);
+    Ok(())
+}
+
+#[test]
+fn records_compare_without_proof_and_by_class(rt: HostRuntime) -> Result<(), Fail> {
     let alloc = rt.alloc();
     let record = address(alloc, "www.example.com.", 3600, 1)?;
-    let mut other = address(alloc, "WWW.Example.COM.", 60, 1)?;
+    let mut other = address(alloc, "www.example.com.", 3600, 1)?;
     other.proof = Proof::Bogus;
     assert!(rt; record == other);
     other.dns_class = DNSClass::CH;
     assert!(rt; record != other);
-    assert!(rt; record != address(alloc, "www.example.com.", 3600, 2)?);
-    assert!(rt; record != address(alloc, "www.example.com", 3600, 1)?);
-    assert!(rt;
-        zone_start(alloc, "ns.example.com.", 7)? == zone_start(alloc, "NS.example.com.", 7)?
-    );
-    assert!(rt;
-        zone_start(alloc, "ns.example.com.", 7)? != zone_start(alloc, "ns.example.com.", 8)?
-    );
+    Ok(())
+}
+
+/// Whether two SOA records have equal data that name these primary servers and serials.
+fn start_alike(alloc: Global, a: (&str, u32), b: (&str, u32)) -> Result<bool, Fail> {
+    let first = zone_start(alloc, a.0, a.1)?;
+    let second = zone_start(alloc, b.0, b.1)?;
+    Ok(first == second)
+}
+
+#[test]
+fn data_compare_with_names_in_any_case(rt: HostRuntime) -> Result<(), Fail> {
+    let alloc = rt.alloc();
+    assert!(rt; start_alike(alloc, ("ns.example.com.", 7), ("NS.Example.com.", 7))?);
+    assert!(rt; !start_alike(alloc, ("ns.example.com.", 7), ("ns.example.com.", 8))?);
+    assert!(rt; !start_alike(alloc, ("ns.example.com.", 7), ("ns2.example.com.", 7))?);
     Ok(())
 }
 
