@@ -2,12 +2,15 @@ pub mod Additional
 pub mod AdditionalItems
 pub mod AddressOctets
 pub mod ByteTexts
+pub mod Chained
 pub mod CountedItems
 pub mod Ends
 pub mod FaultSteps
+pub mod FiveLists
 pub mod FormFaults
 pub mod FormIsRead
 pub mod FormKeeps
+pub mod FullForms
 pub mod HeaderBits
 pub mod HeaderLaws
 pub mod ItemsRead
@@ -21,6 +24,7 @@ pub mod MessageFaultLaws
 pub mod MessageTail
 pub mod NameLaws
 pub mod NameSpelling
+pub mod OctetLengths
 pub mod OptionSteps
 pub mod OptionsRead
 pub mod ReadData
@@ -29,8 +33,10 @@ pub mod ReadRecords
 pub mod ReadSteps
 pub mod RecordComparing
 pub mod RecordFaultLaws
+pub mod RecordLists
 pub mod RecordSorts
 pub mod RecordsAgree
+pub mod RepliesEncoded
 pub mod SameNames
 pub mod SectionFaults
 pub mod SectionItems
@@ -40,5 +46,11 @@ pub mod StringSteps
 pub mod StringsRead
 pub mod TextFaults
 pub mod TsigFaults
+pub mod WholeLists
 pub mod WholeMessage
 pub mod WireForm
+pub mod WritingFaults
+pub mod WrittenAdditionals
+pub mod WrittenItems
+pub mod WrittenMessage
+pub mod WrittenSizes

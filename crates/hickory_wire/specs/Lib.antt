@@ -4,6 +4,9 @@ pub mod Cursor
 pub mod Decoding
 pub mod DomainName
 pub mod EdnsFields
+pub mod Encoder
+pub mod Endings
+pub mod FullForm
 pub mod HeaderLayout
 pub mod MessageFaults
 pub mod MessageLayout
@@ -24,7 +27,9 @@ pub mod RecordReading
 pub mod RecordSameness
 pub mod RecordSize
 pub mod Reply
+pub mod ReplyParts
 pub mod SectionReading
+pub mod WholeReply
 pub mod Worked
 pub mod WorkedReplies
 pub mod Writing

@@ -1,7 +1,8 @@
 //! EDNS, the extension mechanisms for DNS (RFC 6891).
 
-ghost use Rattle.std.specs.Prelude.{◌≡◌, ◌/◌, ◌%◌, ◌^◌, ◌++◌, ◌∷◌, ◌==◌, ◌≤◌, ◌<◌, [], false, length, max, find, OnOk, OnErr, IfOk, IfErr};
+ghost use Rattle.std.specs.Prelude.{◌≡◌, ◌+◌, ◌*◌, ◌/◌, ◌%◌, ◌^◌, ◌++◌, ◌∷◌, ◌==◌, ◌≤◌, ◌<◌, [], false, length, max, find, OnOk, OnErr, IfOk, IfErr};
 ghost use Rattle.std.specs.Option.{option_copied};
+ghost use Rattle.hickory_wire.specs.HeaderLayout.{flag};
 
 use crate::dns_class::DNSClass;
 use crate::error::ProtoError;
@@ -119,6 +120,15 @@ impl Edns {
         ensures { result ≡ self.now.reserved_flags }
     {
         self.reserved_flags
+    }
+
+    /// The TTL field of the OPT record: high code, version, DO, and the flags behind it (RFC 6891 section 6.1.3).
+    pub(crate) fn ttl(&self) -> u32
+        ensures { result ≡ self.now.rcode_high * 2 ^ 24 + self.now.version * 2 ^ 16 + flag self.now.dnssec_ok 15 + self.now.reserved_flags }
+    {
+        let high = u32::from(self.rcode_high()) * 0x100_0000 + u32::from(self.version()) * 0x1_0000;
+        let dnssec_ok = if self.dnssec_ok { 0x8000 } else { 0 };
+        high + dnssec_ok + u32::from(self.reserved_flags)
     }
 
     /// The options, in their order.

@@ -4,19 +4,25 @@
 mod additionals;
 mod boxed;
 mod compare;
+mod data_encoder;
 mod decoder;
 mod dns_class;
 mod edns;
 mod edns_options;
+mod encoder;
+pub mod encoder_laws;
 mod error;
 pub mod fault_laws;
 mod header;
 mod header_decoder;
+mod header_encoder;
 mod items;
 mod labels;
+mod list_encoder;
 mod lower_name;
 mod message;
 mod message_decoder;
+mod message_encoder;
 pub mod message_laws;
 mod name;
 pub mod name_laws;
@@ -29,6 +35,7 @@ mod query;
 mod rdata;
 mod record;
 mod record_decoder;
+mod record_encoder;
 pub mod record_laws;
 mod record_sameness;
 mod record_type;
@@ -40,11 +47,13 @@ pub use boxed::Boxed;
 pub use decoder::BinDecoder;
 pub use dns_class::DNSClass;
 pub use edns::{Edns, EdnsOption, NSIDPayload};
+pub use encoder::BinEncoder;
 pub use error::{DecodeError, NameError, ProtoError};
 pub use header::{Header, HeaderCounts, MessageType, Metadata};
 pub use items::Items;
 pub use lower_name::LowerName;
 pub use message::Message;
+pub use message_encoder::{ReplyParts, emit_message_parts, encode_message_parts};
 pub use name::Name;
 pub use octets::Octets;
 pub use op_code::OpCode;
@@ -59,6 +68,8 @@ pub use tsig::{TSIG, TSigResponseContext, TSigResponseKind, TsigError};
 
 #[cfg(test)]
 mod decoder_tests;
+#[cfg(test)]
+mod encoder_tests;
 #[cfg(test)]
 mod name_tests;
 #[cfg(test)]

@@ -1,0 +1,34 @@
+-- Replies that were encoded: written, or in the place of one that was refused.
+use Rattle.std.proofs.Common.{◌≡◌, inl, inr, ℕ, ◌<◌, ◌^◌, List, length, get_or, sym, subst, arith}
+use Rattle.std.proofs.lemmas.Bool.{cases_lt}
+use Rattle.std.proofs.lemmas.List.{get_or_past}
+use Rattle.hickory_wire.specs.Bytes.{AreBytes}
+use Rattle.hickory_wire.specs.HeaderLayout.{header_octets}
+use Rattle.hickory_wire.specs.Reply.{Reply}
+use Rattle.hickory_wire.specs.ReplyParts.{ReplyWritten, ReplyEncoded, Refused}
+use Rattle.hickory_wire.specs.ReplyParts.Refused.{too_large as refused_large, formless as refused_formless}
+use Rattle.hickory_wire.specs.Writing.{Encoded, fallback_header}
+use Rattle.hickory_wire.specs.Writing.Encoded.{written, too_large, formless}
+use Rattle.hickory_wire.specs.declared.error.ProtoError.{ProtoError}
+use Rattle.hickory_wire.specs.declared.header.Header.{Header}
+use Rattle.hickory_wire.proofs.WrittenMessage.{written_reads}
+
+pub encoded_written : (limit : ℕ) (reply : Reply) (bytes : List ℕ) (header : Header) → ReplyWritten limit reply bytes header → Encoded limit reply bytes header
+encoded_written limit reply bytes header w = subst (λ (h : Header). Encoded limit reply bytes h) (sym w.header_is) (written w.written)
+
+instead : (limit : ℕ) (reply : Reply) (bytes : List ℕ) (e : ProtoError) → bytes ≡ header_octets (fallback_header reply.metadata.id) → Refused limit reply e → Encoded limit reply bytes (fallback_header reply.metadata.id)
+instead limit reply bytes e is (refused_large large) = too_large large is
+instead limit reply bytes e is (refused_formless stuck) = formless stuck is
+
+pub encoded_fallback : (limit : ℕ) (reply : Reply) (bytes : List ℕ) (header : Header) (e : ProtoError) → header ≡ fallback_header reply.metadata.id → bytes ≡ header_octets (fallback_header reply.metadata.id) → Refused limit reply e → Encoded limit reply bytes header
+encoded_fallback limit reply bytes header e h is r = subst (λ (x : Header). Encoded limit reply bytes x) (sym h) (instead limit reply bytes e is r)
+
+pub reply_encoded : (limit : ℕ) (reply : Reply) (bytes : List ℕ) (header : Header) → limit < 2 ^ 16 → AreBytes bytes → Encoded limit reply bytes header → ReplyEncoded limit reply bytes header
+reply_encoded limit reply bytes header small are e = record { encoded = e; reads = λ fronts queries w d. written_reads limit reply bytes fronts queries small w d are }
+
+-- the elements of a vector of bytes are bytes
+pub are_bytes : (bytes : List ℕ) → ((i d : ℕ) → i < length bytes → get_or bytes i d < 256) → AreBytes bytes
+are_bytes bytes h k = elim (cases_lt k (length bytes)) [
+  | inl lt ↦ h k 0 lt
+  | inr le ↦ rw (get_or_past bytes k 0 le) (omega arith)
+]

@@ -1,0 +1,8 @@
+use Rattle.hickory_wire.proofs.WrittenMessage.{message_stands, written_reads}
+use Rattle.hickory_wire.proofs.encoder_laws.what_is_written_is_read.Goals as goal
+
+pub returns-clause-stands : goal.returns-clause-stands
+returns-clause-stands c = λ limit reply bytes fronts queries low w d. message_stands limit reply bytes fronts queries low w d
+
+pub returns-clause-reads : goal.returns-clause-reads
+returns-clause-reads c = λ limit reply bytes fronts queries low a w d. written_reads limit reply bytes fronts queries low w d a

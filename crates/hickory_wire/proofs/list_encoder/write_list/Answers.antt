@@ -1,0 +1,17 @@
+use Rattle.std.proofs.Common.{◌≡◌, None, rules}
+use Rattle.std.specs.Prelude.{Some}
+use Rattle.hickory_wire.specs.declared.error.ProtoError.{ProtoError}
+use Rattle.hickory_wire.proofs.RecordLists.{fault_is, follows_run, follows_stuck}
+use Rattle.hickory_wire.proofs.list_encoder.write_list.Goals as goal
+
+pub returns-then-is_some-clause-written : goal.returns-then-is_some-clause-written
+returns-then-is_some-clause-written g c =
+    let given = c.drain.ensures in
+    let some = fault_is c.args.fault (search rules) in
+    (given.0, given.1, rw (c.nothing.ensures, some.1) (follows_stuck c.args.limit c.args.bytes.now.items given.0 some.0))
+
+pub returns-clause-written : goal.returns-clause-written
+returns-clause-written g c =
+    let w = c.in_ok-run.ensures.written in
+    let none : c.args.fault ≡ None = search rules in
+    (w.0, w.1, rw (c.front_of.ensures, none) (follows_run c.args.limit c.args.bytes.now.items c.write_records.new.bytes.items w.0 c.in_ok-run.run'.count c.in_ok-run.run'.ending w.2))

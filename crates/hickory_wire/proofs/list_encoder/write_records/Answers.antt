@@ -1,0 +1,32 @@
+use Rattle.std.proofs.Common.{◌≡◌, ◌+◌, ◌<◌, ◌≤◌, length, arith, rules, refl}
+use Rattle.hickory_wire.specs.Writing.{Puts}
+use Rattle.hickory_wire.proofs.RecordLists.{nows, nows-more, list_put, list_skips, Puts-longer}
+use Rattle.hickory_wire.proofs.list_encoder.write_records.Goals as goal
+
+pub loop-record-preserved-in-Whole-2 : goal.loop-record-preserved-in-Whole-2
+loop-record-preserved-in-Whole-2 g c =
+    let l = c.loop-record in
+    let put : Puts c.args.limit l.bytes.items c.in-Some.record.now c.write_record.new.bytes.items = rw c.in-Whole-2.is at c.in_ok-other.ensures in
+    let whole = rw c.in-Whole.is at l.invariant.written in
+    let longer = Puts-longer put in
+    record {
+      can = search rules;
+      finite = search rules;
+      header = omega (arith, l.invariant.header, longer);
+      longer = omega (arith, l.invariant.longer, longer);
+      within = put.within;
+      written = rw (nows-more l.yielded c.in-Some.record, c.in-Whole.is)
+          (list_put c.args.limit c.args.bytes.now.items (nows l.yielded) c.in-Some.record.now l.bytes.items l.count c.write_record.new.bytes.items whole put);
+    }
+
+pub loop-record-preserved : goal.loop-record-preserved
+loop-record-preserved g c =
+    let l = c.loop-record in
+    record {
+      can = search rules;
+      finite = search rules;
+      header = l.invariant.header;
+      longer = l.invariant.longer;
+      within = l.invariant.within;
+      written = rw (nows-more l.yielded c.in-Some.record) (list_skips c.args.limit c.args.bytes.now.items (nows l.yielded) c.in-Some.record.now l.bytes.items l.count l.ending c.in_default.not-Whole l.invariant.written);
+    }

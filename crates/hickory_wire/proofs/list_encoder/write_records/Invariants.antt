@@ -1,0 +1,15 @@
+use Rattle.std.proofs.Common.{◌≡◌, ℕ, ◌+◌, ◌≤◌, length}
+use Rattle.hickory_wire.specs.Endings.{seen_ending}
+use Rattle.hickory_wire.specs.Writing.{ListWritten}
+use Rattle.hickory_wire.proofs.RecordLists.{nows}
+use Rattle.hickory_wire.proofs.list_encoder.write_records.Given as goal
+
+abbrev pub invariant-loop-record : goal.invariant-loop-record
+invariant-loop-record g l = record {
+  can : (goal.iterator-loop-record g).can_next l.record-iterator;
+  finite : (goal.iterator-loop-record g).is_finite l.record-iterator;
+  header : 12 ≤ length l.bytes.items;
+  longer : length l.fn.bytes.items + l.count ≤ length l.bytes.items;
+  within : length l.bytes.items ≤ l.limit;
+  written : ListWritten l.limit l.fn.bytes.items (nows l.yielded) l.bytes.items l.count (seen_ending l.ending);
+}

@@ -1,0 +1,27 @@
+use Rattle.std.proofs.Common.{◌≡◌, ◌≢◌, ◌<◌, ◌^◌, List, ℕ, subst, sym, rules}
+use Rattle.hickory_wire.specs.Bytes.{AreBytes}
+use Rattle.hickory_wire.specs.ReplyParts.{reply_of}
+use Rattle.hickory_wire.specs.declared.error.ProtoError.TheVariants.{Memory}
+use Rattle.hickory_wire.proofs.RepliesEncoded.{encoded_written, encoded_fallback, reply_encoded}
+use Rattle.hickory_wire.proofs.message_encoder.encode_message_parts.Goals as goal
+
+pub returns-in-Ok-clause-encoded : goal.returns-in-Ok-clause-encoded
+returns-in-Ok-clause-encoded g c =
+    let w = c.in-Ok.ensures.written in
+    let reply = reply_of c.args.parts w.0 in
+    let bytes = c.write_reply.new.bytes.items in
+    let small : c.args.limit < 2 ^ 16 = search rules in
+    let are : AreBytes bytes = c.in-Ok.ensures.bytes in
+    (w.0, w.1, reply_encoded c.args.limit reply bytes c.in-Ok.header small are (encoded_written c.args.limit reply bytes c.in-Ok.header w.2))
+
+pub returns-in_ok-header-in-Err : goal.returns-in_ok-header-in-Err
+returns-in_ok-header-in-Err g c =
+    let other : c.in-Err.field-0 ≢ Memory = search rules in
+    let w = c.in-Err.ensures.refused other in
+    let f = c.in_ok-header-in-Err.ensures.written in
+    let reply = reply_of c.args.parts w.0 in
+    let bytes = c.write_fallback.new.bytes.items in
+    let header = c.in_ok-header-in-Err.header in
+    let small : c.args.limit < 2 ^ 16 = search rules in
+    let are : AreBytes bytes = c.in_ok-header-in-Err.ensures.bytes in
+    record { encoded = (w.0, w.1, reply_encoded c.args.limit reply bytes header small are (encoded_fallback c.args.limit reply bytes header c.in-Err.field-0 f.0 f.1 w.2)); err = tt }

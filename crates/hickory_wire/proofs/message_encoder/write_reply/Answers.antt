@@ -1,0 +1,68 @@
+use Rattle.std.proofs.Common.{◌≡◌, ◌≢◌, ◌∙◌, ◌+◌, ◌<◌, ◌≤◌, ◌^◌, ◌++◌, inl, inr, List, ℕ, length, drop, replicate, Some, None, ap, subst, sym, arith, rules}
+use Rattle.hickory_wire.specs.Bytes.{AreBytes}
+use Rattle.hickory_wire.specs.HeaderLayout.{header_octets}
+use Rattle.hickory_wire.specs.Decoding.{IsDecodable, decoded_message}
+use Rattle.hickory_wire.specs.MessageReading.{Reads}
+use Rattle.hickory_wire.specs.ReplyParts.{reply_of, fronts_of}
+use Rattle.hickory_wire.specs.ReplyParts.Refused.{too_large, formless}
+use Rattle.hickory_wire.specs.Writing.{Written}
+use Rattle.hickory_wire.specs.declared.error.ProtoError.TheVariants.{MaxSizeExceeded, CharacterDataTooLong, DataTooLong}
+use Rattle.hickory_wire.specs.declared.query.Query.{Query}
+use Rattle.hickory_wire.proofs.WritingFaults.{stuck_kinds}
+use Rattle.hickory_wire.proofs.RepliesEncoded.{are_bytes}
+use Rattle.hickory_wire.proofs.WrittenMessage.{written_reads}
+use Rattle.hickory_wire.proofs.message_encoder.write_reply.Goals as goal
+use Rattle.hickory_wire.proofs.message_encoder.write_reply.Goals.{In_ok-sections}
+
+pub returns-then-not-question_fits-clause-refused : goal.returns-then-not-question_fits-clause-refused
+returns-then-not-question_fits-clause-refused g c =
+    let d = c.drain_lists.ensures in
+    let large : c.args.limit < 12 + length c.args.parts.question.now = search rules in
+    λ _. (d.0, d.1, too_large large)
+
+pub returns-in-Some-clause-too_large : goal.returns-in-Some-clause-too_large
+returns-in-Some-clause-too_large g c =
+    let w = c.in_ok-sections.ensures.written in
+    let kind = stuck_kinds c.in-Some.e w.2.1 c.in-Some.is in
+    let fit : 12 + length c.args.parts.question.now ≤ c.args.limit = search rules in
+    let other : c.in-Some.e ≢ MaxSizeExceeded = elim kind [ inl k ↦ λ h. let e : CharacterDataTooLong ≡ MaxSizeExceeded = sym k ∙ h in cc | inr k ↦ λ h. let e : DataTooLong ≡ MaxSizeExceeded = sym k ∙ h in cc ] in
+    (λ h. absurd (other (cc)), λ large. absurd (omega arith))
+
+pub returns-in-Some-clause-refused : goal.returns-in-Some-clause-refused
+returns-in-Some-clause-refused g c =
+    let w = c.in_ok-sections.ensures.written in
+    let fit : 12 + length c.args.parts.question.now ≤ c.args.limit = search rules in
+    let start : c.extend_from_slice-2.new.self.items ≡ replicate 12 0 ++ c.args.parts.question.now = search rules in
+    λ _. (
+      w.0,
+      w.1,
+      formless (record {
+        body = c.write_lists.new.bytes.items;
+        fronts = w.2.0;
+        fits = fit;
+        lists = rw (sym start, sym c.in-Some.is) w.2.1;
+      }),
+    )
+
+pub returns-clause-written : goal.returns-clause-written
+returns-clause-written g c =
+    let w = c.in_ok-sections.ensures.written in
+    let fit : 12 + length c.args.parts.question.now ≤ c.args.limit = search rules in
+    let start : c.extend_from_slice-2.new.self.items ≡ replicate 12 0 ++ c.args.parts.question.now = search rules in
+    let none : c.in_ok-sections.sections.signature.fault ≡ None = search rules in
+    let fronts = fronts_of c.in_ok-sections.sections in
+    let reply = reply_of c.args.parts w.0 in
+    let bytes = c.put_header.new.bytes.items in
+    let whole : Written c.args.limit reply bytes fronts = record {
+      body = c.write_lists.new.bytes.items;
+      fits = fit;
+      lists = rw (sym start, sym none, sym (w.2.2 none)) w.2.1;
+      is = c.put_header.ensures ∙ ap (λ h. header_octets h ++ drop 12 c.write_lists.new.bytes.items) c.header_of-header.ensures;
+    } in
+    let small : c.args.limit < 2 ^ 16 = search rules in
+    let are : AreBytes bytes = are_bytes bytes c.type_inv.bytes in
+    let back : (queries : List Query) → IsDecodable reply queries → Reads bytes (decoded_message reply queries fronts) = λ queries d. written_reads c.args.limit reply bytes fronts queries small whole d are in
+    (w.0, w.1, record { fronts = fronts; written = whole; header_is = c.header_of-header.ensures; reads = back })
+
+pub returns-clause-bytes : goal.returns-clause-bytes
+returns-clause-bytes g c = are_bytes c.put_header.new.bytes.items c.type_inv.bytes

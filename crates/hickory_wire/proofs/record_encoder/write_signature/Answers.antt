@@ -1,0 +1,12 @@
+use Rattle.std.proofs.Common.{◌≡◌, ◌∙◌, ◌+◌, ◌≤◌, length, rules, arith, ap}
+use Rattle.hickory_wire.specs.DomainName.{name_len}
+use Rattle.hickory_wire.specs.MessageLayout.{tsig_record}
+use Rattle.hickory_wire.proofs.FullForms.{put_parts}
+use Rattle.hickory_wire.proofs.record_encoder.write_signature.Goals as goal
+
+pub returns : goal.returns
+returns c =
+    let fits : length c.args.bytes.now.items + (name_len c.args.signature.now.name.labels + 10 + c.in-Ok.len) ≤ c.args.limit = search rules in
+    put_parts c.args.limit c.args.bytes.now.items c.write_name.new.bytes.items c.write_fixed.new.bytes.items c.write_signature_data.new.bytes.items (tsig_record c.args.signature.now)
+    c.value.result c.value-2.result c.args.signature.now.ttl c.in-Ok.len c.requires.header c.full_name_len.ensures.labels c.signature_len.ensures.names c.in-Ok.ensures.len (search rules)
+    c.in_ok-write_name.ensures c.in_ok-write_fixed.ensures c.in_ok-write_signature_data.ensures (search rules) (search rules) (search rules) fits

@@ -1,0 +1,50 @@
+-- What the answers of the functions that write records and lists of records say.
+use Rattle.std.specs.Prelude.{◌≡◌, ℕ, ◌+◌, ◌<◌, List, [], ◌∷◌, ◌++◌, length, map, Bool, true, false, Option, Some, None}
+use Rattle.std.specs.Borrow.{Bor}
+use Rattle.std.specs.Iterator.{Drains}
+use Rattle.hickory_wire.specs.RecordSize.{full_size, form_fault}
+use Rattle.hickory_wire.specs.Writing as writing
+use Rattle.hickory_wire.specs.Writing.{Puts, ListWritten, ListFront, ListsWritten}
+use Rattle.hickory_wire.specs.declared.error.ProtoError.{ProtoError}
+use Rattle.hickory_wire.specs.declared.list_encoder.Front.{Front}
+use Rattle.hickory_wire.specs.declared.list_encoder.Run.{Run}
+use Rattle.hickory_wire.specs.declared.rdata.RData.{RData}
+use Rattle.hickory_wire.specs.declared.record.Record.{Record}
+use Rattle.hickory_wire.specs.declared.record_encoder.Ending.{Ending}
+use Rattle.hickory_wire.specs.declared.record_encoder.Ending.TheVariants.{Whole, Cut, Stuck}
+
+-- A record is put; or it has a form in bytes, but in full it passes the limit; or it has none. But for the first nothing changes.
+abbrev pub RecordEnds : ℕ → List ℕ → Record RData → List ℕ → Ending → Type 0
+RecordEnds limit old r new Whole = Puts limit old r new
+RecordEnds limit old r new Cut = (new ≡ old) × (form_fault r.rdata ≡ None) × (limit < length old + full_size r)
+RecordEnds limit old r new (Stuck e) = (new ≡ old) × (form_fault r.rdata ≡ Some e)
+
+-- the ending as the relation of what may be written has it
+abbrev pub seen_ending : Ending → writing.Ending
+seen_ending Whole = writing.Ending.whole
+seen_ending Cut = writing.Ending.cut
+seen_ending (Stuck e) = writing.Ending.stuck e
+
+-- The iterator gives these records, one after another, and ends.
+abbrev pub GivesRecords : {S : Type 0} → (S → Option (Bor (Record RData)) → S → Type 0) → S → List (Record RData) → Type 0
+GivesRecords steps it records = (xs : List (Bor (Record RData))) × Drains steps it xs × (map (λ x. x.now) xs ≡ records)
+
+-- what a list of one record that ended so has of it
+abbrev pub count_of_one : Ending → ℕ
+count_of_one Whole = 1
+count_of_one Cut = 0
+count_of_one (Stuck e) = 0
+
+abbrev pub front_of_ending : ℕ → Ending → Front
+front_of_ending count Whole = record { count = count; is_cut = false; fault = None }
+front_of_ending count Cut = record { count = count; is_cut = true; fault = None }
+front_of_ending count (Stuck e) = record { count = count; is_cut = false; fault = Some e }
+
+-- what a run has of a list, where no list before it was stuck
+abbrev pub front_of_run : Run → Front
+front_of_run run = front_of_ending run.count run.ending
+
+-- A list is written behind others, of which one may have been stuck; if so, nothing is written any more.
+abbrev pub ListFollows : ℕ → Option ProtoError → List ℕ → List (Record RData) → List ℕ → Front → Type 0
+ListFollows limit fault old records new front = (lists : List (List (Record RData))) (start : List ℕ) (fronts : List ListFront) → ListsWritten limit lists start old fronts fault
+    → (all : List ListFront) × ListsWritten limit (lists ++ records ∷ []) start new all front.fault × (front.fault ≡ None → (fault ≡ None) × (all ≡ fronts ++ record { count = front.count; is_cut = front.is_cut } ∷ []))

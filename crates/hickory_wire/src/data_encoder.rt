@@ -1,0 +1,222 @@
+//! The data of records in bytes, with every name in full.
+
+ghost use Rattle.std.specs.Prelude.{◌≡◌, ℕ, ◌+◌, ◌<◌, ◌≤◌, ◌++◌, length, OnOk, MatchResult, Some, None, nat_lt};
+ghost use Rattle.std.specs.List.{flat_map, list_any};
+ghost use Rattle.std.specs.Int.{w16, w32, to_be_bytes};
+ghost use Rattle.hickory_wire.specs.DomainName.{name_len, AreLabels};
+ghost use Rattle.hickory_wire.specs.FullForm.{name_octets, soa_octets, tsig_octets, data_octets, HasNames, HasLength};
+ghost use Rattle.hickory_wire.specs.RecordData.{character_string, option_octets, soa_numbers, tsig_fields, type_of};
+ghost use Rattle.hickory_wire.specs.RecordSize.{data_len, form_fault, length_fault};
+ghost use Rattle.hickory_wire.specs.declared.rdata.RData.TheVariants as rdata_form;
+
+use crate::edns::EdnsOption;
+use crate::error::ProtoError;
+use crate::name::Name;
+use crate::octets::Octets;
+use crate::rdata::{RData, SOA};
+use crate::tsig::TSIG;
+use std::alloc::AllocError;
+
+/// How many bytes a name takes in full.
+pub(crate) fn full_name_len(name: &Name) -> u16
+    ensures len { result ≡ name_len name.now.labels }
+    ensures small { result ≤ 255 }
+    ensures labels { AreLabels name.now.labels }
+{
+    name.as_wire().len() as u16 + 1
+}
+
+// The sum of a length and more octets, or `DataTooLong` where it passes a length field of two bytes.
+fn lengthened(len: usize, more: usize) -> Result<usize, ProtoError>
+    ensures { MatchResult result (λ sum. (sum ≡ len + more) × (sum ≤ 65535))
+        (λ e. (e ≡ ProtoError.DataTooLong) × (65535 < len + more)) }
+{
+    if len > 65535 || more > 65535 - len {
+        return Err(ProtoError::DataTooLong);
+    }
+    Ok(len + more)
+}
+
+fn has_long_string(strings: &[Octets]) -> bool
+    ensures { result ≡ list_any (λ text. nat_lt 255 (length text)) strings.now }
+{
+    strings.iter().any(|text| text.len() > 255)
+}
+
+fn strings_len(strings: &[Octets]) -> Result<u16, ProtoError>
+    ensures { HasLength (rdata_form.TXT strings.now) result }
+{
+    if has_long_string(strings) {
+        return Err(ProtoError::CharacterDataTooLong);
+    }
+    let mut len = 0usize;
+    for text in strings {
+        len = lengthened(len + 1, text.len())?;
+    }
+    Ok(len as u16)
+}
+
+pub(crate) fn options_len(options: &[EdnsOption]) -> Result<u16, ProtoError>
+    ensures { HasLength (rdata_form.OPT options.now) result }
+{
+    let mut len = 0usize;
+    for option in options {
+        len = lengthened(len + 4, option.bytes.len())?;
+    }
+    Ok(len as u16)
+}
+
+pub(crate) fn signature_len(signature: &TSIG) -> Result<u16, ProtoError>
+    ensures len { HasLength (rdata_form.TSIG signature.now) result }
+    ensures names { AreLabels signature.now.algorithm.labels }
+{
+    let algorithm_len = usize::from(full_name_len(&signature.algorithm));
+    if signature.time >> 48 != 0 {
+        return Err(ProtoError::DataTooLong);
+    }
+    let len = lengthened(algorithm_len + 16, signature.mac.len())?;
+    let len = lengthened(len, signature.other.len())?;
+    Ok(len as u16)
+}
+
+fn octets_len(octets: &Octets) -> Result<u16, ProtoError>
+    ensures { MatchResult result (λ len. (length_fault (length octets.now) ≡ None) × (len ≡ length octets.now))
+        (λ e. length_fault (length octets.now) ≡ Some e) }
+{
+    let len = lengthened(0, octets.len())?;
+    Ok(len as u16)
+}
+
+fn soa_len(soa: &SOA) -> u16
+    ensures len { result ≡ data_len (rdata_form.SOA soa.now) }
+    ensures small { result ≤ 530 }
+    ensures names { HasNames (rdata_form.SOA soa.now) }
+{
+    full_name_len(&soa.mname) + full_name_len(&soa.rname) + 20
+}
+
+/// How many bytes data take with every name in full, or why they have no form in bytes.
+pub(crate) fn full_data_len(rdata: &RData) -> Result<u16, ProtoError>
+    ensures len { HasLength rdata.now result }
+    ensures names { HasNames rdata.now }
+{
+    match rdata {
+        RData::A(address) => Ok(address.octets().len() as u16),
+        RData::AAAA(address) => Ok(address.octets().len() as u16),
+        RData::NS(name) => Ok(full_name_len(name)),
+        RData::CNAME(name) => Ok(full_name_len(name)),
+        RData::PTR(name) => Ok(full_name_len(name)),
+        RData::MX(mx) => Ok(2 + full_name_len(&mx.exchange)),
+        RData::SOA(soa) => Ok(soa_len(soa.get())),
+        RData::TXT(strings) => strings_len(strings.as_slice()),
+        RData::OPT(options) => options_len(options.as_slice()),
+        RData::TSIG(signature) => signature_len(signature.get()),
+        RData::NULL(octets) => octets_len(octets),
+        RData::Update0(_) => Ok(0),
+        RData::Unknown { bytes, .. } => octets_len(bytes),
+    }
+}
+
+/// Puts a name in full behind the bytes.
+pub(crate) fn write_name(bytes: &mut Vec<u8>, name: &Name) -> Result<(), AllocError>
+    ensures { OnOk result (bytes.new.items ≡ bytes.old.items ++ name_octets name.now.labels) }
+{
+    bytes.extend_from_slice(name.as_wire())?;
+    bytes.push(0)?;
+    Ok(())
+}
+
+fn write_u16(bytes: &mut Vec<u8>, number: u16) -> Result<(), AllocError>
+    ensures { OnOk result (bytes.new.items ≡ bytes.old.items ++ to_be_bytes w16 number) }
+{
+    bytes.extend_from_slice(&number.to_be_bytes())
+}
+
+fn write_u32(bytes: &mut Vec<u8>, number: u32) -> Result<(), AllocError>
+    ensures { OnOk result (bytes.new.items ≡ bytes.old.items ++ to_be_bytes w32 number) }
+{
+    bytes.extend_from_slice(&number.to_be_bytes())
+}
+
+// Octets behind their length of two bytes.
+fn write_counted(bytes: &mut Vec<u8>, octets: &Octets) -> Result<(), AllocError>
+    requires { length octets.now ≤ 65535 }
+    ensures { OnOk result (bytes.new.items ≡ bytes.old.items ++
+        (to_be_bytes w16 (length octets.now) ++ octets.now)) }
+{
+    write_u16(bytes, octets.len() as u16)?;
+    bytes.extend_from_slice(octets.as_slice())
+}
+
+fn write_soa(bytes: &mut Vec<u8>, soa: &SOA) -> Result<(), AllocError>
+    ensures { OnOk result (bytes.new.items ≡ bytes.old.items ++ soa_octets soa.now) }
+{
+    write_name(bytes, &soa.mname)?;
+    write_name(bytes, &soa.rname)?;
+    write_u32(bytes, soa.serial)?;
+    write_u32(bytes, soa.refresh)?;
+    write_u32(bytes, soa.retry)?;
+    write_u32(bytes, soa.expire)?;
+    write_u32(bytes, soa.minimum)
+}
+
+fn write_strings(bytes: &mut Vec<u8>, strings: &[Octets]) -> Result<(), AllocError>
+    requires { form_fault (rdata_form.TXT strings.now) ≡ None }
+    ensures { OnOk result (bytes.new.items ≡ bytes.old.items ++ flat_map character_string strings.now) }
+{
+    for text in strings {
+        bytes.push(text.len() as u8)?;
+        bytes.extend_from_slice(text.as_slice())?;
+    }
+    Ok(())
+}
+
+pub(crate) fn write_options(bytes: &mut Vec<u8>, options: &[EdnsOption]) -> Result<(), AllocError>
+    requires { form_fault (rdata_form.OPT options.now) ≡ None }
+    ensures { OnOk result (bytes.new.items ≡ bytes.old.items ++ flat_map option_octets options.now) }
+{
+    for option in options {
+        write_u16(bytes, option.code)?;
+        write_counted(bytes, &option.bytes)?;
+    }
+    Ok(())
+}
+
+pub(crate) fn write_signature_data(bytes: &mut Vec<u8>, signature: &TSIG) -> Result<(), AllocError>
+    requires { form_fault (rdata_form.TSIG signature.now) ≡ None }
+    ensures { OnOk result (bytes.new.items ≡ bytes.old.items ++ tsig_octets signature.now) }
+{
+    write_name(bytes, &signature.algorithm)?;
+    write_u16(bytes, (signature.time >> 32) as u16)?;
+    write_u32(bytes, (signature.time & 0xffff_ffff) as u32)?;
+    write_u16(bytes, signature.fudge)?;
+    write_counted(bytes, &signature.mac)?;
+    write_u16(bytes, signature.oid)?;
+    write_u16(bytes, signature.error)?;
+    write_counted(bytes, &signature.other)
+}
+
+/// Puts data behind the bytes, with every name in full.
+pub(crate) fn write_data(bytes: &mut Vec<u8>, rdata: &RData) -> Result<(), AllocError>
+    requires { form_fault rdata.now ≡ None }
+    ensures { OnOk result (bytes.new.items ≡ bytes.old.items ++ data_octets rdata.now) }
+{
+    match rdata {
+        RData::A(address) => bytes.extend_from_slice(&address.octets()),
+        RData::AAAA(address) => bytes.extend_from_slice(&address.octets()),
+        RData::NS(name) => write_name(bytes, name),
+        RData::CNAME(name) => write_name(bytes, name),
+        RData::PTR(name) => write_name(bytes, name),
+        RData::MX(mx) => {
+            write_u16(bytes, mx.preference)?;
+            write_name(bytes, &mx.exchange)
+        }
+        RData::SOA(soa) => write_soa(bytes, soa.get()),
+        RData::TXT(strings) => write_strings(bytes, strings.as_slice()),
+        RData::OPT(options) => write_options(bytes, options.as_slice()),
+        RData::TSIG(signature) => write_signature_data(bytes, signature.get()),
+        RData::NULL(octets) => bytes.extend_from_slice(octets.as_slice()),
+        RData::Update0(_) => Ok(()),
+        RData::Unknown { bytes: octets, .. } => bytes.extend_from_slice(octets.as_slice()),
+    }
+}

@@ -1,0 +1,38 @@
+//! Laws of replies that are written, each the contract of a function with nothing to do.
+
+ghost use Rattle.std.specs.Prelude.{ℕ, List, ◌<◌, ◌≤◌, ◌^◌, length, max};
+ghost use Rattle.hickory_wire.specs.Bytes.{AreBytes};
+ghost use Rattle.hickory_wire.specs.Decoding.{IsDecodable, decoded_message};
+ghost use Rattle.hickory_wire.specs.MessageLayout.{MessageAt};
+ghost use Rattle.hickory_wire.specs.MessageReading.{Reads};
+ghost use Rattle.hickory_wire.specs.Reply.{Reply};
+ghost use Rattle.hickory_wire.specs.WholeReply.{FitsWhole, IsWhole};
+ghost use Rattle.hickory_wire.specs.Writing.{Encoded, Fronts, GetsStuck, Written};
+ghost use Rattle.hickory_wire.specs.declared.error.ProtoError.{ProtoError};
+ghost use Rattle.hickory_wire.specs.declared.header.Header.{Header};
+ghost use Rattle.hickory_wire.specs.declared.query.Query.{Query};
+
+/// A reply has at most as many bytes as the limit, and what stands in its place has twelve.
+pub fn what_is_written_keeps_the_limit()
+    ensures written { (limit : ℕ) (reply : Reply) (bytes : List ℕ) (fronts : Fronts) →
+        Written limit reply bytes fronts → length bytes ≤ limit }
+    ensures encoded { (limit : ℕ) (reply : Reply) (bytes : List ℕ) (header : Header) →
+        Encoded limit reply bytes header → length bytes ≤ max limit 12 }
+{}
+
+/// A reply that in full fits the limit, and whose records all have a form in bytes, is written whole, and TC is its own.
+pub fn what_fits_is_whole()
+    ensures whole { (limit : ℕ) (reply : Reply) (bytes : List ℕ) (fronts : Fronts) →
+        FitsWhole limit reply → Written limit reply bytes fronts → IsWhole reply fronts }
+    ensures unstuck { (limit : ℕ) (reply : Reply) (e : ProtoError) → FitsWhole limit reply → GetsStuck limit reply e → ⊥ }
+{}
+
+/// The bytes of a reply are a message: its header, its questions, and what was written of its lists.
+///
+/// The premises: the questions stand in the bytes that are repeated, and the records read back as themselves.
+pub fn what_is_written_is_read()
+    ensures stands { (limit : ℕ) (reply : Reply) (bytes : List ℕ) (fronts : Fronts) (queries : List Query) → limit < 2 ^ 16 →
+        Written limit reply bytes fronts → IsDecodable reply queries → MessageAt bytes (decoded_message reply queries fronts) }
+    ensures reads { (limit : ℕ) (reply : Reply) (bytes : List ℕ) (fronts : Fronts) (queries : List Query) → limit < 2 ^ 16 → AreBytes bytes →
+        Written limit reply bytes fronts → IsDecodable reply queries → Reads bytes (decoded_message reply queries fronts) }
+{}
