@@ -17,7 +17,7 @@ use std::marker::Model;
 
 /// The records that were read of an additional section, with its OPT and its TSIG apart.
 #[derive(Drop)]
-pub(crate) struct Additionals {
+pub struct Additionals {
     pub(crate) records: Items<Record>,
     pub(crate) edns: Option<Edns>,
     pub(crate) signature: Option<Boxed<Record<TSIG>>>,
@@ -47,6 +47,20 @@ impl Additionals {
             edns: None,
             signature: None,
         }
+    }
+
+    /// The records but for OPT and TSIG, what the OPT says, and the TSIG. It needs no memory.
+    pub fn into_parts(self) -> (Items<Record>, Option<Edns>, Option<Boxed<Record<TSIG>>>)
+        ensures records { result.0 ≡ self.records }
+        ensures edns { result.1 ≡ self.edns }
+        ensures signature { result.2 ≡ self.signature }
+    {
+        let Additionals {
+            records,
+            edns,
+            signature,
+        } = self;
+        (records, edns, signature)
     }
 
     /// Puts the next record where its data belong. On an error nothing is promised of what was read before.

@@ -43,6 +43,7 @@ mod response_code;
 mod tsig;
 pub mod worked;
 
+pub use additionals::Additionals;
 pub use boxed::Boxed;
 pub use decoder::BinDecoder;
 pub use dns_class::DNSClass;

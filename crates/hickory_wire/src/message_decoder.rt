@@ -67,8 +67,12 @@ impl<'a> BinDecoder<'a> {
         Ok(next)
     }
 
-    /// The records of an answer or authority section.
-    fn read_section(&mut self, alloc: Global, count: u16) -> Result<Items<Record>, DecodeError>
+    /// So many records of an answer or authority section, one behind the other.
+    ///
+    /// Memory is taken as records are read. Then the place is the one behind the last. An error is the first fault: those
+    /// of a record, or `RecordNotInAdditionals` where an OPT, TSIG or SIG record stands here; or it is `Memory` where memory
+    /// was refused. After an error the place is left open.
+    pub fn read_section(&mut self, alloc: Global, count: u16) -> Result<Items<Record>, DecodeError>
         ensures { Gives (λ records. records) result self.old self.new (items section_record count []) }
     {
         let mut records = Items::new(alloc);
@@ -79,7 +83,17 @@ impl<'a> BinDecoder<'a> {
         Ok(records)
     }
 
-    fn read_additionals(&mut self, alloc: Global, count: u16) -> Result<Additionals, DecodeError>
+    /// So many records of an additional section, with its OPT and its TSIG apart.
+    ///
+    /// Memory is taken as records are read. Then the place is the one behind the last. An error is the first fault: those
+    /// of a record, and then, in this order, `RecordAfterSignature` behind a TSIG record (RFC 8945 section 5.1),
+    /// `EdnsNameNotRoot` and `DuplicateEdns` (RFC 6891 sections 6.1.1 and 6.1.2); or it is `Memory` where memory was refused.
+    /// After an error the place is left open.
+    pub fn read_additionals(
+        &mut self,
+        alloc: Global,
+        count: u16,
+    ) -> Result<Additionals, DecodeError>
         ensures { Gives (λ a. a) result self.old self.new (additionals_after count no_additionals) }
     {
         let mut additionals = Additionals::new(alloc);
