@@ -1,6 +1,6 @@
 -- Two iterators that are chained give the items of both.
-use Rattle.std.proofs.Common.{◌≡◌, ℕ, List, [], ◌∷◌, ◌++◌, Option, None, Bool, true, refl, sym, subst}
-use Rattle.std.specs.Iterator.{Drains, DrainsIf}
+use Rattle.std.proofs.Common.{◌≡◌, List, ◌++◌, Option, true, refl, subst}
+use Rattle.std.specs.Iterator.{Drains}
 use Rattle.std.specs.Iterator.Runs.{Run, SomeRun, EachRunFrom, IsChainRun}
 use Rattle.std.specs.Iterator.Adapters.{chain_steps}
 use Rattle.std.specs.declared.iter.Chain.{Chain}

@@ -1,8 +1,7 @@
 -- The five lists of a reply, written one behind the other.
-use Rattle.std.proofs.Common.{◌≡◌, ℕ, List, [], ◌∷◌, ◌++◌, length, map, Bool, true, false, Option, Some, None, refl, sym, ap, ◌∙◌, subst}
+use Rattle.std.proofs.Common.{◌≡◌, ℕ, List, [], ◌∷◌, ◌++◌, map, Option, None, refl, sym, ap, ◌∙◌}
 use Rattle.std.proofs.lemmas.List.{map-append}
 use Rattle.std.specs.Borrow.{Bor}
-use Rattle.std.specs.Iterator.{Drains}
 use Rattle.std.specs.Iterator.Runs.{SomeRun, EachRunFrom, IsChainRun}
 use Rattle.std.specs.Iterator.Adapters.{chain_steps}
 use Rattle.std.specs.declared.iter.Chain.{Chain}
@@ -10,7 +9,6 @@ use Rattle.hickory_wire.specs.Endings.{GivesRecords, ListFollows}
 use Rattle.hickory_wire.specs.ReplyParts.{seen_front}
 use Rattle.hickory_wire.specs.Writing.{ListFront, ListsWritten}
 use Rattle.hickory_wire.specs.Writing.ListsWritten.{none_left}
-use Rattle.hickory_wire.specs.declared.error.ProtoError.{ProtoError}
 use Rattle.hickory_wire.specs.declared.list_encoder.Front.{Front}
 use Rattle.hickory_wire.specs.declared.rdata.RData.{RData}
 use Rattle.hickory_wire.specs.declared.record.Record.{Record}

@@ -1,26 +1,23 @@
 -- A record written with every name in full stands in its form.
-use Rattle.std.proofs.Common.{◌≡◌, ℕ, suc, ◌+◌, ◌^◌, ◌<◌, ◌≤◌, List, [], ◌∷◌, ◌++◌, length, Option, Some, None, refl, sym, ap, subst, ◌∙◌, arith, length-append}
+use Rattle.std.proofs.Common.{◌≡◌, ℕ, ◌+◌, ◌^◌, ◌<◌, ◌≤◌, List, [], ◌∷◌, ◌++◌, length, None, refl, sym, ap, subst, ◌∙◌, arith, length-append}
 use Rattle.std.proofs.lemmas.List.{append_assoc}
 use Rattle.std.proofs.lemmas.List.Elements.{recursion_from_All}
 use Rattle.std.specs.List.{AllByRecursion}
 use Rattle.std.specs.Int.{w16, w32, to_be_bytes}
-use Rattle.hickory_wire.specs.Bytes.{BytesAt, KeepsFrom}
+use Rattle.hickory_wire.specs.Bytes.{BytesAt}
 use Rattle.hickory_wire.specs.DomainName.{DomainName, IsLabel, AreLabels, wire_form, name_len}
-use Rattle.hickory_wire.specs.FullForm.{name_octets, soa_octets, tsig_octets, data_octets, record_octets, HasNames}
+use Rattle.hickory_wire.specs.FullForm.{name_octets, data_octets, record_octets, HasNames}
 use Rattle.hickory_wire.specs.NameLayout.{LabelsAt, NameAt}
 use Rattle.hickory_wire.specs.NameLayout.LabelsAt.{at_end, at_label}
 use Rattle.hickory_wire.specs.RecordData.{soa_numbers, tsig_fields, type_of}
 use Rattle.hickory_wire.specs.RecordLayout.{OctetsAt, DataAt, FormAt, fixed_fields}
-use Rattle.hickory_wire.specs.RecordSize.{data_len, full_size, form_fault, length_fault}
+use Rattle.hickory_wire.specs.RecordSize.{data_len, full_size, form_fault}
 use Rattle.hickory_wire.specs.Writing.{Puts}
-use Rattle.hickory_wire.specs.declared.error.ProtoError.{ProtoError}
-use Rattle.hickory_wire.specs.declared.error.ProtoError.TheVariants.{CharacterDataTooLong, DataTooLong}
 use Rattle.hickory_wire.specs.declared.rdata.RData.{RData}
 use Rattle.hickory_wire.specs.declared.rdata.RData.TheVariants as rdata
 use Rattle.hickory_wire.specs.declared.record.Record.{Record}
 use Rattle.hickory_wire.proofs.ByteTexts.{BytesAt-left, BytesAt-right}
 use Rattle.hickory_wire.proofs.Stable.{BytesAt-append}
-use Rattle.hickory_wire.proofs.OctetLengths.{fitted}
 
 -- a name in full is as long as it says
 pub name_octets-len : (labels : List (List ℕ)) → length (name_octets labels) ≡ name_len labels

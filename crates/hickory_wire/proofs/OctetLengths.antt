@@ -1,16 +1,12 @@
 -- How long octets are that are made of parts, and steps of the loops over them.
-use Rattle.std.proofs.Common.{◌≡◌, inl, inr, ℕ, ◌+◌, ◌<◌, ◌≤◌, List, [], ◌∷◌, ◌++◌, length, get_or, take, Option, Some, None, Bool, true, false, cond, refl, sym, ap, ◌∙◌, arith, length-append}
+use Rattle.std.proofs.Common.{◌≡◌, inl, inr, ℕ, ◌+◌, ◌<◌, ◌≤◌, List, [], ◌∷◌, ◌++◌, length, get_or, take, Some, None, true, false, refl, sym, ap, ◌∙◌, arith}
 use Rattle.std.specs.Prelude.{nat_lt}
-use Rattle.std.specs.List.{flat_map, list_any}
+use Rattle.std.specs.List.{flat_map}
 use Rattle.std.proofs.lemmas.Bool.{le-ltb, lt-ltb, cases_lt}
 use Rattle.std.proofs.lemmas.List.{take_more, flat_map_more}
-use Rattle.std.proofs.lemmas.List.Folds.{length-flat_map-take, list_any_at}
-use Rattle.hickory_wire.specs.RecordData.{character_string, option_octets, tsig_fields}
-use Rattle.hickory_wire.specs.RecordSize.{length_fault, form_fault, data_len}
-use Rattle.hickory_wire.specs.declared.edns.EdnsOption.{EdnsOption}
-use Rattle.hickory_wire.specs.declared.error.ProtoError.{ProtoError}
+use Rattle.std.proofs.lemmas.List.Folds.{length-flat_map-take}
+use Rattle.hickory_wire.specs.RecordSize.{length_fault}
 use Rattle.hickory_wire.specs.declared.error.ProtoError.TheVariants.{DataTooLong}
-use Rattle.hickory_wire.specs.declared.rdata.RData.TheVariants as rdata
 
 -- a length of 16 bits is no fault, and any other is one
 pub fits : (len : ℕ) → len ≤ 65535 → length_fault len ≡ None

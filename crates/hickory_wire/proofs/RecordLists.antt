@@ -1,12 +1,9 @@
 -- Lists of records that are written record by record.
-use Rattle.std.proofs.Common.{◌≡◌, ◌≢◌, ℕ, suc, ◌+◌, ◌<◌, ◌≤◌, List, [], ◌∷◌, ◌++◌, length, map, take, drop, Bool, true, false, Option, Some, None, refl, sym, ap, ◌∙◌, subst, arith, length-append}
+use Rattle.std.proofs.Common.{◌≡◌, ◌≢◌, ℕ, ◌+◌, ◌<◌, ◌≤◌, List, [], ◌∷◌, ◌++◌, length, map, take, drop, true, false, Option, Some, None, refl, sym, ap, ◌∙◌, subst, arith, length-append}
 use Rattle.std.specs.Prelude.{is_some}
-use Rattle.std.proofs.lemmas.List.{append_assoc, take_all, take-append-le, drop-append-le, drop_at, map-append}
+use Rattle.std.proofs.lemmas.List.{take_all, take-append-le, drop-append-le, drop_at, map-append}
 use Rattle.std.specs.Borrow.{Bor}
-use Rattle.std.specs.Iterator.{Drains}
-use Rattle.hickory_wire.specs.Bytes.{KeepsFrom}
 use Rattle.hickory_wire.specs.Endings.{RecordEnds, seen_ending, count_of_one, front_of_ending, ListFollows}
-use Rattle.hickory_wire.specs.RecordSize.{full_size, form_fault}
 use Rattle.hickory_wire.specs.Writing as writing
 use Rattle.hickory_wire.specs.Writing.{Puts, PutsAll, IsCut, IsStuck, Ends, ListWritten, ListFront, ListsWritten, ending_of}
 use Rattle.hickory_wire.specs.Writing.ListsWritten.{none_left, next_list, stuck_list}

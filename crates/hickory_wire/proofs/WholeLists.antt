@@ -1,11 +1,11 @@
 -- What fits the limit whole is written whole.
-use Rattle.std.proofs.Common.{◌≡◌, ℕ, zero, suc, ◌+◌, ◌<◌, ◌≤◌, List, [], ◌∷◌, ◌++◌, length, map, take, drop, replicate, Bool, true, false, Option, Some, None, refl, sym, ap, ◌∙◌, subst, arith, length-append}
+use Rattle.std.proofs.Common.{◌≡◌, ℕ, zero, suc, ◌+◌, ◌≤◌, List, [], ◌∷◌, ◌++◌, length, map, take, drop, replicate, Bool, true, false, Option, Some, None, refl, sym, ap, ◌∙◌, subst, arith, length-append}
 use Rattle.std.proofs.lemmas.List.{take_all}
 use Rattle.std.proofs.lemmas.List.Sums.{sum_by-cons}
-use Rattle.std.specs.Prelude.{sum_by, ◌||◌}
+use Rattle.std.specs.Prelude.{sum_by}
 use Rattle.std.specs.List.{AllByRecursion}
-use Rattle.hickory_wire.specs.RecordSize.{full_size, form_fault}
-use Rattle.hickory_wire.specs.Reply.{Reply, reply_lists}
+use Rattle.hickory_wire.specs.RecordSize.{full_size}
+use Rattle.hickory_wire.specs.Reply.{Reply}
 use Rattle.hickory_wire.specs.WholeReply.{HasForm, total_size, FitsWhole, IsWhole}
 use Rattle.hickory_wire.specs.Writing as writing
 use Rattle.hickory_wire.specs.Writing.{Puts, PutsAll, ListWritten, ListFront, ListsWritten, Fronts, fronts_list, is_any_cut, ending_of, Written, GetsStuck, asked_bytes}

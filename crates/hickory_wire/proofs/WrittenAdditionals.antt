@@ -1,13 +1,13 @@
 -- The additional section that was written: its records, the OPT and the TSIG.
-use Rattle.std.proofs.Common.{◌≡◌, ◌⊎◌, inl, inr, ℕ, zero, suc, ◌+◌, ◌*◌, ◌/◌, ◌%◌, ◌^◌, ◌<◌, ◌≤◌, List, [], ◌∷◌, ◌++◌, length, map, take, Bool, true, false, eqb, Option, Some, None, refl, sym, ap, ◌∙◌, subst, arith, length-append}
+use Rattle.std.proofs.Common.{◌≡◌, ℕ, zero, suc, ◌+◌, ◌*◌, ◌/◌, ◌%◌, ◌^◌, ◌<◌, ◌≤◌, List, [], ◌∷◌, ◌++◌, length, map, take, Bool, true, false, eqb, Option, Some, None, refl, sym, ap, ◌∙◌, arith}
 use Rattle.std.specs.Prelude.{filter, not, option_map, option_to_list, IfSome, ◌||◌}
 use Rattle.std.specs.List.{AllByRecursion}
-use Rattle.std.proofs.lemmas.List.{append-nil, append_assoc}
+use Rattle.std.proofs.lemmas.List.{append-nil}
 use Rattle.std.proofs.lemmas.List.Elements.{filter-append}
 use Rattle.hickory_wire.specs.Decoding.{without_proof, front_of_option, IsFormedEdns}
 use Rattle.hickory_wire.specs.EdnsFields.{EdnsFields}
 use Rattle.hickory_wire.specs.HeaderLayout.{flag}
-use Rattle.hickory_wire.specs.MessageLayout.{ItemsAt, IsSectionRecord, is_opt, is_tsig, HasEdns, SaysEdns, AdditionalSection, tsig_record}
+use Rattle.hickory_wire.specs.MessageLayout.{ItemsAt, IsSectionRecord, is_opt, is_tsig, HasEdns, AdditionalSection, tsig_record}
 use Rattle.hickory_wire.specs.RecordData.{type_of}
 use Rattle.hickory_wire.specs.RecordLayout.{FormAt, RecordAt, IsFormedRecord}
 use Rattle.hickory_wire.specs.Reply.{opt_record}

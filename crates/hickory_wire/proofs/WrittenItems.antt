@@ -1,7 +1,7 @@
 -- Records that were put stand one behind the other, and as they are read.
-use Rattle.std.proofs.Common.{◌≡◌, ℕ, zero, suc, ◌+◌, ◌<◌, ◌≤◌, List, [], ◌∷◌, ◌++◌, length, map, take, Bool, true, false, refl, sym, ap, ◌∙◌, subst, arith, length-append}
+use Rattle.std.proofs.Common.{ℕ, zero, suc, ◌+◌, ◌≤◌, List, [], ◌∷◌, ◌++◌, length, map, take, sym, ap, subst, arith}
 use Rattle.std.specs.List.{AllByRecursion}
-use Rattle.hickory_wire.specs.Bytes.{BytesAt, KeepsFrom}
+use Rattle.hickory_wire.specs.Bytes.{KeepsFrom}
 use Rattle.hickory_wire.specs.Decoding.{without_proof, IsReadable}
 use Rattle.hickory_wire.specs.MessageLayout.{ItemsAt, IsSectionRecord, QuestionRead}
 use Rattle.hickory_wire.specs.QuestionLayout.{QuestionAt, IsFormedQuestion}

@@ -1,19 +1,17 @@
 -- A reply that was written reads back as its header, its questions and what was written of its lists.
-use Rattle.std.proofs.Common.{◌≡◌, ℕ, zero, suc, ◌+◌, ◌-◌, ◌%◌, ◌^◌, ◌<◌, ◌≤◌, List, [], ◌∷◌, ◌++◌, length, map, take, drop, replicate, get_or, Bool, true, false, Option, Some, None, refl, sym, ap, ◌∙◌, subst, arith, length-append, zero-add}
+use Rattle.std.proofs.Common.{◌≡◌, ℕ, ◌+◌, ◌-◌, ◌%◌, ◌^◌, ◌<◌, ◌≤◌, List, [], ◌∷◌, ◌++◌, length, map, take, drop, replicate, get_or, None, refl, sym, ap, ◌∙◌, subst, arith, length-append, zero-add}
 use Rattle.std.specs.Prelude.{option_map, option_to_list}
 use Rattle.std.proofs.lemmas.List.{length-take, length-drop, length-map, get_or-append_right, get_or_append_left, get_or-drop}
 use Rattle.hickory_wire.specs.Bytes.{BytesAt, KeepsFrom, AreBytes}
-use Rattle.hickory_wire.specs.Decoding.{without_proof, front_of_option, IsReadable, IsDecodable, decoded_message}
-use Rattle.hickory_wire.specs.HeaderLayout.{HeaderAt, AreCounts, header_octets}
-use Rattle.hickory_wire.specs.MessageLayout.{ItemsAt, MessageAt, tsig_record}
+use Rattle.hickory_wire.specs.Decoding.{without_proof, front_of_option, IsDecodable, decoded_message}
+use Rattle.hickory_wire.specs.HeaderLayout.{header_octets}
+use Rattle.hickory_wire.specs.MessageLayout.{MessageAt, tsig_record}
 use Rattle.hickory_wire.specs.MessageReading.{Reads}
-use Rattle.hickory_wire.specs.QuestionLayout.{QuestionAt}
-use Rattle.hickory_wire.specs.RecordLayout.{FormAt, RecordAt}
-use Rattle.hickory_wire.specs.Reply.{Reply, reply_lists, opt_record}
+use Rattle.hickory_wire.specs.RecordLayout.{RecordAt}
+use Rattle.hickory_wire.specs.Reply.{Reply, opt_record}
 use Rattle.hickory_wire.specs.Writing as writing
 use Rattle.hickory_wire.specs.Writing.{PutsAll, ListWritten, ListFront, ListsWritten, Fronts, fronts_list, ending_of, Written, asked_bytes, written_header}
 use Rattle.hickory_wire.specs.Writing.ListsWritten.{none_left, next_list, stuck_list}
-use Rattle.hickory_wire.specs.declared.error.ProtoError.{ProtoError}
 use Rattle.hickory_wire.specs.declared.query.Query.{Query}
 use Rattle.hickory_wire.specs.declared.rdata.RData.{RData}
 use Rattle.hickory_wire.specs.declared.record.Record.{Record}

@@ -1,9 +1,9 @@
 -- What is written keeps the limit.
-use Rattle.std.proofs.Common.{◌≡◌, ℕ, ◌+◌, ◌<◌, ◌≤◌, List, [], ◌∷◌, ◌++◌, length, take, drop, max, replicate, Option, Some, None, refl, sym, ap, ◌∙◌, subst, arith, length-append}
+use Rattle.std.proofs.Common.{◌≡◌, ℕ, ◌+◌, ◌≤◌, List, ◌++◌, length, take, drop, max, replicate, Option, ap, arith, length-append}
 use Rattle.std.proofs.lemmas.List.{length-drop}
 use Rattle.hickory_wire.specs.HeaderLayout.{header_octets}
 use Rattle.hickory_wire.specs.Reply.{Reply}
-use Rattle.hickory_wire.specs.Writing.{ListFront, ListsWritten, Fronts, Written, Encoded, fallback_header, written_header}
+use Rattle.hickory_wire.specs.Writing.{ListFront, ListsWritten, Fronts, Written, Encoded, written_header}
 use Rattle.hickory_wire.specs.Writing.Encoded.{written, too_large, formless}
 use Rattle.hickory_wire.specs.Writing.ListsWritten.{none_left, next_list, stuck_list}
 use Rattle.hickory_wire.specs.declared.error.ProtoError.{ProtoError}

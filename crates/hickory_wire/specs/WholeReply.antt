@@ -1,5 +1,5 @@
 -- Replies that fit the limit whole.
-use Rattle.std.specs.Prelude.{◌≡◌, ℕ, ◌+◌, ◌≤◌, List, length, map, sum_by, Bool, false, None}
+use Rattle.std.specs.Prelude.{◌≡◌, ℕ, ◌+◌, ◌≤◌, List, length, map, sum_by, false, None}
 use Rattle.std.specs.List.{AllByRecursion}
 use Rattle.hickory_wire.specs.RecordSize.{full_size, form_fault}
 use Rattle.hickory_wire.specs.Reply.{Reply, reply_lists}

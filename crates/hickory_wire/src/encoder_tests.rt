@@ -5,34 +5,71 @@ use crate::{
 };
 use std::alloc::{AllocError, Global};
 use std::net::{Ipv4Addr, Ipv6Addr};
-use std::slice::Iter;
 use std::test::Fail;
 
 /// The question for the addresses of www.example.com.
 const WWW: [u8; 21] = *b"\x03www\x07example\x03com\x00\x00\x01\x00\x01";
 
-type Parts<'a> = ReplyParts<
-    'a,
-    Iter<'a, Record>,
-    Iter<'a, Record>,
-    Iter<'a, Record>,
-    Iter<'a, Record>,
->;
+fn response(id: u16) -> Metadata {
+    Metadata::new(id, MessageType::Response, OpCode::QUERY)
+}
 
-/// A reply of this id and these answers, with nothing else.
-fn reply<'a>(id: u16, answers: &'a [Record]) -> Parts<'a> {
-    let nothing: &'a [Record] = &[];
-    ReplyParts {
-        metadata: Metadata::new(id, MessageType::Response, OpCode::QUERY),
+/// What is written of a reply under a limit, and its header.
+fn written(
+    alloc: Global,
+    limit: u16,
+    metadata: Metadata,
+    question: &[u8],
+    answers: &[Record],
+    authorities: &[Record],
+) -> Result<(Header, Vec<u8>), ProtoError> {
+    let nothing: &[Record] = &[];
+    let mut bytes = Vec::from_slice(alloc, b"old")?;
+    let mut encoder = BinEncoder::new(alloc, &mut bytes);
+    encoder.set_max_size(limit);
+    let parts = ReplyParts {
+        metadata,
+        question,
+        question_count: u16::from(!question.is_empty()),
+        edns: None,
+        answers: answers.iter(),
+        authorities: authorities.iter(),
+        soa: nothing.iter(),
+        additionals: nothing.iter(),
+        signature: None,
+    };
+    let header = emit_message_parts(&mut encoder, parts)?;
+    Ok((header, bytes))
+}
+
+fn refusal(alloc: Global, limit: u16, question: &[u8], answers: &[Record]) -> Option<ProtoError> {
+    match written(alloc, limit, response(1), question, answers, &[]) {
+        Ok(_) => None,
+        Err(e) => Some(e),
+    }
+}
+
+/// What a reply is encoded as, and its header.
+fn encoded(
+    alloc: Global,
+    metadata: Metadata,
+    answers: &[Record],
+    edns: Option<&Edns>,
+    signature: Option<&Record<TSIG>>,
+) -> Result<(Header, Vec<u8>), ProtoError> {
+    let nothing: &[Record] = &[];
+    let parts = ReplyParts {
+        metadata,
         question: &[],
         question_count: 0,
-        edns: None,
+        edns,
         answers: answers.iter(),
         authorities: nothing.iter(),
         soa: nothing.iter(),
         additionals: nothing.iter(),
-        signature: None,
-    }
+        signature,
+    };
+    encode_message_parts(alloc, 512, parts)
 }
 
 fn record(alloc: Global, owner: &str, rdata: RData) -> Result<Record, Fail> {
@@ -53,32 +90,14 @@ fn address(alloc: Global) -> Result<Record, Fail> {
     )
 }
 
-/// What was written under a limit, and its header.
-fn written(alloc: Global, limit: u16, parts: Parts<'_>) -> Result<(Header, Vec<u8>), ProtoError> {
-    let mut bytes = Vec::from_slice(alloc, b"old")?;
-    let mut encoder = BinEncoder::new(alloc, &mut bytes);
-    encoder.set_max_size(limit);
-    let header = emit_message_parts(&mut encoder, parts)?;
-    Ok((header, bytes))
-}
-
-fn refusal(alloc: Global, limit: u16, parts: Parts<'_>) -> Option<ProtoError> {
-    match written(alloc, limit, parts) {
-        Ok(_) => None,
-        Err(e) => Some(e),
-    }
-}
-
 #[test]
 fn an_answer_is_written(rt: HostRuntime) -> Result<(), Fail> {
     let alloc = rt.alloc();
     let answers = [address(alloc)?];
-    let mut parts = reply(0x1234, &answers);
-    parts.metadata.authoritative = true;
-    parts.metadata.recursion_desired = true;
-    parts.question = &WWW;
-    parts.question_count = 1;
-    let (header, bytes) = written(alloc, 512, parts)?;
+    let mut metadata = response(0x1234);
+    metadata.authoritative = true;
+    metadata.recursion_desired = true;
+    let (header, bytes) = written(alloc, 512, metadata, &WWW, &answers, &[])?;
     assert_eq!(rt;
         bytes.as_slice(),
         b"\x12\x34\x85\x00\x00\x01\x00\x01\x00\x00\x00\x00\x03www\x07example\x03com\x00\x00\x01\x00\x01\x03www\x07example\x03com\x00\x00\x01\x00\x01\x00\x00\x0e\x10\x00\x04\x5d\xb8\xd7\x0e".as_slice()
@@ -94,7 +113,7 @@ fn a_record_of_class_none_is_written(rt: HostRuntime) -> Result<(), Fail> {
     answer.dns_class = DNSClass::NONE;
     answer.ttl = 0;
     let answers = [answer];
-    let (_, bytes) = written(alloc, 512, reply(10, &answers))?;
+    let (_, bytes) = written(alloc, 512, response(10), &[], &answers, &[])?;
     assert_eq!(rt;
         bytes.as_slice(),
         b"\x00\x0a\x80\x00\x00\x00\x00\x01\x00\x00\x00\x00\x03www\x07example\x03com\x00\x00\x01\x00\xfe\x00\x00\x00\x00\x00\x04\x5d\xb8\xd7\x0e".as_slice()
@@ -105,14 +124,12 @@ fn a_record_of_class_none_is_written(rt: HostRuntime) -> Result<(), Fail> {
 #[test]
 fn lists_are_cut_at_the_limit(rt: HostRuntime) -> Result<(), Fail> {
     let alloc = rt.alloc();
-    let mut answers = Vec::new(alloc);
-    for _ in 0..100u8 {
-        answers.push(address(alloc)?)?;
+    let mut records = Vec::new(alloc);
+    for _ in 0..101u8 {
+        records.push(address(alloc)?)?;
     }
-    let authorities = [address(alloc)?];
-    let mut parts = reply(10, answers.as_slice());
-    parts.authorities = authorities.iter();
-    let (header, bytes) = written(alloc, 512, parts)?;
+    let (authorities, answers) = records.as_slice().split_at(records.len().min(1));
+    let (header, bytes) = written(alloc, 512, response(10), &[], answers, authorities)?;
     assert_eq!(rt; bytes.len(), 508);
     assert!(rt; header.metadata.truncation);
     assert_eq!(rt; (header.counts.answers, header.counts.authorities), (16, 0));
@@ -123,17 +140,11 @@ fn lists_are_cut_at_the_limit(rt: HostRuntime) -> Result<(), Fail> {
 fn header_and_questions_have_to_fit(rt: HostRuntime) -> Result<(), Fail> {
     let alloc = rt.alloc();
     let answers = [address(alloc)?];
-    assert_eq!(rt;
-        refusal(alloc, 11, reply(1, &[])),
-        Some(ProtoError::MaxSizeExceeded)
-    );
-    assert_eq!(rt; refusal(alloc, 12, reply(1, &[])), None);
-    for (limit, error) in [(32, Some(ProtoError::MaxSizeExceeded)), (33, None)] {
-        let mut parts = reply(1, &answers);
-        parts.question = &WWW;
-        parts.question_count = 1;
-        assert_eq!(rt; refusal(alloc, limit, parts), error, "at {limit}");
-    }
+    let too_large = Some(ProtoError::MaxSizeExceeded);
+    assert_eq!(rt; refusal(alloc, 11, &[], &answers), too_large);
+    assert_eq!(rt; refusal(alloc, 12, &[], &answers), None);
+    assert_eq!(rt; refusal(alloc, 32, &WWW, &answers), too_large);
+    assert_eq!(rt; refusal(alloc, 33, &WWW, &answers), None);
     Ok(())
 }
 
@@ -143,14 +154,10 @@ fn a_long_string_has_no_form_even_where_it_does_not_fit(rt: HostRuntime) -> Resu
     let mut strings = Items::new(alloc);
     strings.push(Octets::from_slice(alloc, &[b'a'; 256])?)?;
     let answers = [record(alloc, "a.", RData::TXT(strings))?];
-    for limit in [512, 20] {
-        assert_eq!(rt;
-            refusal(alloc, limit, reply(1, &answers)),
-            Some(ProtoError::CharacterDataTooLong),
-            "at {limit}"
-        );
-    }
-    let (header, bytes) = encode_message_parts(alloc, 512, reply(7, &answers))?;
+    let too_long = Some(ProtoError::CharacterDataTooLong);
+    assert_eq!(rt; refusal(alloc, 512, &[], &answers), too_long);
+    assert_eq!(rt; refusal(alloc, 20, &[], &answers), too_long);
+    let (header, bytes) = encoded(alloc, response(7), &answers, None, None)?;
     assert_eq!(rt;
         bytes.as_slice(),
         b"\x00\x07\x80\x02\x00\x00\x00\x00\x00\x00\x00\x00".as_slice()
@@ -165,24 +172,28 @@ fn the_opt_has_the_high_code(rt: HostRuntime) -> Result<(), Fail> {
     let mut edns = Edns::new(alloc);
     edns.set_rcode_high(1);
     edns.set_dnssec_ok(true);
-    let mut parts = reply(8, &[]);
-    parts.metadata.response_code = ResponseCode::BAD_VERS;
-    parts.edns = Some(&edns);
-    let (_, bytes) = encode_message_parts(alloc, 512, parts)?;
+    let mut metadata = response(8);
+    metadata.response_code = ResponseCode::BAD_VERS;
+    let (_, bytes) = encoded(alloc, metadata, &[], Some(&edns), None)?;
     assert_eq!(rt;
         bytes.as_slice(),
         b"\x00\x08\x80\x00\x00\x00\x00\x00\x00\x00\x00\x01\x00\x00\x29\x02\x00\x01\x00\x80\x00\x00\x00".as_slice()
     );
+    Ok(())
+}
+
+#[test]
+fn the_opt_has_its_options(rt: HostRuntime) -> Result<(), Fail> {
+    let alloc = rt.alloc();
+    let mut edns = Edns::new(alloc);
     edns.push_option(EdnsOption {
         code: EdnsOption::NSID,
         bytes: Octets::from_slice(alloc, b"ns1")?,
     })?;
-    let mut parts = reply(8, &[]);
-    parts.edns = Some(&edns);
-    let (_, bytes) = encode_message_parts(alloc, 512, parts)?;
+    let (_, bytes) = encoded(alloc, response(8), &[], Some(&edns), None)?;
     assert_eq!(rt;
         bytes.as_slice(),
-        b"\x00\x08\x80\x00\x00\x00\x00\x00\x00\x00\x00\x01\x00\x00\x29\x02\x00\x01\x00\x80\x00\x00\x07\x00\x03\x00\x03ns1".as_slice()
+        b"\x00\x08\x80\x00\x00\x00\x00\x00\x00\x00\x00\x01\x00\x00\x29\x02\x00\x00\x00\x00\x00\x00\x07\x00\x03\x00\x03ns1".as_slice()
     );
     Ok(())
 }
@@ -205,15 +216,31 @@ fn a_signature_stands_last(rt: HostRuntime) -> Result<(), Fail> {
         },
         proof: Proof::Indeterminate,
     };
-    let mut parts = reply(9, &[]);
-    parts.metadata.message_type = MessageType::Query;
-    parts.signature = Some(&signature);
-    let (_, bytes) = written(alloc, 512, parts)?;
+    let metadata = Metadata::new(9, MessageType::Query, OpCode::QUERY);
+    let (_, bytes) = encoded(alloc, metadata, &[], None, Some(&signature))?;
     assert_eq!(rt;
         bytes.as_slice(),
         b"\x00\x09\x00\x00\x00\x00\x00\x00\x00\x00\x00\x01\x00\x00\xfa\x00\xff\x00\x00\x00\x00\x00\x14\x00\x00\x00\x00\x00\x00\x09\x01\x2c\x00\x03\x01\x02\x03\x00\x09\x00\x00\x00\x00".as_slice()
     );
     Ok(())
+}
+
+/// The only record of a reply, of owner name a. and class IN, behind the header.
+fn record_bytes(alloc: Global, rdata: RData) -> Result<Vec<u8>, Fail> {
+    let answers = [record(alloc, "a.", rdata)?];
+    let (_, bytes) = written(alloc, 512, response(1), &[], &answers, &[])?;
+    Ok(bytes.iter().skip(12).copied().collect(alloc)?)
+}
+
+fn name(alloc: Global) -> Result<Name, Fail> {
+    Ok(Name::from_ascii(alloc, "b.")?)
+}
+
+fn text(alloc: Global) -> Result<RData, AllocError> {
+    let mut strings = Items::new(alloc);
+    strings.push(Octets::from_slice(alloc, b"ab")?)?;
+    strings.push(Octets::from_slice(alloc, b"c")?)?;
+    Ok(RData::TXT(strings))
 }
 
 fn zone_start(alloc: Global) -> Result<RData, Fail> {
@@ -229,71 +256,58 @@ fn zone_start(alloc: Global) -> Result<RData, Fail> {
     Ok(RData::SOA(Boxed::new(alloc, soa)?))
 }
 
-fn text(alloc: Global) -> Result<RData, AllocError> {
-    let mut strings = Items::new(alloc);
-    strings.push(Octets::from_slice(alloc, b"ab")?)?;
-    strings.push(Octets::from_slice(alloc, b"c")?)?;
-    Ok(RData::TXT(strings))
-}
-
-/// The data of the only record of a reply: what stands behind the header, the owner name a. and the fixed fields.
-fn data_of(alloc: Global, rdata: RData) -> Result<Vec<u8>, Fail> {
-    let answers = [record(alloc, "a.", rdata)?];
-    let (_, mut bytes) = written(alloc, 512, reply(1, &answers))?;
-    bytes.rotate_left(25.min(bytes.len()));
-    bytes.truncate(bytes.len().saturating_sub(25));
-    Ok(bytes)
+#[test]
+fn addresses_and_names_are_written(rt: HostRuntime) -> Result<(), Fail> {
+    let alloc = rt.alloc();
+    let address = RData::AAAA(Ipv6Addr::new(0x2001, 0xdb8, 0, 0, 0, 0, 0, 1));
+    let bytes = record_bytes(alloc, address)?;
+    assert_eq!(rt;
+        bytes.as_slice(),
+        b"\x01a\x00\x00\x1c\x00\x01\x00\x00\x0e\x10\x00\x10\x20\x01\x0d\xb8\x00\x00\x00\x00\x00\x00\x00\x00\x00\x00\x00\x01".as_slice()
+    );
+    let bytes = record_bytes(alloc, RData::NS(name(alloc)?))?;
+    assert_eq!(rt;
+        bytes.as_slice(),
+        b"\x01a\x00\x00\x02\x00\x01\x00\x00\x0e\x10\x00\x03\x01b\x00".as_slice()
+    );
+    let mx = MX {
+        preference: 10,
+        exchange: name(alloc)?,
+    };
+    let bytes = record_bytes(alloc, RData::MX(mx))?;
+    assert_eq!(rt;
+        bytes.as_slice(),
+        b"\x01a\x00\x00\x0f\x00\x01\x00\x00\x0e\x10\x00\x05\x00\x0a\x01b\x00".as_slice()
+    );
+    Ok(())
 }
 
 #[test]
-fn data_have_the_form_of_their_type(rt: HostRuntime) -> Result<(), Fail> {
+fn texts_zone_starts_and_octets_are_written(rt: HostRuntime) -> Result<(), Fail> {
     let alloc = rt.alloc();
-    let name = || Name::from_ascii(alloc, "b.");
+    let bytes = record_bytes(alloc, zone_start(alloc)?)?;
     assert_eq!(rt;
-        data_of(
-            alloc,
-            RData::AAAA(Ipv6Addr::new(0x2001, 0xdb8, 0, 0, 0, 0, 0, 1))
-        )?
-        .as_slice(),
-        b"\x20\x01\x0d\xb8\x00\x00\x00\x00\x00\x00\x00\x00\x00\x00\x00\x01".as_slice()
+        bytes.as_slice(),
+        b"\x01a\x00\x00\x06\x00\x01\x00\x00\x0e\x10\x00\x1a\x01a\x00\x01b\x00\x00\x00\x00\x01\x00\x00\x00\x02\x00\x00\x00\x03\x00\x00\x00\x04\x00\x00\x00\x05".as_slice()
     );
+    let bytes = record_bytes(alloc, text(alloc)?)?;
     assert_eq!(rt;
-        data_of(alloc, RData::NS(name()?))?.as_slice(),
-        b"\x01b\x00".as_slice()
+        bytes.as_slice(),
+        b"\x01a\x00\x00\x10\x00\x01\x00\x00\x0e\x10\x00\x05\x02ab\x01c".as_slice()
     );
+    let unknown = RData::Unknown {
+        code: RecordType::DS,
+        bytes: Octets::from_slice(alloc, b"xyz")?,
+    };
+    let bytes = record_bytes(alloc, unknown)?;
     assert_eq!(rt;
-        data_of(
-            alloc,
-            RData::MX(MX {
-                preference: 10,
-                exchange: name()?
-            })
-        )?
-        .as_slice(),
-        b"\x00\x0a\x01b\x00".as_slice()
+        bytes.as_slice(),
+        b"\x01a\x00\x00\x2b\x00\x01\x00\x00\x0e\x10\x00\x03xyz".as_slice()
     );
+    let bytes = record_bytes(alloc, RData::Update0(RecordType::ANY))?;
     assert_eq!(rt;
-        data_of(alloc, zone_start(alloc)?)?.as_slice(),
-        b"\x01a\x00\x01b\x00\x00\x00\x00\x01\x00\x00\x00\x02\x00\x00\x00\x03\x00\x00\x00\x04\x00\x00\x00\x05".as_slice()
-    );
-    assert_eq!(rt;
-        data_of(alloc, text(alloc)?)?.as_slice(),
-        b"\x02ab\x01c".as_slice()
-    );
-    assert_eq!(rt;
-        data_of(
-            alloc,
-            RData::Unknown {
-                code: RecordType::DS,
-                bytes: Octets::from_slice(alloc, b"xyz")?
-            }
-        )?
-        .as_slice(),
-        b"xyz".as_slice()
-    );
-    assert_eq!(rt;
-        data_of(alloc, RData::Update0(RecordType::ANY))?.as_slice(),
-        b"".as_slice()
+        bytes.as_slice(),
+        b"\x01a\x00\x00\xff\x00\x01\x00\x00\x0e\x10\x00\x00".as_slice()
     );
     Ok(())
 }

@@ -1,5 +1,4 @@
-use Rattle.std.proofs.Common.{◌≡◌, ◌+◌, ◌<◌, ℕ, List, length, arith, rules}
-use Rattle.std.specs.List.{flat_map}
+use Rattle.std.proofs.Common.{arith}
 use Rattle.hickory_wire.specs.RecordData.{option_octets}
 use Rattle.hickory_wire.proofs.OctetLengths.{flat_map-front, fitted}
 use Rattle.hickory_wire.proofs.data_encoder.write_options.Goals as goal

@@ -1,8 +1,7 @@
-use Rattle.std.proofs.Common.{arith, refl, ◌≡◌, ◌∙◌, ap, ◌++◌, ◌∷◌, [], ◌<◌, length, take, drop, true, false, rules}
+use Rattle.std.proofs.Common.{arith, refl, ◌≡◌, ◌∙◌, ap, ◌++◌, ◌∷◌, [], ◌<◌, length}
 use Rattle.std.proofs.lemmas.Bool.Decides.{nat_tests}
-use Rattle.hickory_wire.specs.OptionReading.{option_code, option_len, ends_early}
 use Rattle.hickory_wire.specs.declared.edns.EdnsOption.{EdnsOption}
-use Rattle.hickory_wire.proofs.OptionsRead.{with_options, front_option, behind_option, options_end_early, options_go_on, options_still_fit, collected, malformed}
+use Rattle.hickory_wire.proofs.OptionsRead.{front_option, options_end_early, options_go_on, options_still_fit, collected, malformed}
 use Rattle.hickory_wire.proofs.edns_options.options_of.Goals as goal
 
 pub returns-in_default : goal.returns-in_default

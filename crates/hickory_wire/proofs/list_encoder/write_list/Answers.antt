@@ -1,6 +1,4 @@
 use Rattle.std.proofs.Common.{◌≡◌, None, rules}
-use Rattle.std.specs.Prelude.{Some}
-use Rattle.hickory_wire.specs.declared.error.ProtoError.{ProtoError}
 use Rattle.hickory_wire.proofs.RecordLists.{fault_is, follows_run, follows_stuck}
 use Rattle.hickory_wire.proofs.list_encoder.write_list.Goals as goal
 

@@ -1,6 +1,6 @@
 use Rattle.std.proofs.Common.{◌≡◌, None, rules}
 use Rattle.hickory_wire.specs.MessageLayout.{tsig_record}
-use Rattle.hickory_wire.proofs.RecordLists.{fault_is, follows_none, follows_one, follows_stuck, ends_room}
+use Rattle.hickory_wire.proofs.RecordLists.{fault_is, follows_none, follows_one, follows_stuck}
 use Rattle.hickory_wire.proofs.list_encoder.write_optional_signature.Goals as goal
 
 pub returns-then-is_some-clause-written : goal.returns-then-is_some-clause-written

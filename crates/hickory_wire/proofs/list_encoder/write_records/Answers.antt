@@ -1,4 +1,4 @@
-use Rattle.std.proofs.Common.{◌≡◌, ◌+◌, ◌<◌, ◌≤◌, length, arith, rules, refl}
+use Rattle.std.proofs.Common.{arith, rules}
 use Rattle.hickory_wire.specs.Writing.{Puts}
 use Rattle.hickory_wire.proofs.RecordLists.{nows, nows-more, list_put, list_skips, Puts-longer}
 use Rattle.hickory_wire.proofs.list_encoder.write_records.Goals as goal

@@ -1,4 +1,4 @@
-use Rattle.std.proofs.Common.{◌≡◌, ℕ, ◌+◌, ◌≤◌, length}
+use Rattle.std.proofs.Common.{◌+◌, ◌≤◌, length}
 use Rattle.hickory_wire.specs.Endings.{seen_ending}
 use Rattle.hickory_wire.specs.Writing.{ListWritten}
 use Rattle.hickory_wire.proofs.RecordLists.{nows}

@@ -1,4 +1,4 @@
-use Rattle.std.proofs.Common.{◌≡◌, ◌≢◌, ◌<◌, ◌^◌, List, ℕ, subst, sym, rules}
+use Rattle.std.proofs.Common.{◌≢◌, ◌<◌, ◌^◌, rules}
 use Rattle.hickory_wire.specs.Bytes.{AreBytes}
 use Rattle.hickory_wire.specs.ReplyParts.{reply_of}
 use Rattle.hickory_wire.specs.declared.error.ProtoError.TheVariants.{Memory}

@@ -1,4 +1,4 @@
-use Rattle.std.proofs.Common.{◌≡◌, ◌++◌, List, ℕ, subst, rules}
+use Rattle.std.proofs.Common.{◌≡◌, ◌++◌, List, subst, rules}
 use Rattle.std.specs.Iterator.Adapters.{chain_second}
 use Rattle.hickory_wire.specs.Endings.{GivesRecords, ListFollows}
 use Rattle.hickory_wire.specs.declared.rdata.RData.{RData}

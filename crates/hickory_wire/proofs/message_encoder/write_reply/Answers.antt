@@ -1,4 +1,4 @@
-use Rattle.std.proofs.Common.{◌≡◌, ◌≢◌, ◌∙◌, ◌+◌, ◌<◌, ◌≤◌, ◌^◌, ◌++◌, inl, inr, List, ℕ, length, drop, replicate, Some, None, ap, subst, sym, arith, rules}
+use Rattle.std.proofs.Common.{◌≡◌, ◌≢◌, ◌∙◌, ◌+◌, ◌<◌, ◌≤◌, ◌^◌, ◌++◌, inl, inr, List, length, drop, replicate, None, ap, sym, arith, rules}
 use Rattle.hickory_wire.specs.Bytes.{AreBytes}
 use Rattle.hickory_wire.specs.HeaderLayout.{header_octets}
 use Rattle.hickory_wire.specs.Decoding.{IsDecodable, decoded_message}

@@ -1,5 +1,4 @@
-use Rattle.std.proofs.Common.{◌≡◌, ◌∙◌, ◌+◌, ◌≤◌, ◌++◌, [], length, rules, arith, ap}
-use Rattle.hickory_wire.specs.DomainName.{name_len}
+use Rattle.std.proofs.Common.{◌≡◌, ◌+◌, ◌≤◌, ◌++◌, [], length, rules}
 use Rattle.hickory_wire.specs.FullForm.{name_octets}
 use Rattle.hickory_wire.specs.Reply.{opt_record}
 use Rattle.hickory_wire.proofs.WireForm.{no_labels}

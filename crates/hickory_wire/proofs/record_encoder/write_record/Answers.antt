@@ -1,4 +1,4 @@
-use Rattle.std.proofs.Common.{◌≡◌, ◌∙◌, ◌+◌, ◌≤◌, length, rules, arith, ap}
+use Rattle.std.proofs.Common.{◌+◌, ◌≤◌, length, rules}
 use Rattle.hickory_wire.specs.DomainName.{name_len}
 use Rattle.hickory_wire.proofs.FullForms.{put_parts}
 use Rattle.hickory_wire.proofs.record_encoder.write_record.Goals as goal
