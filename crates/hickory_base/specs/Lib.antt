@@ -1,1 +1,13 @@
 pub mod Access
+pub mod Denials
+pub mod Failures
+pub mod Lookups
+pub mod Questions
+pub mod RecordSets
+pub mod RequestReading
+pub mod Requests
+pub mod Responses
+pub mod SentReplies
+pub mod Sinks
+pub mod ZoneAnswers
+pub mod ZoneSets

@@ -1,4 +1,12 @@
-//! What the zone service stands on beside the messages themselves.
+//! What the zone service stands on beside the messages themselves: errors, access lists, requests, replies, the sink, the zone store.
 #![tactic(auto)]
 
 pub mod access;
+pub mod errors;
+pub mod message_request;
+pub mod message_response;
+mod request_reading;
+mod response_encoding;
+mod response_handler;
+pub mod server;
+pub mod zone_store;

@@ -1,0 +1,8 @@
+use Rattle.std.proofs.Common.{arith}
+use Rattle.hickory_base.proofs.QuestionPlaces.{questions_move}
+use Rattle.hickory_base.proofs.message_request.Queries.read.Goals as goal
+
+pub returns-in_err-slice_from : goal.returns-in_err-slice_from
+returns-in_err-slice_from c =
+    let m = questions_move c.args.count _ c.args.decoder.now (_, c.read_lower_queries.new.decoder) c.in_ok-queries.ensures.exact.0 in
+    absurd (omega (arith, m, c.in_err-slice_from.ensures.fault.0, c.index-start.ensures.place))

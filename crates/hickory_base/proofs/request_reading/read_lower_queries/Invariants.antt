@@ -1,0 +1,11 @@
+use Rattle.std.proofs.Common.{◌≡◌, ◌-◌, ◌≤◌, [], length}
+use Rattle.hickory_wire.specs.SectionReading.{items}
+use Rattle.hickory_wire.specs.RecordReading.{question}
+use Rattle.hickory_base.proofs.request_reading.read_lower_queries.Given as goal
+
+abbrev pub invariant-queries : goal.invariant-queries
+invariant-queries l = record {
+  so_far : items question (l.count - l.counter) l.queries l.decoder ≡ items question l.count [] l.fn.decoder;
+  kept : l.decoder.bytes ≡ l.fn.decoder.bytes;
+  number : length l.queries ≤ l.counter;
+}

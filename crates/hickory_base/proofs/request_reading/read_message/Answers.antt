@@ -1,0 +1,24 @@
+use Rattle.std.proofs.Common.{◌≡◌, arith, ap, sym, subst, ◌∙◌, IfOk, Result, Ok, Err, List, ℕ}
+use Rattle.hickory_wire.specs.Cursor.{Cursor}
+use Rattle.hickory_wire.specs.MessageReading.{message, front_of, Reads}
+use Rattle.hickory_wire.specs.Reading.{Gives}
+use Rattle.hickory_wire.specs.declared.error.DecodeError.{DecodeError}
+use Rattle.hickory_wire.specs.Bytes.{AreBytes}
+use Rattle.hickory_base.specs.RequestReading.{FollowsHeader, IsQuestionSection, message_of}
+use Rattle.hickory_base.specs.declared.message_request.MessageRequest.{MessageRequest}
+use Rattle.hickory_base.proofs.RequestParts.{section_stands}
+use Rattle.hickory_base.proofs.request_reading.read_message.Goals as goal
+
+reads_from_gives : (result : Result MessageRequest DecodeError) (bytes : List ℕ) (old new : Cursor) → old ≡ front_of bytes → Gives message_of result old new message → IfOk result (λ m. Reads bytes (message_of m))
+reads_from_gives (Ok m) bytes old new front given = record { stop = new; reads = ap message (sym front) ∙ given.0 }
+reads_from_gives (Err e) bytes old new front given = tt
+
+questions_stand : (result : Result MessageRequest DecodeError) (bytes : List ℕ) (old : Cursor) → AreBytes bytes → old ≡ front_of bytes → IfOk result (λ m. FollowsHeader old m.queries) → IfOk result (λ m. IsQuestionSection bytes m.queries)
+questions_stand (Ok m) bytes old a front follows = section_stands bytes m.queries a (subst (λ (start : Cursor). FollowsHeader start m.queries) front follows)
+questions_stand (Err e) bytes old a front follows = tt
+
+pub returns-clause-found : goal.returns-clause-found
+returns-clause-found c = reads_from_gives c.read.result c.args.bytes.now c.new.result c.read.new.decoder c.new.ensures c.read.ensures.exact
+
+pub returns-clause-questions : goal.returns-clause-questions
+returns-clause-questions c = questions_stand c.read.result c.args.bytes.now c.new.result (λ k. omega (arith, c.type_inv.bytes k)) c.new.ensures c.read.ensures.questions

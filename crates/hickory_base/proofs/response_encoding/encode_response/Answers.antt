@@ -1,0 +1,40 @@
+use Rattle.std.proofs.Common.{◌≡◌, ◌∙◌, refl, sym, List, ℕ}
+use Rattle.std.specs.Option.{option_copied}
+use Rattle.hickory_wire.specs.Reply.{Reply}
+use Rattle.hickory_wire.specs.ReplyParts.{ReplyEncoded}
+use Rattle.hickory_wire.specs.declared.header.Header.{Header}
+use Rattle.hickory_base.proofs.RecordSlices.{given_by_slice}
+use Rattle.hickory_base.proofs.response_encoding.encode_response.Goals as goal
+
+-- the reply that was encoded, at the limit and with the header that the contract names
+encoded_at : {limit named : ℕ} {header told : Header} {reply : Reply} {bytes : List ℕ} → limit ≡ named → told ≡ header → ReplyEncoded limit reply bytes header → ReplyEncoded named reply bytes told
+encoded_at {reply = reply} {bytes = bytes} e f made = rw (sym e, f) made
+
+pub returns-clause-encoded : goal.returns-clause-encoded
+returns-clause-encoded g c =
+    let w = c.in_ok-header.ensures.encoded in
+    let reply : Reply = record {
+      metadata = c.args.response.metadata;
+      question = c.as_bytes.result.now;
+      question_count = c.count.result;
+      edns = option_copied c.args.response.edns;
+      answers = w.0.answers;
+      authorities = w.0.authorities;
+      soa = w.0.soa;
+      additionals = w.0.additionals;
+      signature = option_copied c.borrowed.result;
+    } in (
+      reply,
+      record {
+        metadata = refl;
+        question = c.as_bytes.ensures;
+        question_count = c.count.ensures;
+        edns = refl;
+        answers = rw (given_by_slice w.1.answers_given (c.iter.ensures.rest ∙ c.as_slice.ensures)) c.in_ok-answers.ensures;
+        authorities = rw (given_by_slice w.1.authorities_given (c.iter-2.ensures.rest ∙ c.as_slice-2.ensures)) c.in_ok-authorities.ensures;
+        soa = rw (given_by_slice w.1.soa_given (c.iter-3.ensures.rest ∙ c.as_slice-3.ensures)) c.in_ok-soa.ensures;
+        additionals = rw (given_by_slice w.1.additionals_given (c.iter-4.ensures.rest ∙ c.as_slice-4.ensures)) c.in_ok-additionals.ensures;
+        signature = c.borrowed.ensures;
+      },
+      encoded_at c.size_limit-limit.ensures c.from.ensures w.2,
+    )

@@ -1,0 +1,8 @@
+-- The box leads to the value that it keeps.
+use Rattle.std.proofs.Common.{subst, rules}
+use Rattle.std.specs.Option.{option_copied, option_map}
+use Rattle.hickory_base.specs.Requests.{information_of}
+use Rattle.hickory_base.proofs.zone_store.boxed.BoxDynZoneHandlerZoneHandler.lookup.Goals as goal
+
+pub returns : goal.returns
+returns g c = subst (λ p. (goal.ZoneHandler-dyn g p).lookup_gives p.1 c.args.name.now c.args.record_type (option_map information_of (option_copied c.args.info)) c.args.options c.lookup.result) (search rules) c.lookup.ensures

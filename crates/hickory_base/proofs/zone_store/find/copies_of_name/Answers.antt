@@ -1,0 +1,15 @@
+use Rattle.std.proofs.Common.{◌++◌, sym, ap, ◌∙◌}
+use Rattle.std.specs.List.{flat_map}
+use Rattle.hickory_base.proofs.KeyOrder.{from_first_on, of_name, while_of}
+use Rattle.hickory_base.proofs.SharedSets.{records-shared}
+use Rattle.hickory_base.specs.ZoneSets.{has_name}
+use Rattle.hickory_base.proofs.zone_store.find.copies_of_name.Goals as goal
+
+pub loop-key-init : goal.loop-key-init
+loop-key-init c =
+    let first = c.args.first.now in
+    let entries = c.args.sets.now.entries in
+    ap (λ items. items ++ flat_map (λ e. e.1.value) (while_of (of_name first) c.into_iter-key-iterator.result)) c.new-all.ensures.items
+    ∙ ap (λ it. flat_map (λ e. e.1.value) (while_of (of_name first) it)) c.into_iter-key-iterator.ensures.into_iter_gives
+    ∙ ap (flat_map (λ e. e.1.value)) (sym (from_first_on first entries c.range-key-items.result c.requires c.range-key-items.ensures.ordered (c.range-key-items.ensures.between tt)))
+    ∙ sym (records-shared (has_name first.name) entries)

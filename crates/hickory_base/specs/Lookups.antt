@@ -1,0 +1,49 @@
+-- What is asked of a zone, and what it answers.
+use Rattle.std.specs.Prelude.{Bool, true, false, List, [], Option, Some, None, Result}
+use Rattle.hickory_wire.specs.EdnsFields.{EdnsFields}
+use Rattle.hickory_wire.specs.declared.rdata.RData.{RData}
+use Rattle.hickory_wire.specs.declared.record.Record.{Record}
+use Rattle.hickory_base.specs.declared.errors.LookupError.{LookupError}
+use Rattle.hickory_base.specs.declared.zone_store.lookup.AuthLookup.{AuthLookup}
+use Rattle.hickory_base.specs.declared.zone_store.lookup.AuthLookup.TheVariants.{Empty, Resolved, Records}
+use Rattle.hickory_base.specs.declared.zone_store.lookup.LookupControlFlow.{LookupControlFlow}
+use Rattle.hickory_base.specs.declared.zone_store.lookup.LookupControlFlow.TheVariants.{Continue, Break, Skip}
+
+-- the flag DO (RFC 3225 section 3)
+abbrev pub asks_for_dnssec : Option EdnsFields → Bool
+asks_for_dnssec None = false
+asks_for_dnssec (Some edns) = edns.dnssec_ok
+
+-- what a handler answers to a lookup
+abbrev pub Flow : Type 0
+Flow = LookupControlFlow AuthLookup
+
+-- the answer, if there is one
+abbrev pub result_of : {T : Type 0} → LookupControlFlow T → Option (Result T LookupError)
+result_of (Continue result) = Some result
+result_of (Break result) = Some result
+result_of Skip = None
+
+abbrev pub is_continue : {T : Type 0} → LookupControlFlow T → Bool
+is_continue (Continue result) = true
+is_continue other = false
+
+abbrev pub is_break : {T : Type 0} → LookupControlFlow T → Bool
+is_break (Break result) = true
+is_break other = false
+
+-- the records that were asked for
+abbrev pub answers_of : AuthLookup → List (Record RData)
+answers_of Empty = []
+answers_of (Resolved found) = found.answers
+answers_of (Records answers additionals) = answers
+
+-- the additionals of records of the zone
+abbrev pub additionals_of : AuthLookup → Option (List (Record RData))
+additionals_of (Records answers additionals) = Some additionals
+additionals_of other = None
+
+-- what is left when they are taken
+abbrev pub without_additionals : AuthLookup → AuthLookup
+without_additionals (Records answers additionals) = Records answers []
+without_additionals other = other

@@ -1,0 +1,52 @@
+-- Requests as they are read (RFC 1035 section 4.1).
+use Rattle.std.specs.Prelude.{◌≡◌, ◌≢◌, ℕ, List, [], Ok, slice_range}
+use Rattle.hickory_wire.specs.Cursor.{Cursor}
+use Rattle.hickory_wire.specs.MessageLayout.{ItemsAt, QuestionRead}
+use Rattle.hickory_wire.specs.MessageReading.{Fault}
+use Rattle.hickory_wire.specs.Reading.{Read, ◌>>=◌}
+use Rattle.hickory_wire.specs.RecordReading.{question}
+use Rattle.hickory_wire.specs.SectionReading.{header, items}
+use Rattle.hickory_wire.specs.declared.error.DecodeError.{DecodeError}
+use Rattle.hickory_wire.specs.declared.error.DecodeError.TheVariants.{Memory}
+use Rattle.hickory_wire.specs.declared.error.ProtoError.{ProtoError}
+use Rattle.hickory_wire.specs.declared.error.ProtoError.TheVariants.{Decode}
+use Rattle.hickory_wire.specs.declared.header.Header.{Header}
+use Rattle.hickory_wire.specs.declared.message.Message.{Message}
+use Rattle.hickory_base.specs.Questions.{QuestionSection}
+use Rattle.hickory_base.specs.declared.message_request.MessageRequest.{MessageRequest}
+
+-- so many questions, and the bytes from the first of them to the place behind the last
+unfoldable pub question_section : ℕ → Cursor → Read QuestionSection
+question_section count c = items question count [] c >>= λ queries. Ok (record { queries = queries.0; bytes = slice_range c.bytes c.place queries.1.place }, queries.1)
+
+-- the message of a request
+abbrev pub message_of : MessageRequest → Message
+message_of m = record {
+  metadata = m.metadata;
+  queries = m.queries.queries;
+  answers = m.answers;
+  authorities = m.authorities;
+  additionals = m.additionals;
+  edns = m.edns;
+  signature = m.signature;
+}
+
+-- The question section is what is read behind the header that is read here.
+pub record FollowsHeader (start : Cursor) (section : QuestionSection) : Type 0 where
+  pub read : Header × Cursor
+  pub next : Cursor
+  pub header_is_read : header start ≡ Ok read
+  pub is_read : question_section read.0.counts.queries read.1 ≡ Ok (section, next)
+
+-- The questions stand one behind the other behind the header of the message, and the bytes are those from there to the place behind the last.
+pub record IsQuestionSection (bytes : List ℕ) (section : QuestionSection) : Type 0 where
+  pub stop : ℕ
+  pub stand : ItemsAt (QuestionRead bytes) 12 section.queries stop
+  pub bytes_are : section.bytes ≡ slice_range bytes 12 stop
+
+-- The error is the first fault of bytes that begin with no message, and no want of memory.
+pub record IsFaultOf (bytes : List ℕ) (e : ProtoError) : Type 0 where
+  pub fault : DecodeError
+  pub first : Fault bytes fault
+  pub no_want : fault ≢ Memory
+  pub is : e ≡ Decode fault

@@ -1,0 +1,30 @@
+-- A request as a server sees it: the message, its bytes, and where it came from.
+use Rattle.std.specs.Prelude.{ℕ, List}
+use Rattle.std.specs.declared.net.SocketAddr.{SocketAddr}
+use Rattle.hickory_wire.specs.declared.header.Metadata.{Metadata}
+use Rattle.hickory_wire.specs.declared.protocol.Protocol.{Protocol}
+use Rattle.hickory_wire.specs.declared.query.Query.{Query}
+use Rattle.hickory_base.specs.declared.message_request.MessageRequest.{MessageRequest}
+use Rattle.hickory_base.specs.declared.server.RequestInfo.{RequestInfo}
+
+-- a request
+pub record ReceivedRequest : Type 0 where
+  pub message : MessageRequest
+  pub bytes : List ℕ
+  pub source : SocketAddr
+  pub protocol : Protocol
+
+-- what a handler may know of a request
+pub record RequestInformation : Type 0 where
+  pub source : SocketAddr
+  pub protocol : Protocol
+  pub metadata : Metadata
+  pub query : Query
+
+-- what it may know of a request with this question
+abbrev pub information : ReceivedRequest → Query → RequestInformation
+information request query = record { source = request.source; protocol = request.protocol; metadata = request.message.metadata; query = query }
+
+-- what borrowed information says, wherever it lies
+abbrev pub information_of : RequestInfo → RequestInformation
+information_of info = record { source = info.src; protocol = info.protocol; metadata = info.metadata.now; query = info.query.now }

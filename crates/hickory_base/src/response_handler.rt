@@ -1,0 +1,100 @@
+//! What a reply is handed to, and what answers requests.
+
+ghost use Rattle.std.specs.Prelude.{◌≡◌};
+
+use crate::errors::CatalogError;
+use crate::message_response::{MessageResponse, ResponseInfo};
+use crate::server::Request;
+use hickory_wire::Record;
+use std::alloc::Global;
+use std::io;
+
+/// A reference to a record, as an item of an iterator.
+pub trait RecordRef: Drop {
+    ghost use Rattle.std.specs.Prelude.{◌≡◌};
+    ghost use Rattle.hickory_wire.specs.declared.rdata.RData.{RData};
+    ghost use Rattle.hickory_wire.specs.declared.record.Record.{Record};
+
+    ghost record_of: { Self → Record RData };
+
+    /// The record.
+    fn record(&self) -> &Record
+        ensures { result.now ≡ record_of self.now };
+}
+
+impl RecordRef for &Record {
+    ghost record_of = { λ x. x.now };
+
+    fn record(&self) -> &Record {
+        self
+    }
+}
+
+/// What replies are handed to: a sink.
+///
+/// A contract sees a sink as the list of its entries, one for each reply that it took, and the number of its failures,
+/// which begins again at 0 after 2^64 - 1. `shows` relates a reply with its entry, and `informs` a reply with the header
+/// that the sink's answer tells. A sink over a socket may have relations that always hold.
+pub trait ResponseHandler {
+    ghost use Rattle.std.specs.Prelude.{◌≡◌, ◌+◌, ◌%◌, ◌^◌, ◌⊎◌, ℕ, List, IfOk, OnOk, OnErr};
+    ghost use Rattle.std.specs.Iterator.{IsFinite};
+    ghost use Rattle.hickory_wire.specs.Reply.{Reply};
+    ghost use Rattle.hickory_wire.specs.declared.header.Header.{Header};
+    ghost use Rattle.hickory_base.specs.Responses.{GivesBy, IsReplyOf, header_of};
+    ghost use Rattle.hickory_base.specs.Sinks.{AddsEntry};
+
+    /// What the sink keeps of a reply.
+    type Entry;
+
+    ghost entries: { Self → List Self.Entry };
+
+    ghost shows: { Reply → Self.Entry → Type 0 };
+
+    ghost informs: { Reply → Header → Type 0 };
+
+    ghost failures: { Self → ℕ };
+
+    /// Hands a reply over. The answer tells the header of what was sent.
+    ///
+    /// An `Ok` adds one entry of this reply. An `Err` counts one failure, and adds such an entry or none.
+    fn send_response<'q, 'a, A, N, S, D>(
+        &mut self,
+        alloc: Global,
+        response: MessageResponse<'q, 'a, A, N, S, D>,
+    ) -> Result<ResponseInfo, io::Error>
+    where
+        A: Iterator + Drop,
+        A::Item: RecordRef,
+        N: Iterator + Drop,
+        N::Item: RecordRef,
+        S: Iterator + Drop,
+        S::Item: RecordRef,
+        D: Iterator + Drop,
+        D::Item: RecordRef,
+        requires answers { A.can_next response.answers × IsFinite (A.remaining response.answers) }
+        requires authorities { N.can_next response.authorities × IsFinite (N.remaining response.authorities) }
+        requires soa { S.can_next response.soa × IsFinite (S.remaining response.soa) }
+        requires additionals { D.can_next response.additionals × IsFinite (D.remaining response.additionals) }
+        ensures ok { IfOk result (λ info. (reply : Reply) ×
+            AddsEntry (IsReplyOf (GivesBy A.next_gives A.Item.record_of) (GivesBy N.next_gives N.Item.record_of) (GivesBy S.next_gives S.Item.record_of) (GivesBy D.next_gives D.Item.record_of) response.entry)
+            shows (entries self.old) (entries self.new) reply × informs reply (header_of info)) }
+        ensures uncounted { OnOk result (failures self.new ≡ failures self.old) }
+        ensures err { OnErr result (((reply : Reply) ×
+            AddsEntry (IsReplyOf (GivesBy A.next_gives A.Item.record_of) (GivesBy N.next_gives N.Item.record_of) (GivesBy S.next_gives S.Item.record_of) (GivesBy D.next_gives D.Item.record_of) response.entry)
+            shows (entries self.old) (entries self.new) reply) ⊎ (entries self.new ≡ entries self.old)) }
+        ensures counted { OnErr result (failures self.new ≡ (failures self.old + 1) % 2 ^ 64) };
+}
+
+/// What answers requests: for each it hands a reply to a sink.
+pub trait RequestHandler {
+    /// Handles a request, and answers what was told of the reply. `now` is in seconds since 1970.
+    ///
+    /// After an `Err` no reply was handed over.
+    fn handle_request<R: ResponseHandler>(
+        &mut self,
+        alloc: Global,
+        request: &Request,
+        now: u64,
+        sink: &mut R,
+    ) -> Result<ResponseInfo, CatalogError>;
+}

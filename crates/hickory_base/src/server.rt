@@ -1,0 +1,127 @@
+//! Requests with where they came from.
+
+ghost use Rattle.std.specs.Prelude.{◌≡◌, IfOk, IfErr};
+ghost use Rattle.hickory_base.specs.Questions.{one_query};
+ghost use Rattle.hickory_base.specs.Requests.{ReceivedRequest, RequestInformation, information, information_of};
+
+use crate::errors::LookupError;
+use crate::message_request::MessageRequest;
+pub use crate::message_response::ResponseInfo;
+pub use crate::response_encoding::encode_response;
+pub use crate::response_handler::{RecordRef, RequestHandler, ResponseHandler};
+use hickory_wire::{LowerQuery, Metadata, Octets, Protocol};
+use std::marker::Model;
+use std::net::SocketAddr;
+
+/// A request: a message, the bytes that it was read from, and where it came from.
+#[derive(Drop)]
+pub struct Request {
+    message: MessageRequest,
+    bytes: Octets,
+    source: SocketAddr,
+    protocol: Protocol,
+}
+
+impl Model for Request {
+    ghost use Rattle.hickory_base.specs.Requests.{ReceivedRequest};
+
+    ghost Value = { ReceivedRequest };
+
+    ghost view = { λ r. record { message = r.message; bytes = r.bytes; source = r.source; protocol = r.protocol } };
+}
+
+impl Request {
+    /// A message with its bytes and where it came from.
+    pub(crate) fn new(
+        message: MessageRequest,
+        bytes: Octets,
+        source: SocketAddr,
+        protocol: Protocol,
+    ) -> Request
+        ensures { result ≡ record { message = message; bytes = bytes; source = source; protocol = protocol } }
+    {
+        Request {
+            message,
+            bytes,
+            source,
+            protocol,
+        }
+    }
+
+    /// The address that it came from.
+    pub fn src(&self) -> SocketAddr
+        ensures { result ≡ self.now.source }
+    {
+        self.source
+    }
+
+    /// The transport that it came over.
+    pub fn protocol(&self) -> Protocol
+        ensures { result ≡ self.now.protocol }
+    {
+        self.protocol
+    }
+
+    /// The bytes of the message.
+    pub fn as_slice(&self) -> &[u8]
+        ensures { result.now ≡ self.now.bytes }
+    {
+        self.bytes.as_slice()
+    }
+
+    /// The message.
+    pub fn message(&self) -> &MessageRequest
+        ensures { result.now ≡ self.now.message }
+    {
+        &self.message
+    }
+
+    /// The message's header but for its counts.
+    pub fn metadata(&self) -> &Metadata
+        ensures { result.now ≡ self.now.message.metadata }
+    {
+        &self.message.metadata
+    }
+
+    /// What a handler may know of the request. Where there is not just one question, `BadQueryCount` tells how many.
+    pub fn request_info(&self) -> Result<RequestInfo<'_>, LookupError>
+        ensures query { IfOk result (λ info. one_query self.now.message.queries.queries ≡ Ok info.query.now) }
+        ensures information { IfOk result (λ info. information_of info ≡ information self.now info.query.now) }
+        ensures err { IfErr result (λ e. one_query self.now.message.queries.queries ≡ Err e) }
+    {
+        let query = self.message.queries.try_as_query()?;
+        Ok(RequestInfo::new(self.source, self.protocol, &self.message.metadata, query))
+    }
+}
+
+/// What a handler may know of a request, borrowed from it.
+#[derive(Clone, Copy)]
+pub struct RequestInfo<'a> {
+    /// The address that the request came from.
+    pub src: SocketAddr,
+    /// The transport that it came over.
+    pub protocol: Protocol,
+    /// Its header but for the counts.
+    pub metadata: &'a Metadata,
+    /// Its question.
+    pub query: &'a LowerQuery,
+}
+
+impl<'a> RequestInfo<'a> {
+    /// Puts together what is known of a request.
+    pub fn new(
+        src: SocketAddr,
+        protocol: Protocol,
+        metadata: &'a Metadata,
+        query: &'a LowerQuery,
+    ) -> RequestInfo<'a>
+        ensures { information_of result ≡ record { source = src; protocol = protocol; metadata = metadata.now; query = query.now } }
+    {
+        RequestInfo {
+            src,
+            protocol,
+            metadata,
+            query,
+        }
+    }
+}

@@ -1,0 +1,149 @@
+//! How the sets of a zone are found.
+
+ghost use Rattle.std.specs.Prelude.{◌≡◌, ◌++◌, IfOk, OnOk};
+ghost use Rattle.std.specs.Option.{option_copied};
+ghost use Rattle.std.specs.Map.{lookup};
+ghost use Rattle.hickory_base.specs.ZoneAnswers.{OrMemory, any_answer, first_record, found, set_answer, set_or_denial, zone_answer, is_in_use, records_at};
+ghost use Rattle.hickory_base.specs.ZoneSets.{is_key, sets_of};
+
+use crate::errors::{DnsError, LookupError};
+use crate::zone_store::copies::append_copies;
+use crate::zone_store::lookup::AuthLookup;
+use crate::zone_store::record_set::{RecordSet, RrKey};
+use hickory_wire::{Items, LowerName, Record, RecordType, ResponseCode};
+use std::alloc::{AllocError, Global};
+use std::collections::BTreeMap;
+use std::rc::Rc;
+
+/// The records under a key.
+fn set_under<'m>(sets: &'m BTreeMap<RrKey, Rc<RecordSet>>, key: &RrKey) -> Option<&'m [Record]>
+    ensures { option_copied result ≡ lookup (is_key key.now.name key.now.record_type) (sets_of sets.now) }
+{
+    match sets.get(key) {
+        None => None,
+        Some(set) => Some(set.records()),
+    }
+}
+
+/// The first record under a key.
+pub(crate) fn first_under<'m>(
+    sets: &'m BTreeMap<RrKey, Rc<RecordSet>>,
+    key: &RrKey,
+) -> Option<&'m Record>
+    ensures { option_copied result ≡ first_record (lookup (is_key key.now.name key.now.record_type) (sets_of sets.now)) }
+{
+    match set_under(sets, key) {
+        None => None,
+        Some(records) => records.first(),
+    }
+}
+
+/// Whether there is a set of the key's name. No type is below that of the key.
+fn is_in_use(sets: &BTreeMap<RrKey, Rc<RecordSet>>, first: &RrKey) -> bool
+    requires { first.now.record_type ≡ 0 }
+    ensures { result ≡ is_in_use first.now.name (sets_of sets.now) }
+{
+    match sets.range(first..).next() {
+        Some((key, _)) => first.name == key.name,
+        None => false,
+    }
+}
+
+/// Copies of all records of the key's name. No type is below that of the key.
+fn copies_of_name(
+    alloc: Global,
+    sets: &BTreeMap<RrKey, Rc<RecordSet>>,
+    first: &RrKey,
+) -> Result<Vec<Record>, AllocError>
+    requires { first.now.record_type ≡ 0 }
+    ensures { IfOk result (λ all. all.items ≡ records_at first.now.name (sets_of sets.now)) }
+{
+    let mut all = Vec::new(alloc);
+    for (key, set) in sets.range(first..) {
+        if first.name != key.name {
+            return Ok(all);
+        }
+        append_copies(&mut all, set.records())?;
+    }
+    Ok(all)
+}
+
+/// These records as an answer without additionals.
+fn found(alloc: Global, answers: Vec<Record>) -> AuthLookup
+    ensures { Ok result ≡ found answers.items }
+{
+    AuthLookup::Records {
+        answers: Items::from_vec(answers),
+        additionals: Items::new(alloc),
+    }
+}
+
+/// The answer for a name that has no set of the type asked for. No type is below that of the key.
+fn denial(alloc: Global, sets: &BTreeMap<RrKey, Rc<RecordSet>>, first: &RrKey) -> LookupError
+    requires { first.now.record_type ≡ 0 }
+    ensures { Err result ≡ set_or_denial None (is_in_use first.now.name (sets_of sets.now)) }
+{
+    if is_in_use(sets, first) {
+        LookupError::Net(DnsError::NoRecords {
+            response_code: ResponseCode::NO_ERROR,
+            authorities: Items::new(alloc),
+            soa: None,
+        })
+    } else {
+        LookupError::ResponseCode(ResponseCode::NX_DOMAIN)
+    }
+}
+
+/// All records of a name, whatever their type.
+fn find_any(
+    alloc: Global,
+    sets: &BTreeMap<RrKey, Rc<RecordSet>>,
+    name: LowerName,
+) -> Result<AuthLookup, LookupError>
+    ensures { OrMemory (any_answer (sets_of sets.now) name) result }
+{
+    let first = RrKey::new(name, RecordType::new(0));
+    if !is_in_use(sets, &first) {
+        return Err(LookupError::ResponseCode(ResponseCode::NX_DOMAIN));
+    }
+    let records = copies_of_name(alloc, sets, &first)?;
+    Ok(found(alloc, records))
+}
+
+/// The records of a name and type.
+fn find_set(
+    alloc: Global,
+    sets: &BTreeMap<RrKey, Rc<RecordSet>>,
+    key: RrKey,
+) -> Result<AuthLookup, LookupError>
+    ensures { OrMemory (set_answer (sets_of sets.now) key.name key.record_type) result }
+{
+    match set_under(sets, &key) {
+        Some(records) => {
+            let mut copies = Vec::new(alloc);
+            append_copies(&mut copies, records)?;
+            Ok(found(alloc, copies))
+        }
+        None => {
+            let first = RrKey::new(key.name, RecordType::new(0));
+            Err(denial(alloc, sets, &first))
+        }
+    }
+}
+
+/// What the sets hold for a name and type.
+pub(crate) fn find(
+    alloc: Global,
+    sets: &BTreeMap<RrKey, Rc<RecordSet>>,
+    name: &LowerName,
+    record_type: RecordType,
+) -> Result<AuthLookup, LookupError>
+    ensures { OrMemory (zone_answer (sets_of sets.now) name.now record_type) result }
+{
+    let name = name.clone()?;
+    if record_type.value() == RecordType::ANY.value() {
+        find_any(alloc, sets, name)
+    } else {
+        find_set(alloc, sets, RrKey::new(name, record_type))
+    }
+}

@@ -1,0 +1,115 @@
+//! A zone that is held in memory.
+
+mod answers;
+
+ghost use Rattle.std.specs.Prelude.{◌≡◌, ◌↔◌, IsTrue};
+ghost use Rattle.std.specs.Option.{option_copied};
+ghost use Rattle.hickory_base.specs.ZoneAnswers.{zone_soa, soa_serial};
+ghost use Rattle.hickory_base.specs.ZoneSets.{IsZone, sets_of};
+
+use crate::zone_store::conditions::is_zone;
+use crate::zone_store::find::first_under;
+use crate::zone_store::handler::{AxfrPolicy, ZoneType};
+use crate::zone_store::record_set::{RecordSet, RrKey};
+use hickory_wire::{DNSClass, LowerName, RData, Record, RecordType};
+use std::collections::BTreeMap;
+use std::marker::Model;
+use std::rc::Rc;
+
+/// A zone of class IN that is held in memory: its sets of records by name and type.
+///
+/// It answers by the records that stand in it, and follows no CNAME, no wildcard and no delegation.
+#[derive(Drop)]
+pub struct InMemoryZoneHandler {
+    // The key of the zone's SOA record, whose name is the origin: it is looked up without memory for a key.
+    apex: RrKey,
+    zone_type: ZoneType,
+    axfr_policy: AxfrPolicy,
+    records: BTreeMap<RrKey, Rc<RecordSet>>,
+}
+
+impl Model for InMemoryZoneHandler {
+    ghost use Rattle.std.specs.Prelude.{◌≡◌};
+    ghost use Rattle.hickory_base.specs.ZoneAnswers.{MemoryZone};
+
+    ghost Value = { MemoryZone };
+
+    ghost use Rattle.hickory_base.specs.ZoneSets.{IsZone, sets_of};
+
+    ghost view = { λ z. record { origin = z.apex.name; zone_type = z.zone_type; axfr_policy = z.axfr_policy; sets = sets_of z.records } };
+
+    ghost invariant = { λ z. (z.apex.record_type ≡ 6) × IsZone (sets_of z.records) };
+}
+
+impl InMemoryZoneHandler {
+    /// Whether these sets make a zone: each is under its own key and holds no record twice, and each record of type SOA
+    /// has the data of one.
+    pub fn accepts(records: &BTreeMap<RrKey, Rc<RecordSet>>) -> bool
+        ensures { IsTrue result ↔ IsZone (sets_of records.now) }
+    {
+        is_zone(records)
+    }
+
+    /// The zone of these sets, which `accepts` takes. It needs no memory.
+    pub fn new(
+        origin: LowerName,
+        records: BTreeMap<RrKey, Rc<RecordSet>>,
+        zone_type: ZoneType,
+        axfr_policy: AxfrPolicy,
+    ) -> InMemoryZoneHandler
+        requires { IsZone (sets_of records) }
+        ensures { result ≡ record { origin = origin; zone_type = zone_type; axfr_policy = axfr_policy; sets = sets_of records } }
+    {
+        InMemoryZoneHandler {
+            apex: RrKey::new(origin, RecordType::SOA),
+            zone_type,
+            axfr_policy,
+            records,
+        }
+    }
+
+    /// The class of its records: IN.
+    pub fn class(&self) -> DNSClass
+        ensures { result ≡ 1 }
+    {
+        DNSClass::IN
+    }
+
+    /// The sets by name and type, which `accepts` takes.
+    pub fn records(&self) -> &BTreeMap<RrKey, Rc<RecordSet>>
+        ensures sets { sets_of result.now ≡ self.now.sets }
+        ensures zone { IsZone self.now.sets }
+    {
+        &self.records
+    }
+
+    /// Puts these sets, which `accepts` takes, in the place of all others. It needs no memory.
+    pub fn replace_records(&mut self, records: BTreeMap<RrKey, Rc<RecordSet>>)
+        requires { IsZone (sets_of records) }
+        ensures { self.new ≡ record self.old { sets = sets_of records } }
+    {
+        self.records = records;
+    }
+
+    /// The SOA record at the origin.
+    fn soa(&self) -> Option<&Record>
+        ensures { option_copied result ≡ zone_soa self.now }
+    {
+        first_under(&self.records, &self.apex)
+    }
+
+    /// The serial of the SOA record at the origin, 0 without one.
+    pub fn serial(&self) -> u32
+        ensures { result ≡ soa_serial (zone_soa self.now) }
+    {
+        match self.soa() {
+            Some(
+                Record {
+                    rdata: RData::SOA(soa),
+                    ..
+                },
+            ) => soa.get().serial,
+            _ => 0,
+        }
+    }
+}

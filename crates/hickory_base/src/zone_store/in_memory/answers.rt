@@ -1,0 +1,193 @@
+//! How a zone that is held in memory answers.
+
+ghost use Rattle.std.specs.Prelude.{◌≡◌, ◌++◌, Err, None, Some, false, OnOk, cond, drop, IfOk};
+ghost use Rattle.std.specs.List.{flat_map};
+ghost use Rattle.hickory_base.specs.ZoneAnswers.{LookedUp, OrMemory, Searched, Transferred, transfer_answer, whole_zone};
+ghost use Rattle.hickory_base.specs.ZoneSets.{is_key, sets_of};
+ghost use Rattle.hickory_base.specs.declared.errors.UpdateFault.TheVariants.{Code};
+ghost use Rattle.hickory_base.specs.declared.zone_store.lookup.LookupControlFlow.TheVariants.{Skip};
+
+use crate::errors::{LookupError, UpdateFault};
+use crate::server::{Request, RequestInfo};
+use crate::zone_store::copies::{append_copies, copy_record};
+use crate::zone_store::find::find;
+use crate::zone_store::handler::{AxfrPolicy, Nsec3QueryInfo, NxProofKind, ZoneHandler, ZoneType};
+use crate::zone_store::in_memory::InMemoryZoneHandler;
+use crate::zone_store::lookup::{AuthLookup, LookupControlFlow, LookupOptions, ZoneTransfer};
+use crate::zone_store::record_set::{RecordSet, RrKey};
+use hickory_wire::{Items, LowerName, Record, RecordType, ResponseCode, TSigResponseContext};
+use std::alloc::{AllocError, Global};
+use std::collections::BTreeMap;
+use std::rc::Rc;
+
+/// Puts copies of all records last but for the first under a key. Where memory is refused, those of a front of them may
+/// have been put.
+fn append_others(
+    all: &mut Vec<Record>,
+    sets: &BTreeMap<RrKey, Rc<RecordSet>>,
+    apex: &RrKey,
+) -> Result<(), AllocError>
+    ensures { OnOk result (all.new.items ≡ all.old.items ++ flat_map (λ e. cond (is_key apex.now.name apex.now.record_type e.0) (drop 1 e.1) e.1) (sets_of sets.now)) }
+{
+    for (key, set) in sets {
+        let records = set.records();
+        let others = if apex == key { &records[1..] } else { records };
+        append_copies(all, others)?;
+    }
+    Ok(())
+}
+
+impl InMemoryZoneHandler {
+    /// The SOA record, all other records in the order of the sets, and the SOA record again.
+    fn all_records(&self, alloc: Global, soa: &Record) -> Result<ZoneTransfer, AllocError>
+        ensures { IfOk result (λ transfer. whole_zone self.now (Some soa.now) ≡ Ok transfer) }
+    {
+        let mut records = Vec::new(alloc);
+        records.push(copy_record(soa)?)?;
+        append_others(&mut records, &self.records, &self.apex)?;
+        records.push(copy_record(soa)?)?;
+        Ok(ZoneTransfer {
+            records: Items::from_vec(records),
+        })
+    }
+
+    /// The zone's records for whoever may have them.
+    fn transfer(&self, alloc: Global) -> Result<ZoneTransfer, LookupError>
+        ensures { OrMemory (transfer_answer self.now) result }
+    {
+        match self.axfr_policy {
+            AxfrPolicy::AllowAll => {}
+            _ => return Err(LookupError::ResponseCode(ResponseCode::REFUSED)),
+        }
+        match self.soa() {
+            None => Err(LookupError::ResponseCode(ResponseCode::SERV_FAIL)),
+            Some(soa) => Ok(self.all_records(alloc, soa)?),
+        }
+    }
+}
+
+impl ZoneHandler for InMemoryZoneHandler {
+    ghost zone_type_of = { λ zone. zone.zone_type };
+
+    ghost axfr_policy_of = { λ zone. zone.axfr_policy };
+
+    ghost origin_of = { λ zone. zone.origin };
+
+    ghost validates_dnssec = { λ _. false };
+
+    ghost nx_proof_kind_of = { λ _. None };
+
+    ghost lookup_gives = { λ zone name record_type _ _ answer. LookedUp zone name record_type answer };
+
+    ghost search_gives = { λ zone request _ answer context. Searched zone request answer × (context ≡ None) };
+
+    ghost consult_gives = { λ _ _ _ _ _ last answer context. (answer ≡ last) × (context ≡ None) };
+
+    ghost transfer_gives = { λ zone _ _ _ answer. Transferred zone answer };
+
+    ghost nsec_gives = { λ _ _ _ answer. answer ≡ Skip };
+
+    ghost nsec3_gives = { λ _ _ _ answer. answer ≡ Skip };
+
+    ghost update_gives = { λ zone _ _ answer context new. (answer ≡ Err (Code 4)) × (context ≡ None) × (new ≡ zone) };
+
+    fn zone_type(&self) -> ZoneType {
+        self.zone_type
+    }
+
+    fn axfr_policy(&self) -> AxfrPolicy {
+        self.axfr_policy
+    }
+
+    fn origin(&self) -> &LowerName {
+        &self.apex.name
+    }
+
+    fn can_validate_dnssec(&self) -> bool {
+        false
+    }
+
+    fn nx_proof_kind(&self) -> Option<&NxProofKind> {
+        None
+    }
+
+    fn lookup(
+        &self,
+        alloc: Global,
+        name: &LowerName,
+        record_type: RecordType,
+        _info: Option<&RequestInfo<'_>>,
+        _options: LookupOptions,
+    ) -> LookupControlFlow<AuthLookup> {
+        LookupControlFlow::Continue(find(alloc, &self.records, name, record_type))
+    }
+
+    fn search(
+        &self,
+        alloc: Global,
+        request: &Request,
+        options: LookupOptions,
+    ) -> (LookupControlFlow<AuthLookup>, Option<TSigResponseContext>) {
+        match request.message().queries.try_as_query() {
+            Ok(query) => (
+                self.lookup(alloc, query.name(), query.query_type(), None, options),
+                None,
+            ),
+            Err(e) => (LookupControlFlow::Break(Err(e)), None),
+        }
+    }
+
+    fn consult(
+        &self,
+        _alloc: Global,
+        _name: &LowerName,
+        _record_type: RecordType,
+        _info: Option<&RequestInfo<'_>>,
+        _options: LookupOptions,
+        last: LookupControlFlow<AuthLookup>,
+    ) -> (LookupControlFlow<AuthLookup>, Option<TSigResponseContext>) {
+        (last, None)
+    }
+
+    fn zone_transfer(
+        &self,
+        alloc: Global,
+        _request: &Request,
+        _options: LookupOptions,
+        _now: u64,
+    ) -> Option<
+        (
+            Result<ZoneTransfer, LookupError>,
+            Option<TSigResponseContext>,
+        ),
+    > {
+        Some((self.transfer(alloc), None))
+    }
+
+    fn nsec_records(
+        &self,
+        _alloc: Global,
+        _name: &LowerName,
+        _options: LookupOptions,
+    ) -> LookupControlFlow<AuthLookup> {
+        LookupControlFlow::Skip
+    }
+
+    fn nsec3_records(
+        &self,
+        _alloc: Global,
+        _info: Nsec3QueryInfo<'_>,
+        _options: LookupOptions,
+    ) -> LookupControlFlow<AuthLookup> {
+        LookupControlFlow::Skip
+    }
+
+    fn update(
+        &mut self,
+        _alloc: Global,
+        _request: &Request,
+        _now: u64,
+    ) -> (Result<bool, UpdateFault>, Option<TSigResponseContext>) {
+        (Err(UpdateFault::Code(ResponseCode::NOT_IMP)), None)
+    }
+}

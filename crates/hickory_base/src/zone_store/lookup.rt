@@ -1,0 +1,145 @@
+//! What is asked of a zone, and what it answers.
+
+ghost use Rattle.std.specs.Prelude.{◌≡◌};
+ghost use Rattle.std.specs.Option.{option_copied};
+ghost use Rattle.std.specs.Slice.Iter.{iter_rest};
+ghost use Rattle.hickory_base.specs.Lookups.{asks_for_dnssec, result_of, is_continue, is_break, answers_of, additionals_of, without_additionals};
+
+use crate::errors::LookupError;
+use hickory_wire::{Edns, Items, Query, Record};
+use std::mem;
+use std::slice::Iter;
+
+/// What a lookup is to take care of.
+#[derive(Clone, Copy, Debug, PartialEq, Eq)]
+pub struct LookupOptions {
+    /// Whether DNSSEC records are asked for (RFC 3225).
+    pub dnssec_ok: bool,
+}
+
+impl LookupOptions {
+    /// The options that the EDNS of a request asks for; none without EDNS.
+    pub fn from_edns(edns: Option<&Edns>) -> LookupOptions
+        ensures { result ≡ record { dnssec_ok = asks_for_dnssec (option_copied edns.entry) } }
+    {
+        match edns {
+            None => LookupOptions { dnssec_ok: false },
+            Some(edns) => LookupOptions {
+                dnssec_ok: edns.dnssec_ok(),
+            },
+        }
+    }
+}
+
+/// What a handler answers, and whether the next handler of the chain may look at it.
+#[derive(Drop)]
+pub enum LookupControlFlow<T> {
+    /// An answer that the other handlers of the chain are consulted about.
+    Continue(Result<T, LookupError>),
+    /// An answer that stands.
+    Break(Result<T, LookupError>),
+    /// No answer: the next handler is asked.
+    Skip,
+}
+
+impl<T> LookupControlFlow<T> {
+    /// The answer, if there is one.
+    pub fn map_result(self) -> Option<Result<T, LookupError>>
+        ensures { result ≡ result_of self }
+    {
+        match self {
+            LookupControlFlow::Continue(result) => Some(result),
+            LookupControlFlow::Break(result) => Some(result),
+            LookupControlFlow::Skip => None,
+        }
+    }
+
+    /// Whether it is `Continue`.
+    pub fn is_continue(&self) -> bool
+        ensures { result ≡ is_continue self.now }
+    {
+        matches!(self, LookupControlFlow::Continue(_))
+    }
+
+    /// Whether it is `Break`.
+    pub fn is_break(&self) -> bool
+        ensures { result ≡ is_break self.now }
+    {
+        matches!(self, LookupControlFlow::Break(_))
+    }
+}
+
+/// What a resolver found for a question: the sections of the message that answered it.
+#[derive(Drop)]
+pub struct Lookup {
+    /// The question.
+    pub query: Query,
+    /// The answer section.
+    pub answers: Items<Record>,
+    /// The authority section.
+    pub authorities: Items<Record>,
+    /// The additional section.
+    pub additionals: Items<Record>,
+}
+
+/// What a lookup found.
+#[derive(Drop)]
+pub enum AuthLookup {
+    /// Nothing.
+    Empty,
+    /// What was resolved elsewhere.
+    Resolved(Lookup),
+    /// Records of the zone.
+    Records {
+        /// Those that were asked for.
+        answers: Items<Record>,
+        /// Those that help to use them.
+        additionals: Items<Record>,
+    },
+}
+
+impl AuthLookup {
+    /// The answers, in their order.
+    pub fn iter(&self) -> Iter<'_, Record>
+        ensures { iter_rest result ≡ answers_of self.now }
+    {
+        let answers: &[Record] = match self {
+            AuthLookup::Empty => &[],
+            AuthLookup::Resolved(found) => found.answers.as_slice(),
+            AuthLookup::Records { answers, .. } => answers.as_slice(),
+        };
+        answers.iter()
+    }
+
+    /// Takes the additionals out of `Records`, which has none after that. It needs no memory.
+    pub fn take_additionals(&mut self) -> Option<Items<Record>>
+        ensures taken { result ≡ additionals_of self.old }
+        ensures left { self.new ≡ without_additionals self.old }
+    {
+        match mem::replace(self, AuthLookup::Empty) {
+            AuthLookup::Records {
+                answers,
+                additionals,
+            } => {
+                let additionals = additionals.into_vec();
+                let none = Vec::new(*additionals.allocator());
+                *self = AuthLookup::Records {
+                    answers,
+                    additionals: Items::from_vec(none),
+                };
+                Some(Items::from_vec(additionals))
+            }
+            other => {
+                *self = other;
+                None
+            }
+        }
+    }
+}
+
+/// The records of a zone transfer, in the order in which they are sent (RFC 5936 section 2.2).
+#[derive(Drop)]
+pub struct ZoneTransfer {
+    /// The SOA record, all other records, and the SOA record again.
+    pub records: Items<Record>,
+}

@@ -1,0 +1,71 @@
+//! Records of one name and type.
+
+ghost use Rattle.std.specs.Prelude.{◌≡◌, ◌↔◌, IsTrue};
+ghost use Rattle.hickory_base.specs.RecordSets.{IsRecordSet};
+
+use crate::zone_store::conditions::is_record_set;
+use hickory_wire::{LowerName, Record, RecordType};
+use std::marker::Model;
+
+/// By what a set of records is found: keys are ordered by name, then by type.
+#[derive(PartialEq, Eq, PartialOrd, Ord, Hash, Drop)]
+pub struct RrKey {
+    /// The owner name of the records.
+    pub name: LowerName,
+    /// Their type.
+    pub record_type: RecordType,
+}
+
+impl RrKey {
+    /// The key of this name and type.
+    pub fn new(name: LowerName, record_type: RecordType) -> RrKey
+        ensures { result ≡ record { name = name; record_type = record_type } }
+    {
+        RrKey { name, record_type }
+    }
+}
+
+/// Records of one name and type, at least one (RFC 2181 section 5).
+#[derive(Drop)]
+pub struct RecordSet {
+    records: Vec<Record>,
+}
+
+impl Model for RecordSet {
+    ghost use Rattle.std.specs.Prelude.{List};
+    ghost use Rattle.hickory_wire.specs.declared.rdata.RData.{RData};
+    ghost use Rattle.hickory_wire.specs.declared.record.Record.{Record};
+
+    ghost Value = { List (Record RData) };
+
+    ghost use Rattle.hickory_base.specs.RecordSets.{IsRecordSet};
+
+    ghost view = { λ set. set.records.items };
+
+    ghost invariant = { λ set. IsRecordSet set.records.items };
+}
+
+impl RecordSet {
+    /// Whether these records make a set: they are all of one name and type, and at least one.
+    pub fn accepts(records: &[Record]) -> bool
+        ensures { IsTrue result ↔ IsRecordSet records.now }
+    {
+        is_record_set(records)
+    }
+
+    /// The set of these records, which `accepts` takes. It needs no memory.
+    pub fn new(records: Vec<Record>) -> RecordSet
+        requires { IsRecordSet records.items }
+        ensures { result ≡ records.items }
+    {
+        RecordSet { records }
+    }
+
+    /// The records, in their order.
+    pub fn records(&self) -> &[Record]
+        ensures value { result.now ≡ self.now }
+        ensures set { IsRecordSet self.now }
+    {
+        self.records.as_slice()
+    }
+}
