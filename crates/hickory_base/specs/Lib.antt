@@ -7,7 +7,6 @@ pub mod RecordSets
 pub mod RequestReading
 pub mod Requests
 pub mod Responses
-pub mod SentReplies
 pub mod Sinks
 pub mod ZoneAnswers
 pub mod ZoneSets
