@@ -34,7 +34,8 @@ impl RecordRef for &Record {
 ///
 /// A contract sees a sink as the list of its entries, one for each reply that it took, and the number of its failures,
 /// which begins again at 0 after 2^64 - 1. `shows` relates a reply with its entry, and `informs` a reply with the header
-/// that the sink's answer tells. A sink over a socket may have relations that always hold.
+/// that the sink's answer tells. Both may depend on settings of the sink, such as its transport, which no call changes.
+/// A sink over a socket may have relations that always hold.
 pub trait ResponseHandler {
     ghost use Rattle.std.specs.Prelude.{◌≡◌, ◌+◌, ◌%◌, ◌^◌, ◌⊎◌, ℕ, List, IfOk, OnOk, OnErr};
     ghost use Rattle.std.specs.Iterator.{IsFinite};
@@ -46,11 +47,16 @@ pub trait ResponseHandler {
     /// What the sink keeps of a reply.
     type Entry;
 
+    /// What it depends on how replies are kept and told of, such as a transport; `()` where it depends on nothing.
+    type Settings;
+
     ghost entries: { Self → List Self.Entry };
 
-    ghost shows: { Reply → Self.Entry → Type 0 };
+    ghost settings: { Self → Self.Settings };
 
-    ghost informs: { Reply → Header → Type 0 };
+    ghost shows: { Self.Settings → Reply → Self.Entry → Type 0 };
+
+    ghost informs: { Self.Settings → Reply → Header → Type 0 };
 
     ghost failures: { Self → ℕ };
 
@@ -77,16 +83,19 @@ pub trait ResponseHandler {
         requires additionals { D.can_next response.additionals × IsFinite (D.remaining response.additionals) }
         ensures ok { IfOk result (λ info. (reply : Reply) ×
             AddsEntry (IsReplyOf (GivesBy A.next_gives A.Item.record_of) (GivesBy N.next_gives N.Item.record_of) (GivesBy S.next_gives S.Item.record_of) (GivesBy D.next_gives D.Item.record_of) response.entry)
-            shows (entries self.old) (entries self.new) reply × informs reply (header_of info)) }
+            (shows (settings self.old)) (entries self.old) (entries self.new) reply × informs (settings self.old) reply (header_of info)) }
         ensures uncounted { OnOk result (failures self.new ≡ failures self.old) }
         ensures err { OnErr result (((reply : Reply) ×
             AddsEntry (IsReplyOf (GivesBy A.next_gives A.Item.record_of) (GivesBy N.next_gives N.Item.record_of) (GivesBy S.next_gives S.Item.record_of) (GivesBy D.next_gives D.Item.record_of) response.entry)
-            shows (entries self.old) (entries self.new) reply) ⊎ (entries self.new ≡ entries self.old)) }
-        ensures counted { OnErr result (failures self.new ≡ (failures self.old + 1) % 2 ^ 64) };
+            (shows (settings self.old)) (entries self.old) (entries self.new) reply) ⊎ (entries self.new ≡ entries self.old)) }
+        ensures counted { OnErr result (failures self.new ≡ (failures self.old + 1) % 2 ^ 64) }
+        ensures settled { settings self.new ≡ settings self.old };
 }
 
 /// What answers requests: for each it hands a reply to a sink.
 pub trait RequestHandler {
+    ghost use Rattle.std.specs.Prelude.{◌≡◌, OnErr};
+
     /// Handles a request, and answers what was told of the reply. `now` is in seconds since 1970.
     ///
     /// After an `Err` no reply was handed over.
@@ -96,5 +105,7 @@ pub trait RequestHandler {
         request: &Request,
         now: u64,
         sink: &mut R,
-    ) -> Result<ResponseInfo, CatalogError>;
+    ) -> Result<ResponseInfo, CatalogError>
+        ensures err { OnErr result ((R.entries sink.new ≡ R.entries sink.old) × (R.failures sink.new ≡ R.failures sink.old)) }
+        ensures settled { R.settings sink.new ≡ R.settings sink.old };
 }
