@@ -10,7 +10,6 @@ use Rattle.hickory_wire.specs.declared.header.MessageType.TheVariants as message
 use Rattle.hickory_wire.specs.declared.query.Query.{Query}
 use Rattle.hickory_wire.specs.declared.tsig.TSigResponseContext.{TSigResponseContext}
 use Rattle.hickory_base.specs.Lookups.{Flow, asks_for_dnssec}
-use Rattle.hickory_base.specs.Questions.{one_query}
 use Rattle.hickory_base.specs.Requests.{ReceivedRequest}
 use Rattle.hickory_base.specs.declared.errors.LookupError.{LookupError}
 use Rattle.hickory_base.specs.declared.errors.LookupError.TheVariants.{Memory}
@@ -80,29 +79,38 @@ answer_reply request edns query_type Unimplemented = Some (unimplemented_reply r
 abbrev pub options_of : ReceivedRequest → LookupOptions
 options_of request = record { dnssec_ok = asks_for_dnssec request.message.edns }
 
--- The reply to a query, by the zones and what a handler answered.
+-- the question, where there is just one
+abbrev pub single_question : List Query → Option Query
+single_question [] = None
+single_question (query ∷ []) = Some query
+single_question (first ∷ second ∷ others) = None
+
+-- The reply to a query from the zone of this chain of handlers.
+pub data ZoneReply {H : Type 0} (handler : Ghosts H) (chain : List H) (request : ReceivedRequest) (edns : Option EdnsFields) (query_type : ℕ) (reply : Reply) : Type 0 where
+  -- The type or the chain is not implemented, and no handler is asked.
+  unasked : (is_implemented_type query_type && is_implemented_chain handler chain) ≡ false
+      → reply ≡ unimplemented_reply request.message → ZoneReply handler chain request edns query_type reply
+  -- The chain was asked.
+  answered : {place : ℕ} {answer : Flow} {context : Option TSigResponseContext}
+      → (is_implemented_type query_type && is_implemented_chain handler chain) ≡ true
+      → Asked handler request (options_of request) chain place answer context
+      → answer_reply request.message edns query_type (finding answer context) ≡ Some reply → ZoneReply handler chain request edns query_type reply
+
+-- The reply to a query, with this EDNS.
 pub data QueryReply {H : Type 0} (handler : Ghosts H) (zones : List (DomainName × List H)) (request : ReceivedRequest) (edns : Option EdnsFields) (reply : Reply) : Type 0 where
   -- There is not just one question.
-  other_count : {e : LookupError} → one_query request.message.queries.queries ≡ Err e
+  other_count : single_question request.message.queries.queries ≡ None
       → reply ≡ unimplemented_reply request.message → QueryReply handler zones request edns reply
   other_edns : is_implemented_edns edns ≡ false
       → reply ≡ unimplemented_reply request.message → QueryReply handler zones request edns reply
-  -- There is one question, and no zone that answers for its name.
-  no_zone : {query : Query} → one_query request.message.queries.queries ≡ Ok query → is_implemented_edns edns ≡ true
+  -- No zone answers for the name.
+  no_zone : {query : Query} → single_question request.message.queries.queries ≡ Some query → is_implemented_edns edns ≡ true
       → Finds zones (lower_name query.name) None
       → reply ≡ refused_reply request.message edns → QueryReply handler zones request edns reply
-  -- There is a zone, and the type or the zone's chain is not implemented.
-  other_chain : {query : Query} {chain : List H} → one_query request.message.queries.queries ≡ Ok query → is_implemented_edns edns ≡ true
+  -- The zone of this chain answers for the name.
+  zone : {query : Query} {chain : List H} → single_question request.message.queries.queries ≡ Some query → is_implemented_edns edns ≡ true
       → Finds zones (lower_name query.name) (Some chain)
-      → (is_implemented_type query.query_type && is_implemented_chain handler chain) ≡ false
-      → reply ≡ unimplemented_reply request.message → QueryReply handler zones request edns reply
-  -- The zone's handler was asked.
-  answered : {query : Query} {chain : List H} {place : ℕ} {answer : Flow} {context : Option TSigResponseContext}
-      → one_query request.message.queries.queries ≡ Ok query → is_implemented_edns edns ≡ true
-      → Finds zones (lower_name query.name) (Some chain)
-      → (is_implemented_type query.query_type && is_implemented_chain handler chain) ≡ true
-      → Asked handler request (options_of request) chain place answer context
-      → answer_reply request.message edns query.query_type (finding answer context) ≡ Some reply → QueryReply handler zones request edns reply
+      → ZoneReply handler chain request edns query.query_type reply → QueryReply handler zones request edns reply
 
 abbrev pub is_query : MessageType → Bool
 is_query message_type.Query = true
@@ -118,5 +126,5 @@ is_implemented_request request = is_query request.metadata.message_type && (requ
 
 -- The reply to a request: a query gets its reply without EDNS, as it has none itself (RFC 6891 section 6.1.1).
 pub data RequestReply {H : Type 0} (handler : Ghosts H) (zones : List (DomainName × List H)) (request : ReceivedRequest) (reply : Reply) : Type 0 where
-  query : is_implemented_request request.message ≡ true → QueryReply handler zones request None reply → RequestReply handler zones request reply
+  asks : is_implemented_request request.message ≡ true → QueryReply handler zones request None reply → RequestReply handler zones request reply
   other : is_implemented_request request.message ≡ false → reply ≡ unimplemented_reply request.message → RequestReply handler zones request reply

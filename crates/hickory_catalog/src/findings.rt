@@ -96,6 +96,13 @@ pub(crate) fn is_implemented<H: ZoneHandler>(query_type: RecordType, chain: &[H]
     }
 }
 
+/// What the handlers are told to take care of, as the EDNS of the request has it.
+fn options_for(request: &Request) -> LookupOptions
+    ensures { result ≡ options_of request.now }
+{
+    LookupOptions::from_edns(request.message().edns.as_ref())
+}
+
 /// Asks the handlers of a chain from left to right: who answered, what, and with which context. A `Skip` goes on with the
 /// rest and drops its context.
 pub(crate) fn ask<H: ZoneHandler>(
@@ -109,7 +116,7 @@ pub(crate) fn ask<H: ZoneHandler>(
 )
     ensures { Asked H.ZoneHandler request.now (options_of request.now) chain.now result.0 result.1 result.2 }
 {
-    let options = LookupOptions::from_edns(request.message().edns.as_ref());
+    let options = options_for(request);
     for i in 0..chain.len() {
         let (answer, context) = chain[i].search(alloc, request, options);
         match answer {

@@ -4,7 +4,7 @@ ghost use Rattle.std.specs.Prelude.{◌≡◌, not, IfOk, IfErr};
 ghost use Rattle.std.specs.Option.{option_copied};
 ghost use Rattle.hickory_wire.specs.Reply.{Reply};
 ghost use Rattle.hickory_base.specs.Responses.{header_of};
-ghost use Rattle.hickory_catalog.specs.Queries.{QueryReply, is_implemented_edns, is_implemented_request};
+ghost use Rattle.hickory_catalog.specs.Queries.{QueryReply, ZoneReply, is_implemented_edns, is_implemented_request, single_question};
 ghost use Rattle.hickory_catalog.specs.Replies.{unimplemented_reply};
 ghost use Rattle.hickory_catalog.specs.Sending.{IsSent};
 
@@ -15,7 +15,7 @@ use hickory_base::errors::CatalogError;
 use hickory_base::message_request::MessageRequest;
 use hickory_base::server::{Request, ResponseHandler, ResponseInfo};
 use hickory_base::zone_store::ZoneHandler;
-use hickory_wire::{Edns, MessageType, OpCode, ResponseCode};
+use hickory_wire::{Edns, LowerQuery, MessageType, OpCode, RecordType, ResponseCode};
 use std::alloc::Global;
 
 /// Whether a reply can carry this EDNS: it has no high bits of a response code.
@@ -50,7 +50,47 @@ pub(crate) fn send_unimplemented<R: ResponseHandler>(
     send_error(sink, alloc, request, None, ResponseCode::SERV_FAIL)
 }
 
-/// Answers a query by its zone's handlers, and hands the reply over, with this EDNS.
+/// The question of a request, where there is just one.
+fn single_question(request: &MessageRequest) -> Option<&LowerQuery>
+    ensures { option_copied result ≡ single_question request.now.queries.queries }
+{
+    match request.queries.queries() {
+        [query] => Some(query),
+        _ => None,
+    }
+}
+
+/// Answers a query by the handlers of its zone, and hands the reply over, with this EDNS.
+fn answer_zone<H: ZoneHandler, R: ResponseHandler>(
+    chain: &[H],
+    alloc: Global,
+    request: &Request,
+    edns: Option<&Edns>,
+    query_type: RecordType,
+    sink: &mut R,
+) -> Result<ResponseInfo, CatalogError>
+    ensures replied { IfOk result (λ info. (reply : Reply) ×
+        ZoneReply H.ZoneHandler chain.now request.now (option_copied edns.entry) query_type reply ×
+        IsSent R.shows R.informs request.now.message.metadata (R.entries sink.old) (R.entries sink.new) (R.failures sink.old) (R.failures sink.new) reply (header_of info)) }
+    ensures refused { IfErr result (λ e. (e ≡ CatalogError.Memory) ×
+        (R.entries sink.new ≡ R.entries sink.old) × (R.failures sink.new ≡ R.failures sink.old)) }
+{
+    let message = request.message();
+    if is_implemented(query_type, chain) {
+        let (_, answer, context) = ask(chain, alloc, request);
+        match finding_of(answer, context) {
+            Finding::Found(found) => {
+                Ok(send_answer(sink, alloc, message, edns, query_type, &found))
+            }
+            Finding::NoMemory => Err(CatalogError::Memory),
+            Finding::Unimplemented => Ok(send_unimplemented(sink, alloc, message)),
+        }
+    } else {
+        Ok(send_unimplemented(sink, alloc, message))
+    }
+}
+
+/// Answers a query, and hands the reply over, with this EDNS.
 pub(crate) fn answer_query<H: ZoneHandler, R: ResponseHandler>(
     zones: &Zones<H>,
     alloc: Global,
@@ -65,23 +105,17 @@ pub(crate) fn answer_query<H: ZoneHandler, R: ResponseHandler>(
         (R.entries sink.new ≡ R.entries sink.old) × (R.failures sink.new ≡ R.failures sink.old)) }
 {
     let message = request.message();
-    let Ok(info) = request.request_info() else {
+    let Some(query) = single_question(message) else {
         return Ok(send_unimplemented(sink, alloc, message));
     };
     if !is_implemented_edns(edns) {
         return Ok(send_unimplemented(sink, alloc, message));
     }
-    let query_type = info.query.query_type();
-    let Some(chain) = zones.find(alloc, info.query.name())? else {
-        return Ok(send_error(sink, alloc, message, edns, ResponseCode::REFUSED));
-    };
-    if !is_implemented(query_type, chain.as_slice()) {
-        return Ok(send_unimplemented(sink, alloc, message));
-    }
-    let (_, answer, context) = ask(chain.as_slice(), alloc, request);
-    match finding_of(answer, context) {
-        Finding::Found(found) => Ok(send_answer(sink, alloc, message, edns, query_type, &found)),
-        Finding::NoMemory => Err(CatalogError::Memory),
-        Finding::Unimplemented => Ok(send_unimplemented(sink, alloc, message)),
+    match zones.find(alloc, query.name())? {
+        None => Ok(send_error(sink, alloc, message, edns, ResponseCode::REFUSED)),
+        Some(chain) => {
+            let chain = chain.as_slice();
+            answer_zone(chain, alloc, request, edns, query.query_type(), sink)
+        }
     }
 }

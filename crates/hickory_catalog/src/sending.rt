@@ -80,12 +80,8 @@ pub(crate) fn send_error<R: ResponseHandler>(
     ensures { IsSent R.shows R.informs request.now.metadata (R.entries sink.old) (R.entries sink.new) (R.failures sink.old) (R.failures sink.new) (error_reply request.now (option_copied edns.entry) code) (header_of result) }
 {
     let builder = MessageResponseBuilder::new(&request.queries, edns);
-    send(
-        sink,
-        alloc,
-        &request.metadata,
-        builder.error_msg(&request.metadata, code),
-    )
+    let error = builder.error_msg(&request.metadata, code);
+    send(sink, alloc, &request.metadata, error)
 }
 
 /// Whether records that were found are a referral to the servers of a zone below (RFC 1034 section 4.3.2, step 3b).

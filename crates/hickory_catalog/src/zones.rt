@@ -2,7 +2,7 @@
 
 ghost use Rattle.std.specs.Prelude.{◌≡◌, ◌↔◌, [], IfOk, IfErr, OnErr, IsTrue, Some, None, option_map};
 ghost use Rattle.hickory_catalog.specs.Zones.{AreInOrder, HasZone, ChangesAt};
-ghost use Rattle.hickory_catalog.specs.Find.{Finds, OneAnswers, CaseDoesNotMatter};
+ghost use Rattle.hickory_catalog.specs.Find.{Finds};
 
 use hickory_wire::LowerName;
 use std::alloc::{AllocError, AllocFailed, Global};
@@ -15,7 +15,7 @@ use std::marker::Model;
 /// qualified or neither, and with the same labels without regard to letter case.
 #[derive(Drop)]
 pub struct Zones<H> {
-    map: BTreeMap<LowerName, Vec<H>>,
+    chains: BTreeMap<LowerName, Vec<H>>,
 }
 
 impl<H> Model for Zones<H> {
@@ -26,9 +26,9 @@ impl<H> Model for Zones<H> {
 
     ghost Value = { List (DomainName × List H) };
 
-    ghost view = { λ zones. map (λ zone. (zone.0, zone.1.items)) zones.map.entries };
+    ghost view = { λ zones. map (λ zone. (zone.0, zone.1.items)) zones.chains.entries };
 
-    ghost invariant = { λ zones. IsOrdered name_cmp zones.map };
+    ghost invariant = { λ zones. IsOrdered name_cmp zones.chains };
 }
 
 impl<H: Drop> Zones<H> {
@@ -37,7 +37,7 @@ impl<H: Drop> Zones<H> {
         ensures { result ≡ [] }
     {
         Zones {
-            map: BTreeMap::new(alloc),
+            chains: BTreeMap::new(alloc),
         }
     }
 
@@ -53,7 +53,7 @@ impl<H: Drop> Zones<H> {
         ensures handed_back { IfErr result (λ both. both ≡ (name, handlers)) }
         ensures err { OnErr result (self.new ≡ self.old) }
     {
-        match self.map.insert(name, handlers) {
+        match self.chains.insert(name, handlers) {
             Ok(old) => Ok(old),
             Err(AllocFailed { value }) => Err(value),
         }
@@ -63,14 +63,14 @@ impl<H: Drop> Zones<H> {
     pub fn remove(&mut self, name: &LowerName) -> Option<Vec<H>>
         ensures { ChangesAt self.old name.now (option_map (λ chain. chain.items) result) None self.new }
     {
-        self.map.remove(name)
+        self.chains.remove(name)
     }
 
     /// Whether there is a zone of this name.
     pub fn contains(&self, name: &LowerName) -> bool
         ensures { IsTrue result ↔ HasZone self.now name.now }
     {
-        self.map.contains_key(name)
+        self.chains.contains_key(name)
     }
 
     /// The chain of handlers of the zone that answers for a name: for a fully qualified name the fully qualified zone
@@ -79,12 +79,6 @@ impl<H: Drop> Zones<H> {
         ensures found { IfOk result (λ found. Finds self.now name.now (option_map (λ chain. chain.now.items) found)) }
         ensures ordered { AreInOrder self.now }
     {
-        Ok(self.map.get(name))
+        Ok(self.chains.get(name))
     }
 }
-
-/// What is found is one, and does not depend on letter case.
-pub fn find_laws<V>()
-    ensures one { OneAnswers V }
-    ensures case { CaseDoesNotMatter V }
-{}

@@ -1,4 +1,4 @@
-use Rattle.hickory_catalog.proofs.Sending.{sent_after_ok, sent_after_err}
+use Rattle.hickory_catalog.proofs.SentReplies.{sent_after_ok, sent_after_err}
 use Rattle.hickory_catalog.proofs.sending.send.Goals as goal
 
 pub returns-in-Ok : goal.returns-in-Ok

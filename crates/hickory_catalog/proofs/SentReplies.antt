@@ -42,31 +42,33 @@ reply_by_parts r metadata question count edns answers authorities soa additional
 
 -- the reply of a response that was built
 pub reply_of_built : {A N S D : Type 0} {answers_give : A → List (Record RData) → Type 0} {authorities_give : N → List (Record RData) → Type 0} {soa_gives : S → List (Record RData) → Type 0} {additionals_give : D → List (Record RData) → Type 0}
-    {response : MessageResponse A N S D} {base expected : ReplyBase} {metadata : Metadata} {answers authorities soa additionals : List (Record RData)}
-    → (r : Reply) → IsReplyOf answers_give authorities_give soa_gives additionals_give response r → IsBuilt base metadata response → base ≡ expected
+    {response : MessageResponse A N S D} {base expected : ReplyBase} {built_metadata metadata : Metadata} {answers authorities soa additionals : List (Record RData)}
+    → (r : Reply) → IsReplyOf answers_give authorities_give soa_gives additionals_give response r → IsBuilt base built_metadata response → base ≡ expected → built_metadata ≡ metadata
     → r.answers ≡ answers → r.authorities ≡ authorities → r.soa ≡ soa → r.additionals ≡ additionals
     → r ≡ record { metadata = metadata; question = expected.questions.bytes; question_count = length expected.questions.queries; edns = expected.edns; answers = answers; authorities = authorities; soa = soa; additionals = additionals; signature = None }
-reply_of_built r is built e answers authorities soa additionals =
+reply_of_built r is built e m answers authorities soa additionals =
     let q = built.queries ∙ ap (λ b. b.questions) e in
-    reply_by_parts r _ _ _ _ _ _ _ _ _ (is.metadata ∙ built.metadata_is) (is.question ∙ ap (λ s. s.bytes) q) (is.question_count ∙ ap (λ s. length s.queries) q)
+    reply_by_parts r _ _ _ _ _ _ _ _ _ (is.metadata ∙ (built.metadata_is ∙ m)) (is.question ∙ ap (λ s. s.bytes) q) (is.question_count ∙ ap (λ s. length s.queries) q)
     (is.edns ∙ (built.edns ∙ ap (λ b. b.edns) e)) answers authorities soa additionals (is.signature ∙ built.signature)
 
-module _ {Entry : Type 0} {P : Reply → Type 0} {shows : Reply → Entry → Type 0} {informs : Reply → Header → Type 0} {request : Metadata} {old new : List Entry} {failures failures' : ℕ} {told : Header} where
+module _ {Entry : Type 0} {P : Reply → Type 0} {shows : Reply → Entry → Type 0} {old new : List Entry} where
   -- the entry is one of the reply
   adds_reply : {reply r : Reply} → ((r : Reply) → P r → r ≡ reply) → AddsEntry P shows old new r → AddsReply shows old new reply
   adds_reply {r = r} so a = (a.entry, subst (λ (x : Reply). shows x a.entry) (so r a.is_handed) a.is_shown, a.grew)
-
-  -- the sink took the reply
-  pub sent_after_ok : (reply : Reply) → ((r : Reply) → P r → r ≡ reply) → (r : Reply) × AddsEntry P shows old new r × informs r told → failures' ≡ failures
-      → IsSent shows informs request old new failures failures' reply told
-  sent_after_ok reply so (r, added, informed) uncounted =
-      inl (record { uncounted = uncounted; added = adds_reply so added; informed = subst (λ (x : Reply). informs x told) (so r added.is_handed) informed })
 
   added_or_not : {reply : Reply} → ((r : Reply) → P r → r ≡ reply) → ((r : Reply) × AddsEntry P shows old new r) ⊎ (new ≡ old) → AddsReply shows old new reply ⊎ (new ≡ old)
   added_or_not so (inl (r, added)) = inl (adds_reply so added)
   added_or_not so (inr same) = inr same
 
-  -- the sink failed
-  pub sent_after_err : (reply : Reply) → ((r : Reply) → P r → r ≡ reply) → ((r : Reply) × AddsEntry P shows old new r) ⊎ (new ≡ old) → failures' ≡ (failures + 1) % 2 ^ 64
-      → told ≡ failure_header request → IsSent shows informs request old new failures failures' reply told
-  sent_after_err reply so added counted informed = inr (record { counted = counted; added = added_or_not so added; informed = informed })
+  module _ {failures failures' : ℕ} {told : Header} where
+    -- the sink took the reply
+    pub sent_after_ok : {informs : Reply → Header → Type 0} {request : Metadata} (reply : Reply) → ((r : Reply) → P r → r ≡ reply)
+        → (r : Reply) × AddsEntry P shows old new r × informs r told → failures' ≡ failures → IsSent shows informs request old new failures failures' reply told
+    sent_after_ok {informs = informs} reply so (r, added, informed) uncounted =
+        inl (record { uncounted = uncounted; added = adds_reply so added; informed = subst (λ (x : Reply). informs x told) (so r added.is_handed) informed })
+
+    -- the sink failed
+    pub sent_after_err : {informs : Reply → Header → Type 0} {request : Metadata} (reply : Reply) → ((r : Reply) → P r → r ≡ reply)
+        → ((r : Reply) × AddsEntry P shows old new r) ⊎ (new ≡ old) → failures' ≡ (failures + 1) % 2 ^ 64 → told ≡ failure_header request
+        → IsSent shows informs request old new failures failures' reply told
+    sent_after_err reply so added counted informed = inr (record { counted = counted; added = added_or_not so added; informed = informed })
