@@ -6,4 +6,6 @@ mod findings;
 mod queries;
 mod sending;
 pub mod signer;
+#[cfg(test)]
+mod tests;
 pub mod zones;

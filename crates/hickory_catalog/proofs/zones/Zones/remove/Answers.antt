@@ -1,0 +1,4 @@
+use Rattle.hickory_catalog.proofs.zones.Zones.remove.Goals as goal
+
+pub returns : goal.returns
+returns g c = ?
