@@ -131,7 +131,7 @@ struct Scripted {
     asked: Cell<u32>,
 }
 
-fn address(owner: &Name, ttl: u32) -> Result<Record, AllocError> {
+fn address_record(owner: &Name, ttl: u32) -> Result<Record, AllocError> {
     Ok(Record {
         name: owner.clone()?,
         dns_class: DNSClass::IN,
@@ -141,15 +141,15 @@ fn address(owner: &Name, ttl: u32) -> Result<Record, AllocError> {
     })
 }
 
-fn one_record(alloc: Global, record: Record) -> Result<Items<Record>, AllocError> {
+fn one_record(alloc: Global, only: Record) -> Result<Items<Record>, AllocError> {
     let mut records = Items::new(alloc);
-    records.push(record)?;
+    records.push(only)?;
     Ok(records)
 }
 
 impl Scripted {
     fn count(&self, alloc: Global) -> Result<AuthLookup, LookupError> {
-        let record = address(self.origin.as_name(), self.asked.get())?;
+        let record = address_record(self.origin.as_name(), self.asked.get())?;
         Ok(AuthLookup::Records {
             answers: one_record(alloc, record)?,
             additionals: Items::new(alloc),
@@ -374,7 +374,7 @@ fn memory_zone(rt: &(impl Abort + AllocGlobal)) -> Result<InMemoryZoneHandler, F
     let alloc = rt.alloc();
     let www = lower_name(alloc, "www.example.com.")?;
     let mut set = Vec::new(alloc);
-    set.push(address(www.as_name(), 3600)?)?;
+    set.push(address_record(www.as_name(), 3600)?)?;
     assert!(rt; RecordSet::accepts(set.as_slice()));
     let set = Rc::new(alloc, RecordSet::new(set))?;
     let mut records = BTreeMap::new(alloc);
@@ -515,21 +515,50 @@ fn fault(
     catalog.handle_request(alloc, request, 0, &mut sink).err()
 }
 
+/// The query, if there is memory for it.
+fn query_in_memory(alloc: Global) -> Option<Request> {
+    let bytes = QUERY.to_vec(alloc).ok()?;
+    let source = SocketAddr::new(IpAddr::V4(Ipv4Addr::new(127, 0, 0, 1)), 53);
+    Request::from_bytes(alloc, bytes, source, Protocol::Udp).ok()
+}
+
+/// Puts a handler at the root, if there is memory for it.
+fn put_at_root(
+    alloc: Global,
+    catalog: &mut Catalog<NoSigner>,
+    handler: Box<dyn ZoneHandler>,
+) -> Option<()> {
+    let mut chain: Vec<Box<dyn ZoneHandler>> = Vec::new(alloc);
+    chain.push(handler).ok()?;
+    let root = LowerName::new(alloc, &Name::root()).ok()?;
+    catalog.upsert(root, chain).ok()?;
+    Some(())
+}
+
+fn counts_at_root(alloc: Global) -> Option<Scripted> {
+    Some(Scripted {
+        origin: LowerName::new(alloc, &Name::root()).ok()?,
+        zone_type: ZoneType::Primary,
+        script: Script::Count,
+        asked: Cell::new(0),
+    })
+}
+
 /// Each growth refused in turn: the only other answer is want of memory.
 #[test]
 fn refused_growth(rt: HostRuntime) {
     let alloc = rt.alloc();
     let mut catalog = Catalog::new(alloc, NoSigner);
-    let Ok(handler) = scripted(alloc, Script::Count) else {
+    let Some(handler) = counts_at_root(alloc) else {
         return;
     };
     let Ok(handler) = Box::new(alloc, handler) else {
         return;
     };
-    if put(alloc, &mut catalog, "com.", handler).is_err() {
+    if put_at_root(alloc, &mut catalog, handler).is_none() {
         return;
     }
-    let Ok(request) = query(alloc) else {
+    let Some(request) = query_in_memory(alloc) else {
         return;
     };
     if let Some(fault) = fault(alloc, &request, &mut catalog) {
