@@ -1,0 +1,4 @@
+//! The catalog: which zone answers a request, and with what reply.
+#![tactic(auto)]
+
+pub mod zones;
