@@ -1,0 +1,4 @@
+pub mod Lookups
+pub mod Nearest
+pub mod OneAnswer
+pub mod Places
