@@ -2,7 +2,7 @@
 
 ghost use Rattle.std.specs.Prelude.{◌≡◌, ◌↔◌, [], IfOk, IfErr, OnErr, IsTrue, Some, None, option_map};
 ghost use Rattle.hickory_catalog.specs.Zones.{AreInOrder, HasZone, ChangesAt};
-ghost use Rattle.hickory_catalog.specs.Find.{Finds};
+ghost use Rattle.hickory_catalog.specs.Find.{Finds, OneAnswers, CaseDoesNotMatter};
 
 use hickory_wire::LowerName;
 use std::alloc::{AllocError, AllocFailed, Global};
@@ -79,6 +79,25 @@ impl<H: Drop> Zones<H> {
         ensures found { IfOk result (λ found. Finds self.now name.now (option_map (λ chain. chain.now.items) found)) }
         ensures ordered { AreInOrder self.now }
     {
-        Ok(self.chains.get(name))
+        if let Some(chain) = self.chains.get(name) {
+            return Ok(Some(chain));
+        }
+        if !name.as_name().is_fqdn() {
+            return Ok(None);
+        }
+        let mut ancestor = name.clone()?;
+        while !ancestor.as_name().is_root() {
+            ancestor.remove_first_label();
+            if let Some(chain) = self.chains.get(&ancestor) {
+                return Ok(Some(chain));
+            }
+        }
+        Ok(None)
     }
 }
+
+/// What is found is one, and does not depend on letter case.
+pub fn find_laws<V>()
+    ensures one { OneAnswers V }
+    ensures case { CaseDoesNotMatter V }
+{}
