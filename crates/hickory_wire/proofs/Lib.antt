@@ -6,6 +6,7 @@ pub mod Chained
 pub mod CountedItems
 pub mod Ends
 pub mod FaultSteps
+pub mod FirstLabel
 pub mod FiveLists
 pub mod FormFaults
 pub mod FormIsRead

@@ -1,6 +1,6 @@
 //! Domain names in lower case.
 
-ghost use Rattle.std.specs.Prelude.{◌≡◌, IfOk};
+ghost use Rattle.std.specs.Prelude.{◌≡◌, IfOk, drop};
 ghost use Rattle.std.specs.Ordering.{as_partial_cmp};
 ghost use Rattle.std.specs.Cmp.{eq_by_cmp_equiv, partial_equiv_from_equiv, partial_order_from_total};
 ghost use Rattle.std.specs.Cmp.Rules.{comparing};
@@ -50,6 +50,13 @@ impl LowerName {
         ensures lower { lower_labels self.now.labels ≡ self.now.labels }
     {
         &self.name
+    }
+
+    /// Takes the first label off, so that the name above is left. A name without labels stays. It takes no memory.
+    pub fn remove_first_label(&mut self)
+        ensures { self.new ≡ record self.old { labels = drop 1 self.old.labels } }
+    {
+        self.name.remove_first_label();
     }
 }
 

@@ -1,6 +1,6 @@
 //! Domain names.
 
-ghost use Rattle.std.specs.Prelude.{◌≡◌, ◌↔◌, [], length, map, IfOk, true, IsTrue};
+ghost use Rattle.std.specs.Prelude.{◌≡◌, ◌↔◌, [], length, map, drop, IfOk, true, IsTrue};
 ghost use Rattle.std.specs.Char.{to_ascii_lowercase};
 ghost use Rattle.std.specs.Ordering.{eq_by_cmp, as_partial_cmp};
 ghost use Rattle.std.specs.Cmp.{eq_by_cmp_equiv, partial_equiv_from_equiv, partial_order_from_total};
@@ -37,6 +37,21 @@ fn lowered(alloc: Global, bytes: &[u8]) -> Result<Vec<u8>, AllocError>
     let mut copy = Vec::from_slice(alloc, bytes)?;
     copy.make_ascii_lowercase();
     Ok(copy)
+}
+
+/// Takes the first label, if there is one, off labels in wire form.
+fn remove_label(bytes: &mut Vec<u8>)
+    requires { IsWire bytes.old.items }
+    ensures is_wire { IsWire bytes.new.items }
+    ensures labels { cut bytes.new.items ≡ drop 1 (cut bytes.old.items) }
+{
+    if bytes.is_empty() {
+        return;
+    }
+    let label = 1 + usize::from(bytes[0]);
+    bytes.rotate_left(label);
+    let rest = bytes.len() - label;
+    bytes.truncate(rest);
 }
 
 impl Model for Name {
@@ -103,6 +118,15 @@ impl Name {
         ensures { self.new ≡ record self.old { is_fqdn = is_fqdn } }
     {
         self.is_fqdn = is_fqdn;
+    }
+
+    /// Takes the first label off. A name without labels stays.
+    pub(crate) fn remove_first_label(&mut self)
+        ensures { self.new ≡ record self.old { labels = drop 1 self.old.labels } }
+    {
+        if let Some(bytes) = &mut self.wire {
+            remove_label(bytes);
+        }
     }
 
     fn label_count(&self) -> usize

@@ -197,6 +197,20 @@ fn letter_case_does_not_matter(rt: HostRuntime) -> Result<(), Fail> {
 }
 
 #[test]
+fn the_first_label_comes_off(rt: HostRuntime) -> Result<(), Fail> {
+    let alloc = rt.alloc();
+    let mut name = LowerName::new(alloc, &Name::from_ascii(alloc, "www.Example.com.")?)?;
+    name.remove_first_label();
+    assert!(rt; *name.as_name() == Name::from_ascii(alloc, "example.com.")?);
+    name.remove_first_label();
+    name.remove_first_label();
+    assert!(rt; name.as_name().is_root());
+    name.remove_first_label();
+    assert!(rt; name.as_name().is_root());
+    Ok(())
+}
+
+#[test]
 fn names_are_in_canonical_order(rt: HostRuntime) -> Result<(), Fail> {
     let alloc = rt.alloc();
     // RFC 4034, section 6.1, without the names that have no text here.

@@ -1,0 +1,7 @@
+pub mod Asking
+pub mod Lookups
+pub mod Nearest
+pub mod OneAnswer
+pub mod Places
+pub mod QueryReplies
+pub mod SentReplies

@@ -1,0 +1,74 @@
+-- From what a sink's answer says to what a call says of it.
+use Rattle.std.proofs.Common.{◌≡◌, ℕ, ◌+◌, ◌%◌, ◌^◌, ◌⊎◌, inl, inr, List, [], ◌∷◌, length, Option, Some, None, Bor, map, ◌∙◌, sym, ap, subst, refl}
+use Rattle.std.specs.Iterator.Adapters.{once_steps, once_item}
+use Rattle.std.specs.Option.{option_copied}
+use Rattle.std.specs.Slice.Iter.{iter_steps, iter_rest}
+use Rattle.std.proofs.lemmas.Iterator.Adapters.{YieldsList-from_once}
+use Rattle.std.proofs.lemmas.Iterator.{items_from_drains, YieldsList-from_slice}
+use Rattle.hickory_wire.specs.EdnsFields.{EdnsFields}
+use Rattle.hickory_wire.specs.Reply.{Reply}
+use Rattle.hickory_wire.specs.declared.header.Header.{Header}
+use Rattle.hickory_wire.specs.declared.header.Metadata.{Metadata}
+use Rattle.hickory_wire.specs.declared.rdata.RData.{RData}
+use Rattle.hickory_wire.specs.declared.record.Record.{Record}
+use Rattle.hickory_wire.specs.declared.tsig.TSIG.{TSIG}
+use Rattle.hickory_base.specs.Responses.{GivesBy, IsBuilt, IsReplyOf, ReplyBase}
+use Rattle.hickory_base.specs.Sinks.{AddsEntry}
+use Rattle.hickory_base.specs.declared.message_response.MessageResponse.{MessageResponse}
+use Rattle.hickory_catalog.specs.Sending.{AddsReply, IsSent, failure_header}
+
+-- the iterator of a slice gives the slice
+pub given_by_slice : {records xs : List (Record RData)} {it : _} → GivesBy iter_steps (λ (x : Bor (Record RData)). x.now) it records → iter_rest it ≡ xs → records ≡ xs
+given_by_slice {xs = xs} gives e =
+    let d = gives.1 in
+    sym gives.2 ∙ items_from_drains gives.0 (d.1.0, d.1.1, λ _. (d.0, d.1.2)) (YieldsList-from_slice xs e)
+
+no_items : (items : List (Bor (Record RData))) → map (λ (x : Bor (Record RData)). x) items ≡ [] → map (λ (x : Bor (Record RData)). x.now) items ≡ []
+no_items [] e = refl
+no_items (x ∷ xs) e = cc
+
+-- the empty iterator gives nothing
+pub given_by_empty : {records : List (Record RData)} {it : _} → GivesBy once_steps (λ (x : Bor (Record RData)). x.now) it records → once_item it ≡ None → records ≡ []
+given_by_empty gives e =
+    let d = gives.1 in
+    let none : map (λ (x : Bor (Record RData)). x) gives.0 ≡ [] = items_from_drains gives.0 (d.1.0, d.1.1, λ _. (d.0, d.1.2)) (YieldsList-from_once None e) in
+    sym gives.2 ∙ no_items gives.0 none
+
+-- a reply is known by its parts
+reply_by_parts : (r : Reply) (metadata : Metadata) (question : List ℕ) (count : ℕ) (edns : Option EdnsFields) (answers authorities soa additionals : List (Record RData)) (signature : Option (Record TSIG))
+    → r.metadata ≡ metadata → r.question ≡ question → r.question_count ≡ count → r.edns ≡ edns → r.answers ≡ answers → r.authorities ≡ authorities → r.soa ≡ soa → r.additionals ≡ additionals → r.signature ≡ signature
+    → r ≡ record { metadata = metadata; question = question; question_count = count; edns = edns; answers = answers; authorities = authorities; soa = soa; additionals = additionals; signature = signature }
+reply_by_parts r metadata question count edns answers authorities soa additionals signature e f g h i j k l m = rw (← e, ← f, ← g, ← h, ← i, ← j, ← k, ← l, ← m)
+
+-- the reply of a response that was built
+pub reply_of_built : {A N S D : Type 0} {answers_give : A → List (Record RData) → Type 0} {authorities_give : N → List (Record RData) → Type 0} {soa_gives : S → List (Record RData) → Type 0} {additionals_give : D → List (Record RData) → Type 0}
+    {response : MessageResponse A N S D} {base expected : ReplyBase} {built_metadata metadata : Metadata} {answers authorities soa additionals : List (Record RData)}
+    → (r : Reply) → IsReplyOf answers_give authorities_give soa_gives additionals_give response r → IsBuilt base built_metadata response → base ≡ expected → built_metadata ≡ metadata
+    → r.answers ≡ answers → r.authorities ≡ authorities → r.soa ≡ soa → r.additionals ≡ additionals
+    → r ≡ record { metadata = metadata; question = expected.questions.bytes; question_count = length expected.questions.queries; edns = expected.edns; answers = answers; authorities = authorities; soa = soa; additionals = additionals; signature = None }
+reply_of_built r is built e m answers authorities soa additionals =
+    let q = built.queries ∙ ap (λ b. b.questions) e in
+    reply_by_parts r _ _ _ _ _ _ _ _ _ (is.metadata ∙ (built.metadata_is ∙ m)) (is.question ∙ ap (λ s. s.bytes) q) (is.question_count ∙ ap (λ s. length s.queries) q)
+    (is.edns ∙ (built.edns ∙ ap (λ b. b.edns) e)) answers authorities soa additionals (is.signature ∙ built.signature)
+
+module _ {Entry : Type 0} {P : Reply → Type 0} {shows : Reply → Entry → Type 0} {old new : List Entry} where
+  -- the entry is one of the reply
+  adds_reply : {reply r : Reply} → ((r : Reply) → P r → r ≡ reply) → AddsEntry P shows old new r → AddsReply shows old new reply
+  adds_reply {r = r} so a = (a.entry, subst (λ (x : Reply). shows x a.entry) (so r a.is_handed) a.is_shown, a.grew)
+
+  added_or_not : {reply : Reply} → ((r : Reply) → P r → r ≡ reply) → ((r : Reply) × AddsEntry P shows old new r) ⊎ (new ≡ old) → AddsReply shows old new reply ⊎ (new ≡ old)
+  added_or_not so (inl (r, added)) = inl (adds_reply so added)
+  added_or_not so (inr same) = inr same
+
+  module _ {failures failures' : ℕ} {told : Header} where
+    -- the sink took the reply
+    pub sent_after_ok : {informs : Reply → Header → Type 0} {request : Metadata} (reply : Reply) → ((r : Reply) → P r → r ≡ reply)
+        → (r : Reply) × AddsEntry P shows old new r × informs r told → failures' ≡ failures → IsSent shows informs request old new failures failures' reply told
+    sent_after_ok {informs = informs} reply so (r, added, informed) uncounted =
+        inl (record { uncounted = uncounted; added = adds_reply so added; informed = subst (λ (x : Reply). informs x told) (so r added.is_handed) informed })
+
+    -- the sink failed
+    pub sent_after_err : {informs : Reply → Header → Type 0} {request : Metadata} (reply : Reply) → ((r : Reply) → P r → r ≡ reply)
+        → ((r : Reply) × AddsEntry P shows old new r) ⊎ (new ≡ old) → failures' ≡ (failures + 1) % 2 ^ 64 → told ≡ failure_header request
+        → IsSent shows informs request old new failures failures' reply told
+    sent_after_err reply so added counted informed = inr (record { counted = counted; added = added_or_not so added; informed = informed })

@@ -1,0 +1,6 @@
+pub mod Find
+pub mod Queries
+pub mod Replies
+pub mod Sending
+pub mod Transcripts
+pub mod Zones

@@ -1,0 +1,143 @@
+//! The catalog: which zone answers a request, and with what reply.
+
+ghost use Rattle.std.specs.Prelude.{◌≡◌, ◌↔◌, [], Some, None, IfOk, IfErr, OnErr, IsTrue, option_map};
+ghost use Rattle.std.specs.Option.{option_copied};
+ghost use Rattle.hickory_wire.specs.Reply.{Reply};
+ghost use Rattle.hickory_base.specs.Responses.{header_of};
+ghost use Rattle.hickory_catalog.specs.Find.{Finds};
+ghost use Rattle.hickory_catalog.specs.Queries.{QueryReply, RequestReply};
+ghost use Rattle.hickory_catalog.specs.Sending.{IsSent};
+ghost use Rattle.hickory_catalog.specs.Zones.{ChangesAt, HasZone};
+
+use crate::queries::{answer_query, is_implemented_request, send_unimplemented};
+use crate::signer::ReplySigner;
+use crate::zones::Zones;
+use hickory_base::errors::CatalogError;
+use hickory_base::server::{Request, RequestHandler, ResponseHandler, ResponseInfo};
+use hickory_base::zone_store::ZoneHandler;
+use hickory_wire::{Edns, LowerName, NSIDPayload};
+use std::alloc::{AllocError, Global};
+
+/// The zones that a server answers for, each with the chain of its handlers, what identifies the server, and what signs
+/// its replies.
+///
+/// Contracts see `zones` as the list of zone apexes with their handlers, in the order of names, `nsid` as bytes.
+#[derive(Drop)]
+pub struct Catalog<S: ReplySigner> {
+    zones: Zones<Box<dyn ZoneHandler>>,
+    nsid: Option<NSIDPayload>,
+    signer: S,
+}
+
+impl<S: ReplySigner> Catalog<S> {
+    /// A catalog without zones and without an identifier. It takes no memory.
+    pub fn new(alloc: Global, signer: S) -> Catalog<S>
+        ensures { result ≡ record { zones = []; nsid = None; signer = signer } }
+    {
+        Catalog {
+            zones: Zones::new(alloc),
+            nsid: None,
+            signer,
+        }
+    }
+
+    /// Puts a chain of handlers at a zone apex, and hands back the chain that was there. Where memory is refused, nothing
+    /// changes and both arguments are handed back.
+    pub fn upsert(
+        &mut self,
+        name: LowerName,
+        handlers: Vec<Box<dyn ZoneHandler>>,
+    ) -> Result<Option<Vec<Box<dyn ZoneHandler>>>, (LowerName, Vec<Box<dyn ZoneHandler>>)>
+        ensures changed { IfOk result
+            (λ old. ChangesAt self.old.zones name (option_map (λ chain. chain.items) old) (Some handlers.items) self.new.zones) }
+        ensures handed_back { IfErr result (λ both. both ≡ (name, handlers)) }
+        ensures err { OnErr result (self.new.zones ≡ self.old.zones) }
+        ensures others { self.new ≡ record self.old { zones = self.new.zones } }
+    {
+        self.zones.upsert(name, handlers)
+    }
+
+    /// Takes the chain of handlers at a zone apex away, if there is one, and hands it back. It takes no memory.
+    pub fn remove(&mut self, name: &LowerName) -> Option<Vec<Box<dyn ZoneHandler>>>
+        ensures changed { ChangesAt self.old.zones name.now (option_map (λ chain. chain.items) result) None self.new.zones }
+        ensures others { self.new ≡ record self.old { zones = self.new.zones } }
+    {
+        self.zones.remove(name)
+    }
+
+    /// Whether there is a zone of this apex.
+    pub fn contains(&self, name: &LowerName) -> bool
+        ensures { IsTrue result ↔ HasZone self.now.zones name.now }
+    {
+        self.zones.contains(name)
+    }
+
+    /// The chain of handlers of the zone that answers for a name: for a fully qualified name the fully qualified zone
+    /// nearest above it or at it (RFC 1034 section 4.3.2, step 2), and for another name the zone of that very name.
+    pub fn find(
+        &self,
+        alloc: Global,
+        name: &LowerName,
+    ) -> Result<Option<&Vec<Box<dyn ZoneHandler>>>, AllocError>
+        ensures { IfOk result (λ found. Finds self.now.zones name.now (option_map (λ chain. chain.now.items) found)) }
+    {
+        self.zones.find(alloc, name)
+    }
+
+    /// Sets what identifies the server (RFC 5001), or that nothing does. It takes no memory.
+    pub fn set_nsid(&mut self, payload: Option<NSIDPayload>)
+        ensures { self.new ≡ record self.old { nsid = payload } }
+    {
+        self.nsid = payload;
+    }
+
+    /// What identifies the server, if anything does.
+    pub fn nsid(&self) -> Option<&NSIDPayload>
+        ensures { option_copied result ≡ self.now.nsid }
+    {
+        self.nsid.as_ref()
+    }
+
+    /// Answers a query by the handlers of its zone, and hands the sink one reply, with this EDNS. `now` is in seconds
+    /// since 1970. QR, opcode and EDNS version of the request are not looked at.
+    ///
+    /// `Memory` says that no reply was handed over.
+    pub fn lookup<R: ResponseHandler>(
+        &self,
+        alloc: Global,
+        request: &Request,
+        edns: Option<&Edns>,
+        _now: u64,
+        sink: &mut R,
+    ) -> Result<ResponseInfo, CatalogError>
+        ensures replied { IfOk result (λ info. (reply : Reply) ×
+            QueryReply ⟦<Box<dyn ZoneHandler> as ZoneHandler>⟧ self.now.zones request.now (option_copied edns.entry) reply ×
+            IsSent R.shows R.informs request.now.message.metadata (R.entries sink.old) (R.entries sink.new) (R.failures sink.old) (R.failures sink.new) reply (header_of info)) }
+        ensures refused { IfErr result (λ e. (e ≡ CatalogError.Memory) ×
+            (R.entries sink.new ≡ R.entries sink.old) × (R.failures sink.new ≡ R.failures sink.old)) }
+    {
+        answer_query(&self.zones, alloc, request, edns, sink)
+    }
+}
+
+impl<S: ReplySigner> RequestHandler for Catalog<S> {
+    fn handle_request<R: ResponseHandler>(
+        &mut self,
+        alloc: Global,
+        request: &Request,
+        now: u64,
+        sink: &mut R,
+    ) -> Result<ResponseInfo, CatalogError>
+        ensures replied { IfOk result (λ info. (reply : Reply) ×
+            RequestReply ⟦<Box<dyn ZoneHandler> as ZoneHandler>⟧ self.old.zones request.now reply ×
+            IsSent R.shows R.informs request.now.message.metadata (R.entries sink.old) (R.entries sink.new) (R.failures sink.old) (R.failures sink.new) reply (header_of info)) }
+        ensures refused { IfErr result (λ e. (e ≡ CatalogError.Memory) ×
+            (R.entries sink.new ≡ R.entries sink.old) × (R.failures sink.new ≡ R.failures sink.old)) }
+        ensures unchanged { self.new ≡ self.old }
+    {
+        if is_implemented_request(request.message()) {
+            return self.lookup(alloc, request, None, now, sink);
+        }
+        Ok(send_unimplemented(sink, alloc, request.message()))
+    }
+}

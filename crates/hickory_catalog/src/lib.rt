@@ -1,0 +1,11 @@
+//! The catalog: which zone answers a request, and with what reply.
+#![tactic(auto)]
+
+pub mod catalog;
+mod findings;
+mod queries;
+mod sending;
+pub mod signer;
+#[cfg(test)]
+mod tests;
+pub mod zones;

@@ -1,0 +1,103 @@
+//! The zones by name.
+
+ghost use Rattle.std.specs.Prelude.{◌≡◌, ◌↔◌, [], IfOk, IfErr, OnErr, IsTrue, Some, None, option_map};
+ghost use Rattle.hickory_catalog.specs.Zones.{AreInOrder, HasZone, ChangesAt};
+ghost use Rattle.hickory_catalog.specs.Find.{Finds, OneAnswers, CaseDoesNotMatter};
+
+use hickory_wire::LowerName;
+use std::alloc::{AllocError, AllocFailed, Global};
+use std::collections::BTreeMap;
+use std::marker::Model;
+
+/// The zones by name: for each zone apex the chain of its handlers.
+///
+/// A contract sees the apexes with their handlers, in the order of names. No two apexes are the same name: both fully
+/// qualified or neither, and with the same labels without regard to letter case.
+#[derive(Drop)]
+pub struct Zones<H> {
+    chains: BTreeMap<LowerName, Vec<H>>,
+}
+
+impl<H> Model for Zones<H> {
+    ghost use Rattle.std.specs.Prelude.{List, map};
+    ghost use Rattle.std.specs.BTreeMap.{IsOrdered};
+    ghost use Rattle.hickory_wire.specs.DomainName.{DomainName};
+    ghost use Rattle.hickory_wire.specs.NameOrder.{name_cmp};
+
+    ghost Value = { List (DomainName × List H) };
+
+    ghost view = { λ zones. map (λ zone. (zone.0, zone.1.items)) zones.chains.entries };
+
+    ghost invariant = { λ zones. IsOrdered name_cmp zones.chains };
+}
+
+impl<H: Drop> Zones<H> {
+    /// No zones. It takes no memory.
+    pub fn new(alloc: Global) -> Zones<H>
+        ensures { result ≡ [] }
+    {
+        Zones {
+            chains: BTreeMap::new(alloc),
+        }
+    }
+
+    /// Puts a chain of handlers at a name, and hands back the chain that was there. Where memory is refused, nothing
+    /// changes and both arguments are handed back.
+    pub fn upsert(
+        &mut self,
+        name: LowerName,
+        handlers: Vec<H>,
+    ) -> Result<Option<Vec<H>>, (LowerName, Vec<H>)>
+        ensures changed { IfOk result
+            (λ old. ChangesAt self.old name (option_map (λ chain. chain.items) old) (Some handlers.items) self.new) }
+        ensures handed_back { IfErr result (λ both. both ≡ (name, handlers)) }
+        ensures err { OnErr result (self.new ≡ self.old) }
+    {
+        match self.chains.insert(name, handlers) {
+            Ok(old) => Ok(old),
+            Err(AllocFailed { value }) => Err(value),
+        }
+    }
+
+    /// Takes the chain of handlers at a name away, if there is one, and hands it back. It takes no memory.
+    pub fn remove(&mut self, name: &LowerName) -> Option<Vec<H>>
+        ensures { ChangesAt self.old name.now (option_map (λ chain. chain.items) result) None self.new }
+    {
+        self.chains.remove(name)
+    }
+
+    /// Whether there is a zone of this name.
+    pub fn contains(&self, name: &LowerName) -> bool
+        ensures { IsTrue result ↔ HasZone self.now name.now }
+    {
+        self.chains.contains_key(name)
+    }
+
+    /// The chain of handlers of the zone that answers for a name: for a fully qualified name the fully qualified zone
+    /// nearest above it or at it (RFC 1034, section 4.3.2, step 2), and for another name the zone of that very name.
+    pub fn find(&self, alloc: Global, name: &LowerName) -> Result<Option<&Vec<H>>, AllocError>
+        ensures found { IfOk result (λ found. Finds self.now name.now (option_map (λ chain. chain.now.items) found)) }
+        ensures ordered { AreInOrder self.now }
+    {
+        if let Some(chain) = self.chains.get(name) {
+            return Ok(Some(chain));
+        }
+        if !name.as_name().is_fqdn() {
+            return Ok(None);
+        }
+        let mut ancestor = name.clone()?;
+        while !ancestor.as_name().is_root() {
+            ancestor.remove_first_label();
+            if let Some(chain) = self.chains.get(&ancestor) {
+                return Ok(Some(chain));
+            }
+        }
+        Ok(None)
+    }
+}
+
+/// What is found is one, and does not depend on letter case.
+pub fn find_laws<V>()
+    ensures one { OneAnswers V }
+    ensures case { CaseDoesNotMatter V }
+{}
