@@ -15,7 +15,7 @@ use Rattle.hickory_wire.specs.declared.tsig.TSIG.{TSIG}
 use Rattle.hickory_base.specs.Responses.{GivesBy, IsBuilt, IsReplyOf, ReplyBase}
 use Rattle.hickory_base.specs.Sinks.{AddsEntry}
 use Rattle.hickory_base.specs.declared.message_response.MessageResponse.{MessageResponse}
-use Rattle.hickory_catalog.specs.Sending.{AddsReply, IsSent, failure_header}
+use Rattle.hickory_catalog.specs.Sending.{AddsReply, IsFailed, IsTaken, failure_header}
 
 -- the iterator of a slice gives the slice
 pub given_by_slice : {records xs : List (Record RData)} {it : _} → GivesBy iter_steps (λ (x : Bor (Record RData)). x.now) it records → iter_rest it ≡ xs → records ≡ xs
@@ -63,12 +63,13 @@ module _ {Entry : Type 0} {P : Reply → Type 0} {shows : Reply → Entry → Ty
   module _ {failures failures' : ℕ} {told : Header} where
     -- the sink took the reply
     pub sent_after_ok : {informs : Reply → Header → Type 0} {request : Metadata} (reply : Reply) → ((r : Reply) → P r → r ≡ reply)
-        → (r : Reply) × AddsEntry P shows old new r × informs r told → failures' ≡ failures → IsSent shows informs request old new failures failures' reply told
+        → (r : Reply) × AddsEntry P shows old new r × informs r told → failures' ≡ failures
+        → IsTaken shows informs old new failures failures' reply told ⊎ IsFailed shows request old new failures failures' reply told
     sent_after_ok {informs = informs} reply so (r, added, informed) uncounted =
         inl (record { uncounted = uncounted; added = adds_reply so added; informed = subst (λ (x : Reply). informs x told) (so r added.is_handed) informed })
 
     -- the sink failed
     pub sent_after_err : {informs : Reply → Header → Type 0} {request : Metadata} (reply : Reply) → ((r : Reply) → P r → r ≡ reply)
         → ((r : Reply) × AddsEntry P shows old new r) ⊎ (new ≡ old) → failures' ≡ (failures + 1) % 2 ^ 64 → told ≡ failure_header request
-        → IsSent shows informs request old new failures failures' reply told
+        → IsTaken shows informs old new failures failures' reply told ⊎ IsFailed shows request old new failures failures' reply told
     sent_after_err reply so added counted informed = inr (record { counted = counted; added = added_or_not so added; informed = informed })

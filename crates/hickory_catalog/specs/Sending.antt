@@ -32,7 +32,7 @@ pub record IsFailed {Entry : Type 0} (shows : Reply → Entry → Type 0) (reque
   pub added : AddsReply shows old new reply ⊎ (new ≡ old)
   pub informed : told ≡ failure_header request
 
--- the reply to a request of this metadata was handed over, once
-abbrev pub IsSent : {Entry : Type 0} → (Reply → Entry → Type 0) → (Reply → Header → Type 0) → Metadata → List Entry → List Entry → ℕ → ℕ → Reply → Header → Type 0
-IsSent shows informs request old new failures failures' reply told =
-    IsTaken shows informs old new failures failures' reply told ⊎ IsFailed shows request old new failures failures' reply told
+-- The reply to a request of this metadata was handed over, once. The sink's settings, of which it depends what it shows and tells, are as before.
+abbrev pub IsSent : {Entry Settings : Type 0} → (Settings → Reply → Entry → Type 0) → (Settings → Reply → Header → Type 0) → Metadata → Settings → Settings → List Entry → List Entry → ℕ → ℕ → Reply → Header → Type 0
+IsSent shows informs request settings settings' old new failures failures' reply told = (settings' ≡ settings)
+    × (IsTaken (shows settings) (informs settings) old new failures failures' reply told ⊎ IsFailed (shows settings) request old new failures failures' reply told)

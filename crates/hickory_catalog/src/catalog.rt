@@ -112,9 +112,9 @@ impl<S: ReplySigner> Catalog<S> {
     ) -> Result<ResponseInfo, CatalogError>
         ensures replied { IfOk result (λ info. (reply : Reply) ×
             QueryReply ⟦<Box<dyn ZoneHandler> as ZoneHandler>⟧ self.now.zones request.now (option_copied edns.entry) reply ×
-            IsSent R.shows R.informs request.now.message.metadata (R.entries sink.old) (R.entries sink.new) (R.failures sink.old) (R.failures sink.new) reply (header_of info)) }
+            IsSent R.shows R.informs request.now.message.metadata (R.settings sink.old) (R.settings sink.new) (R.entries sink.old) (R.entries sink.new) (R.failures sink.old) (R.failures sink.new) reply (header_of info)) }
         ensures refused { IfErr result (λ e. (e ≡ CatalogError.Memory) ×
-            (R.entries sink.new ≡ R.entries sink.old) × (R.failures sink.new ≡ R.failures sink.old)) }
+            (R.settings sink.new ≡ R.settings sink.old) × (R.entries sink.new ≡ R.entries sink.old) × (R.failures sink.new ≡ R.failures sink.old)) }
     {
         answer_query(&self.zones, alloc, request, edns, sink)
     }
@@ -130,9 +130,9 @@ impl<S: ReplySigner> RequestHandler for Catalog<S> {
     ) -> Result<ResponseInfo, CatalogError>
         ensures replied { IfOk result (λ info. (reply : Reply) ×
             RequestReply ⟦<Box<dyn ZoneHandler> as ZoneHandler>⟧ self.old.zones request.now reply ×
-            IsSent R.shows R.informs request.now.message.metadata (R.entries sink.old) (R.entries sink.new) (R.failures sink.old) (R.failures sink.new) reply (header_of info)) }
+            IsSent R.shows R.informs request.now.message.metadata (R.settings sink.old) (R.settings sink.new) (R.entries sink.old) (R.entries sink.new) (R.failures sink.old) (R.failures sink.new) reply (header_of info)) }
         ensures refused { IfErr result (λ e. (e ≡ CatalogError.Memory) ×
-            (R.entries sink.new ≡ R.entries sink.old) × (R.failures sink.new ≡ R.failures sink.old)) }
+            (R.settings sink.new ≡ R.settings sink.old) × (R.entries sink.new ≡ R.entries sink.old) × (R.failures sink.new ≡ R.failures sink.old)) }
         ensures unchanged { self.new ≡ self.old }
     {
         if is_implemented_request(request.message()) {

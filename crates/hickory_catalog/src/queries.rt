@@ -45,7 +45,7 @@ pub(crate) fn send_unimplemented<R: ResponseHandler>(
     alloc: Global,
     request: &MessageRequest,
 ) -> ResponseInfo
-    ensures { IsSent R.shows R.informs request.now.metadata (R.entries sink.old) (R.entries sink.new) (R.failures sink.old) (R.failures sink.new) (unimplemented_reply request.now) (header_of result) }
+    ensures { IsSent R.shows R.informs request.now.metadata (R.settings sink.old) (R.settings sink.new) (R.entries sink.old) (R.entries sink.new) (R.failures sink.old) (R.failures sink.new) (unimplemented_reply request.now) (header_of result) }
 {
     send_error(sink, alloc, request, None, ResponseCode::SERV_FAIL)
 }
@@ -71,9 +71,9 @@ fn answer_zone<H: ZoneHandler, R: ResponseHandler>(
 ) -> Result<ResponseInfo, CatalogError>
     ensures replied { IfOk result (λ info. (reply : Reply) ×
         ZoneReply H.ZoneHandler chain.now request.now (option_copied edns.entry) query_type reply ×
-        IsSent R.shows R.informs request.now.message.metadata (R.entries sink.old) (R.entries sink.new) (R.failures sink.old) (R.failures sink.new) reply (header_of info)) }
+        IsSent R.shows R.informs request.now.message.metadata (R.settings sink.old) (R.settings sink.new) (R.entries sink.old) (R.entries sink.new) (R.failures sink.old) (R.failures sink.new) reply (header_of info)) }
     ensures refused { IfErr result (λ e. (e ≡ CatalogError.Memory) ×
-        (R.entries sink.new ≡ R.entries sink.old) × (R.failures sink.new ≡ R.failures sink.old)) }
+        (R.settings sink.new ≡ R.settings sink.old) × (R.entries sink.new ≡ R.entries sink.old) × (R.failures sink.new ≡ R.failures sink.old)) }
 {
     let message = request.message();
     if is_implemented(query_type, chain) {
@@ -100,9 +100,9 @@ pub(crate) fn answer_query<H: ZoneHandler, R: ResponseHandler>(
 ) -> Result<ResponseInfo, CatalogError>
     ensures replied { IfOk result (λ info. (reply : Reply) ×
         QueryReply H.ZoneHandler zones.now request.now (option_copied edns.entry) reply ×
-        IsSent R.shows R.informs request.now.message.metadata (R.entries sink.old) (R.entries sink.new) (R.failures sink.old) (R.failures sink.new) reply (header_of info)) }
+        IsSent R.shows R.informs request.now.message.metadata (R.settings sink.old) (R.settings sink.new) (R.entries sink.old) (R.entries sink.new) (R.failures sink.old) (R.failures sink.new) reply (header_of info)) }
     ensures refused { IfErr result (λ e. (e ≡ CatalogError.Memory) ×
-        (R.entries sink.new ≡ R.entries sink.old) × (R.failures sink.new ≡ R.failures sink.old)) }
+        (R.settings sink.new ≡ R.settings sink.old) × (R.entries sink.new ≡ R.entries sink.old) × (R.failures sink.new ≡ R.failures sink.old)) }
 {
     let message = request.message();
     let Some(query) = single_question(message) else {

@@ -61,7 +61,7 @@ where
     requires additionals { D.can_next response.additionals × IsFinite (D.remaining response.additionals) }
     // The reply that is sent is the one that the response determines.
     ensures { (reply : Reply) → ((r : Reply) → IsReplyOf (GivesBy A.next_gives A.Item.record_of) (GivesBy N.next_gives N.Item.record_of) (GivesBy S.next_gives S.Item.record_of) (GivesBy D.next_gives D.Item.record_of) response.entry r → r ≡ reply)
-        → IsSent R.shows R.informs request.now (R.entries sink.old) (R.entries sink.new) (R.failures sink.old) (R.failures sink.new) reply (header_of result) }
+        → IsSent R.shows R.informs request.now (R.settings sink.old) (R.settings sink.new) (R.entries sink.old) (R.entries sink.new) (R.failures sink.old) (R.failures sink.new) reply (header_of result) }
 {
     match sink.send_response(alloc, response) {
         Ok(info) => info,
@@ -77,7 +77,7 @@ pub(crate) fn send_error<R: ResponseHandler>(
     edns: Option<&Edns>,
     code: ResponseCode,
 ) -> ResponseInfo
-    ensures { IsSent R.shows R.informs request.now.metadata (R.entries sink.old) (R.entries sink.new) (R.failures sink.old) (R.failures sink.new) (error_reply request.now (option_copied edns.entry) code) (header_of result) }
+    ensures { IsSent R.shows R.informs request.now.metadata (R.settings sink.old) (R.settings sink.new) (R.entries sink.old) (R.entries sink.new) (R.failures sink.old) (R.failures sink.new) (error_reply request.now (option_copied edns.entry) code) (header_of result) }
 {
     let builder = MessageResponseBuilder::new(&request.queries, edns);
     let error = builder.error_msg(&request.metadata, code);
@@ -130,7 +130,7 @@ pub(crate) fn send_answer<R: ResponseHandler>(
     query_type: RecordType,
     found: &AuthLookup,
 ) -> ResponseInfo
-    ensures { IsSent R.shows R.informs request.now.metadata (R.entries sink.old) (R.entries sink.new) (R.failures sink.old) (R.failures sink.new) (authoritative_reply request.now (option_copied edns.entry) query_type found.now) (header_of result) }
+    ensures { IsSent R.shows R.informs request.now.metadata (R.settings sink.old) (R.settings sink.new) (R.entries sink.old) (R.entries sink.new) (R.failures sink.old) (R.failures sink.new) (authoritative_reply request.now (option_copied edns.entry) query_type found.now) (header_of result) }
 {
     let mut metadata = Metadata::response_from_request(&request.metadata);
     metadata.authoritative = true;
