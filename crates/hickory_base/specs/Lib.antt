@@ -4,9 +4,11 @@ pub mod Failures
 pub mod Lookups
 pub mod Questions
 pub mod RecordSets
+pub mod RequestForm
 pub mod RequestReading
 pub mod Requests
 pub mod Responses
 pub mod Sinks
+pub mod Updates
 pub mod ZoneAnswers
 pub mod ZoneSets

@@ -18,6 +18,7 @@ pub mod NameOrder
 pub mod NameReading
 pub mod NameText
 pub mod OptionReading
+pub mod QuestionForm
 pub mod QuestionLayout
 pub mod Reading
 pub mod RecordData

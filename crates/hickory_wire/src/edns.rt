@@ -185,6 +185,21 @@ impl Edns {
     }
 }
 
+impl Clone for Edns {
+    ghost is_clone = { λ source copy. copy ≡ source };
+
+    fn clone(&self) -> Result<Edns, AllocError> {
+        Ok(Edns {
+            max_payload: self.max_payload,
+            rcode_high: self.rcode_high,
+            version: self.version,
+            dnssec_ok: self.dnssec_ok,
+            reserved_flags: self.reserved_flags,
+            options: self.options.clone()?,
+        })
+    }
+}
+
 /// The identifier of a name server (RFC 5001 section 3.1).
 #[derive(Drop)]
 pub struct NSIDPayload {
