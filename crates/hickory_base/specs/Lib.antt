@@ -1,6 +1,7 @@
 pub mod Access
 pub mod Denials
 pub mod Failures
+pub mod Lending
 pub mod Lookups
 pub mod Questions
 pub mod RecordSets
