@@ -7,6 +7,8 @@ pub mod message_request;
 pub mod message_response;
 mod request_encoding;
 mod request_reading;
+#[cfg(test)]
+mod request_tests;
 mod response_encoding;
 mod response_handler;
 pub mod server;

@@ -4,6 +4,7 @@ pub mod Cursor
 pub mod Decoding
 pub mod DomainName
 pub mod EdnsFields
+pub mod EdnsSameness
 pub mod Encoder
 pub mod Endings
 pub mod FullForm
