@@ -1,8 +1,7 @@
 -- The parts that a request is written of make the form that it is written in.
-use Rattle.std.proofs.Common.{◌≡◌, List, [], length, refl}
+use Rattle.std.proofs.Common.{◌≡◌, [], length, refl}
 use Rattle.std.specs.Option.{option_copied}
 use Rattle.std.specs.Slice.Iter.{iter_steps, iter_rest}
-use Rattle.hickory_wire.specs.Reply.{Reply}
 use Rattle.hickory_wire.specs.ReplyParts.{GivesLists, RecordLists, reply_of}
 use Rattle.hickory_wire.specs.declared.message_encoder.ReplyParts.{ReplyParts}
 use Rattle.hickory_base.specs.RequestForm.{questions_form, written_form}

@@ -3,6 +3,7 @@ pub mod Denials
 pub mod Failures
 pub mod Lending
 pub mod Lookups
+pub mod MessageSameness
 pub mod Questions
 pub mod RecordSets
 pub mod RequestForm

@@ -5,6 +5,7 @@ pub mod access;
 pub mod errors;
 pub mod message_request;
 pub mod message_response;
+pub mod message_sameness;
 mod request_encoding;
 mod request_reading;
 #[cfg(test)]

@@ -1,9 +1,9 @@
-use Rattle.std.proofs.Common.{◌≡◌, ◌∙◌, ap, subst, refl}
+use Rattle.std.proofs.Common.{◌∙◌, ap, subst, refl}
 use Rattle.std.proofs.lemmas.Result.{IfOk-weaker, IfErr-weaker}
 use Rattle.hickory_wire.specs.Encoder.{max_size, written_bytes}
 use Rattle.hickory_wire.specs.Reply.{Reply}
-use Rattle.hickory_wire.specs.ReplyParts.{Refused, ReplyWritten, reply_of}
-use Rattle.hickory_base.specs.RequestForm.{questions_form, written_form}
+use Rattle.hickory_wire.specs.ReplyParts.{Refused, ReplyWritten}
+use Rattle.hickory_base.specs.RequestForm.{questions_form}
 use Rattle.hickory_base.proofs.RequestForms.{form_is}
 use Rattle.hickory_base.proofs.message_request.MessageRequest.emit.Goals as goal
 
