@@ -79,6 +79,19 @@ fn a_request_of_a_message_reads_back(rt: HostRuntime) -> Result<(), Fail> {
     Ok(())
 }
 
+fn refusal(alloc: Global) -> Option<ProtoError> {
+    let message = MessageRequest::read(alloc, &mut BinDecoder::new(MIXED)).ok()?;
+    Request::from_message(alloc, message, source(), Protocol::Tcp).err()
+}
+
+/// Each growth refused in turn: the only other answer is want of memory.
+#[test]
+fn refused_growth(rt: HostRuntime) {
+    if let Some(fault) = refusal(rt.alloc()) {
+        assert_eq!(rt; fault, ProtoError::Memory);
+    }
+}
+
 fn same(alloc: Global, first: &[u8], other: &[u8]) -> Result<bool, Fail> {
     Ok(read(alloc, first)?.message() == read(alloc, other)?.message())
 }
