@@ -3,6 +3,7 @@ pub mod KeyOrder
 pub mod Networks
 pub mod QuestionPlaces
 pub mod RecordSlices
+pub mod RequestForms
 pub mod RequestParts
 pub mod Rule
 pub mod SharedSets

@@ -1,12 +1,16 @@
 pub mod Access
 pub mod Denials
 pub mod Failures
+pub mod Lending
 pub mod Lookups
+pub mod MessageSameness
 pub mod Questions
 pub mod RecordSets
+pub mod RequestForm
 pub mod RequestReading
 pub mod Requests
 pub mod Responses
 pub mod Sinks
+pub mod Updates
 pub mod ZoneAnswers
 pub mod ZoneSets

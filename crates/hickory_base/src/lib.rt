@@ -5,8 +5,13 @@ pub mod access;
 pub mod errors;
 pub mod message_request;
 pub mod message_response;
+pub mod message_sameness;
+mod request_encoding;
 mod request_reading;
+#[cfg(test)]
+mod request_tests;
 mod response_encoding;
 mod response_handler;
 pub mod server;
+pub mod update_request;
 pub mod zone_store;

@@ -119,7 +119,10 @@ impl Eq for Queries {
 /// of the additional section.
 ///
 /// In an update the answers are the prerequisites and the authorities the changes (RFC 2136 section 2).
-#[derive(Drop)]
+///
+/// Equal are messages of equal fields: records and questions as they compare, so that neither a record's TTL nor its
+/// proof counts and names are compared in any letter case, and the bytes of the questions as bytes.
+#[derive(Drop, PartialEq, Eq)]
 pub struct MessageRequest {
     /// The header but for its counts, with the response code joined of header and OPT record.
     pub metadata: Metadata,

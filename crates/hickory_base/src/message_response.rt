@@ -8,6 +8,8 @@ ghost use Rattle.hickory_wire.specs.Encoder.{IsSameVector, max_size, written_byt
 ghost use Rattle.hickory_wire.specs.Endings.{GivesRecords};
 ghost use Rattle.hickory_wire.specs.Reply.{Reply, size_limit};
 ghost use Rattle.hickory_wire.specs.ReplyParts.{Refused, ReplyEncoded, ReplyWritten};
+ghost use Rattle.std.specs.Borrow.{sem};
+ghost use Rattle.hickory_base.specs.Lending.{LendsMetadata};
 ghost use Rattle.hickory_base.specs.Responses.{HasNoRecords, IsBuilt, IsReplyOf, base_of, error_metadata, header_of};
 
 use crate::message_request::{MessageRequest, Queries};
@@ -82,6 +84,14 @@ impl<'q, 'a, A, N, S, D> MessageResponse<'q, 'a, A, N, S, D> {
         ensures { result.now ≡ self.now.metadata }
     {
         &self.metadata
+    }
+
+    /// The header but for its counts, to be changed.
+    pub fn metadata_mut(&mut self) -> &mut Metadata
+        ensures* writes_back { sem 𝓛 (LendsMetadata A.row N.row S.row D.row self.entry result) }
+        ensures value { result.now ≡ self.old.metadata }
+    {
+        &mut self.metadata
     }
 
     /// What the OPT record says, if there is one.

@@ -11,19 +11,6 @@ use crate::response_handler::RecordRef;
 use hickory_wire::{Items, ProtoError, Protocol, Record, ReplyParts, encode_message_parts};
 use std::alloc::{AllocError, Global};
 
-/// A copy of a record.
-fn copy_record(record: &Record) -> Result<Record, AllocError>
-    ensures { IfOk result (λ copy. copy ≡ «record».now) }
-{
-    Ok(Record {
-        name: record.name.clone()?,
-        dns_class: record.dns_class,
-        ttl: record.ttl,
-        rdata: record.rdata.clone()?,
-        proof: record.proof,
-    })
-}
-
 /// Copies of the records that an iterator gives.
 fn copies<I>(alloc: Global, records: I) -> Result<Items<Record>, AllocError>
 where
@@ -35,7 +22,7 @@ where
 {
     let mut copies = Items::new(alloc);
     'records: for item in records {
-        copies.push(copy_record(item.record())?)?;
+        copies.push(item.record().clone()?)?;
     }
     Ok(copies)
 }

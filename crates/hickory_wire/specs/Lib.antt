@@ -4,6 +4,7 @@ pub mod Cursor
 pub mod Decoding
 pub mod DomainName
 pub mod EdnsFields
+pub mod EdnsSameness
 pub mod Encoder
 pub mod Endings
 pub mod FullForm
@@ -18,6 +19,7 @@ pub mod NameOrder
 pub mod NameReading
 pub mod NameText
 pub mod OptionReading
+pub mod QuestionForm
 pub mod QuestionLayout
 pub mod Reading
 pub mod RecordData

@@ -126,7 +126,8 @@ pub(crate) fn write_name(bytes: &mut Vec<u8>, name: &Name) -> Result<(), AllocEr
     Ok(())
 }
 
-fn write_u16(bytes: &mut Vec<u8>, number: u16) -> Result<(), AllocError>
+/// Puts a number of 16 bits behind the bytes, the high byte first.
+pub(crate) fn write_u16(bytes: &mut Vec<u8>, number: u16) -> Result<(), AllocError>
     ensures { OnOk result (bytes.new.items ≡ bytes.old.items ++ to_be_bytes w16 number) }
 {
     bytes.extend_from_slice(&number.to_be_bytes())

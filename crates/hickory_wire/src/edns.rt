@@ -1,7 +1,9 @@
 //! EDNS, the extension mechanisms for DNS (RFC 6891).
 
 ghost use Rattle.std.specs.Prelude.{◌≡◌, ◌+◌, ◌*◌, ◌/◌, ◌%◌, ◌^◌, ◌++◌, ◌∷◌, ◌==◌, ◌≤◌, ◌<◌, [], false, length, max, find, OnOk, OnErr, IfOk, IfErr};
+ghost use Rattle.std.specs.Cmp.{partial_equiv_from_equiv};
 ghost use Rattle.std.specs.Option.{option_copied};
+ghost use Rattle.hickory_wire.specs.EdnsSameness.{edns_eq, edns_eq_equiv};
 ghost use Rattle.hickory_wire.specs.HeaderLayout.{flag};
 
 use crate::dns_class::DNSClass;
@@ -183,6 +185,40 @@ impl Edns {
     {
         self.options.push(option)
     }
+}
+
+impl Clone for Edns {
+    ghost is_clone = { λ source copy. copy ≡ source };
+
+    fn clone(&self) -> Result<Edns, AllocError> {
+        Ok(Edns {
+            max_payload: self.max_payload,
+            rcode_high: self.rcode_high,
+            version: self.version,
+            dnssec_ok: self.dnssec_ok,
+            reserved_flags: self.reserved_flags,
+            options: self.options.clone()?,
+        })
+    }
+}
+
+impl PartialEq for Edns {
+    ghost eq = { edns_eq };
+
+    ghost laws = { partial_equiv_from_equiv edns_eq_equiv };
+
+    fn eq(&self, other: &Edns) -> bool {
+        self.max_payload() == other.max_payload()
+            && self.rcode_high() == other.rcode_high()
+            && self.version() == other.version()
+            && self.dnssec_ok() == other.dnssec_ok()
+            && self.reserved_flags() == other.reserved_flags()
+            && self.options() == other.options()
+    }
+}
+
+impl Eq for Edns {
+    ghost laws = { edns_eq_equiv };
 }
 
 /// The identifier of a name server (RFC 5001 section 3.1).

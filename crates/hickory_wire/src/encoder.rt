@@ -41,6 +41,11 @@ impl<'a> BinEncoder<'a> {
         self.max_size = max_size;
     }
 
+    /// The allocator that it was made with.
+    pub fn allocator(&self) -> Global {
+        self.alloc
+    }
+
     /// How many bytes were written.
     pub fn offset(&self) -> usize
         ensures { result ≡ length (written_bytes self.now) }

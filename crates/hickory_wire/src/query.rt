@@ -1,8 +1,10 @@
 //! Questions.
 
-ghost use Rattle.std.specs.Prelude.{◌≡◌, IfOk};
+ghost use Rattle.std.specs.Prelude.{◌≡◌, ◌++◌, IfOk, OnOk};
 ghost use Rattle.hickory_wire.specs.NameOrder.{lower_name};
+ghost use Rattle.hickory_wire.specs.QuestionForm.{lower_question, question_octets};
 
+use crate::data_encoder::{write_name, write_u16};
 use crate::dns_class::DNSClass;
 use crate::lower_name::LowerName;
 use crate::name::Name;
@@ -91,5 +93,16 @@ impl LowerQuery {
         ensures { result ≡ self.now.query_class }
     {
         self.original.query_class
+    }
+
+    /// Puts the question behind the bytes, its name in lower case and in full (RFC 1035 section 4.1.2).
+    ///
+    /// Where memory is refused, the bytes may end in a part of it.
+    pub fn emit(&self, bytes: &mut Vec<u8>) -> Result<(), AllocError>
+        ensures { OnOk result (bytes.new.items ≡ bytes.old.items ++ question_octets (lower_question self.now)) }
+    {
+        write_name(bytes, self.name.as_name())?;
+        write_u16(bytes, self.original.query_type.value())?;
+        write_u16(bytes, self.original.query_class.value())
     }
 }

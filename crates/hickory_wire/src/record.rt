@@ -5,6 +5,7 @@ ghost use Rattle.std.specs.Prelude.{◌≡◌};
 use crate::dns_class::DNSClass;
 use crate::name::Name;
 use crate::rdata::RData;
+use std::alloc::AllocError;
 
 /// What is known of a record's DNSSEC proof (RFC 4035 section 4.3).
 #[derive(Clone, Copy, Debug, PartialEq, Eq)]
@@ -38,4 +39,19 @@ pub struct Record<R = RData> {
     /// What is known of its proof.
     #[derive_where(skip(EqHashOrd))]
     pub proof: Proof,
+}
+
+impl<R: Clone> Clone for Record<R> {
+    // The copy is the record itself, where a clone of its data is the data.
+    ghost is_clone = { λ source copy. (R.is_clone source.rdata copy.rdata → copy.rdata ≡ source.rdata) → copy ≡ source };
+
+    fn clone(&self) -> Result<Record<R>, AllocError> {
+        Ok(Record {
+            name: self.name.clone()?,
+            dns_class: self.dns_class,
+            ttl: self.ttl,
+            rdata: self.rdata.clone()?,
+            proof: self.proof,
+        })
+    }
 }

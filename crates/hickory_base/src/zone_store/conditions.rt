@@ -2,7 +2,6 @@
 
 ghost use Rattle.std.specs.Prelude.{◌≡◌, ◌↔◌, ◌<◌, ◌^◌, IsTrue};
 ghost use Rattle.std.specs.List.{AllByRecursion};
-ghost use Rattle.hickory_wire.specs.RecordData.{type_of};
 ghost use Rattle.hickory_wire.specs.RecordSameness.{SameRecord};
 ghost use Rattle.hickory_base.specs.RecordSets.{IsRecordSet, SameSet};
 ghost use Rattle.hickory_base.specs.ZoneSets.{AreDistinct, IsUnder, IsWellTyped, IsZone, IsZoneSet, sets_of};
@@ -13,33 +12,12 @@ use hickory_wire::{RData, Record, RecordType, SOA, record_comparisons};
 use std::collections::BTreeMap;
 use std::rc::Rc;
 
-/// The type of data.
-fn record_type(rdata: &RData) -> RecordType
-    ensures { result ≡ type_of rdata.now }
-{
-    match rdata {
-        RData::A(_) => RecordType::A,
-        RData::AAAA(_) => RecordType::AAAA,
-        RData::NS(_) => RecordType::NS,
-        RData::CNAME(_) => RecordType::CNAME,
-        RData::PTR(_) => RecordType::PTR,
-        RData::MX(_) => RecordType::MX,
-        RData::SOA(_) => RecordType::SOA,
-        RData::TXT(_) => RecordType::TXT,
-        RData::OPT(_) => RecordType::OPT,
-        RData::TSIG(_) => RecordType::TSIG,
-        RData::NULL(_) => RecordType::NULL,
-        RData::Update0(code) => *code,
-        RData::Unknown { code, .. } => *code,
-    }
-}
-
 /// Whether two records are of one name and type.
 fn is_same_set(first: &Record, other: &Record) -> bool
     ensures { IsTrue result ↔ SameSet first.now other.now }
 {
     name_comparisons();
-    first.name == other.name && record_type(&first.rdata) == record_type(&other.rdata)
+    first.name == other.name && first.rdata.record_type() == other.rdata.record_type()
 }
 
 /// Whether all records are of the name and type of this one.
@@ -64,7 +42,7 @@ fn is_under(key: &RrKey, q: &Record) -> bool
     ensures { IsTrue result ↔ IsUnder key.now q.now }
 {
     name_comparisons();
-    q.name == *key.name.as_name() && record_type(&q.rdata) == key.record_type
+    q.name == *key.name.as_name() && q.rdata.record_type() == key.record_type
 }
 
 /// Whether all records are of the key's name and type.
@@ -121,7 +99,7 @@ fn is_well_typed(q: &Record) -> bool
             let _ = serial(soa.get());
             true
         }
-        other => record_type(other) != RecordType::SOA,
+        other => other.record_type() != RecordType::SOA,
     }
 }
 

@@ -9,7 +9,7 @@ ghost use Rattle.hickory_base.specs.declared.zone_store.lookup.LookupControlFlow
 
 use crate::errors::{LookupError, UpdateFault};
 use crate::server::{Request, RequestInfo};
-use crate::zone_store::copies::{append_copies, copy_record};
+use crate::zone_store::copies::append_copies;
 use crate::zone_store::find::find;
 use crate::zone_store::handler::{AxfrPolicy, Nsec3QueryInfo, NxProofKind, ZoneHandler, ZoneType};
 use crate::zone_store::in_memory::InMemoryZoneHandler;
@@ -43,9 +43,9 @@ impl InMemoryZoneHandler {
         ensures { IfOk result (λ transfer. whole_zone self.now (Some soa.now) ≡ Ok transfer) }
     {
         let mut records = Vec::new(alloc);
-        records.push(copy_record(soa)?)?;
+        records.push(soa.clone()?)?;
         append_others(&mut records, &self.records, &self.apex)?;
-        records.push(copy_record(soa)?)?;
+        records.push(soa.clone()?)?;
         Ok(ZoneTransfer {
             records: Items::from_vec(records),
         })

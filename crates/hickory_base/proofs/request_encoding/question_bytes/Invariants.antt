@@ -1,0 +1,6 @@
+use Rattle.std.proofs.Common.{◌≡◌, take}
+use Rattle.hickory_base.specs.RequestForm.{questions_form}
+use Rattle.hickory_base.proofs.request_encoding.question_bytes.Given as goal
+
+abbrev pub invariant-loop-query : goal.invariant-loop-query
+invariant-loop-query l = l.bytes.items ≡ questions_form (take l.query-index l.queries)

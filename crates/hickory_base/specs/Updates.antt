@@ -1,0 +1,26 @@
+-- What an update says (RFC 2136 section 2): its sections under the names that they have there.
+use Rattle.std.specs.Prelude.{ℕ, List, Option}
+use Rattle.hickory_wire.specs.declared.query.Query.{Query}
+use Rattle.hickory_wire.specs.declared.rdata.RData.{RData}
+use Rattle.hickory_wire.specs.declared.record.Record.{Record}
+use Rattle.hickory_wire.specs.declared.tsig.TSIG.{TSIG}
+use Rattle.hickory_base.specs.declared.message_request.MessageRequest.{MessageRequest}
+
+pub record UpdateMessage : Type 0 where
+  pub id : ℕ
+  pub zones : List Query
+  pub prerequisites : List (Record RData)
+  pub updates : List (Record RData)
+  pub additionals : List (Record RData)
+  pub signature : Option (Record TSIG)
+
+-- the questions name the zone, the answers are the prerequisites, the authorities the updates
+abbrev pub update_of : MessageRequest → UpdateMessage
+update_of m = record {
+  id = m.metadata.id;
+  zones = m.queries.queries;
+  prerequisites = m.answers;
+  updates = m.authorities;
+  additionals = m.additionals;
+  signature = m.signature;
+}
