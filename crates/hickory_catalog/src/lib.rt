@@ -2,3 +2,5 @@
 #![tactic(auto)]
 
 pub mod zones;
+#[cfg(test)]
+mod zones_tests;
