@@ -9,3 +9,5 @@ pub mod signer;
 #[cfg(test)]
 mod tests;
 pub mod zones;
+#[cfg(test)]
+mod zones_tests;
