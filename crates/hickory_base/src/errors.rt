@@ -160,3 +160,6 @@ impl From<AllocError> for CatalogError {
         CatalogError::Memory
     }
 }
+
+#[cfg(test)]
+mod tests;
