@@ -25,7 +25,7 @@ fn copy_record(record: &Record) -> Result<Record, AllocError>
 }
 
 /// Copies of the records that an iterator gives.
-fn copies<I>(alloc: Global, records: I) -> Result<Items<Record>, AllocError>
+pub(crate) fn copies<I>(alloc: Global, records: I) -> Result<Items<Record>, AllocError>
 where
     I: Iterator + Drop,
     I::Item: RecordRef,
