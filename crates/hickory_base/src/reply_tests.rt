@@ -252,7 +252,7 @@ fn header_and_questions_have_to_fit(rt: HostRuntime) -> Result<(), Fail> {
     Ok(())
 }
 
-/// The bytes of a reply with an answer, an SOA place and an additional, as a sink encodes them.
+/// The bytes of a reply with this record as its answer and in the place of its SOA, as a sink encodes them.
 fn encoded(alloc: Global, record: &Record) -> Result<(ResponseInfo, Vec<u8>), ProtoError> {
     let queries = no_questions(alloc)?;
     let nothing: &[Record] = &[];
@@ -270,10 +270,9 @@ fn encoded(alloc: Global, record: &Record) -> Result<(ResponseInfo, Vec<u8>), Pr
 fn records_that_are_lent_are_encoded(rt: HostRuntime) -> Result<(), Fail> {
     let record = address(rt.alloc())?;
     let (info, bytes) = encoded(rt.alloc(), &record)?;
-    assert_eq!(rt; bytes.len(), 12 + 2 * 31);
     assert_eq!(rt;
-        &bytes.as_slice()[..43],
-        b"\x00\x0a\x80\x00\x00\x00\x00\x01\x00\x01\x00\x00\x03www\x07example\x03com\x00\x00\x01\x00\xfe\x00\x00\x00\x00\x00\x04\x5d\xb8\xd7\x0e".as_slice()
+        bytes.as_slice(),
+        b"\x00\x0a\x80\x00\x00\x00\x00\x01\x00\x01\x00\x00\x03www\x07example\x03com\x00\x00\x01\x00\xfe\x00\x00\x00\x00\x00\x04\x5d\xb8\xd7\x0e\x03www\x07example\x03com\x00\x00\x01\x00\xfe\x00\x00\x00\x00\x00\x04\x5d\xb8\xd7\x0e".as_slice()
     );
     assert_eq!(rt; (info.counts().answers, info.counts().authorities), (1, 1));
     Ok(())

@@ -215,9 +215,9 @@ fn questions_compare_by_content_and_bytes(rt: HostRuntime) -> Result<(), Fail> {
 #[test]
 fn questions_of_the_same_bytes_may_differ(rt: HostRuntime) -> Result<(), Fail> {
     let first = b"\x01a\0\0\0\x01\0\0\0\0\0\0\xc0\x00\x00\x01\x00\x01";
-    let lower = b"\x01A\0\0\0\x01\0\0\0\0\0\0\xc0\x00\x00\x01\x00\x01";
+    let upper = b"\x01A\0\0\0\x01\0\0\0\0\0\0\xc0\x00\x00\x01\x00\x01";
     let second = b"\x01b\0\0\0\x01\0\0\0\0\0\0\xc0\x00\x00\x01\x00\x01";
-    assert!(rt; are_equal(rt.alloc(), first, lower)?);
+    assert!(rt; are_equal(rt.alloc(), first, upper)?);
     assert!(rt; !are_equal(rt.alloc(), first, second)?);
     Ok(())
 }

@@ -1,27 +1,28 @@
 //! Sinks and a handler, called through their bounds.
 
-ghost use Rattle.std.specs.Prelude.{◌≡◌, ◌+◌, ◌%◌, ◌^◌, [], IfOk, OnOk, OnErr};
+ghost use Rattle.std.specs.Prelude.{◌≡◌, ◌+◌, ◌%◌, ◌^◌, [], IfOk};
 ghost use Rattle.std.specs.Iterator.{IsFinite};
 ghost use Rattle.std.specs.Option.{option_copied};
-ghost use Rattle.hickory_wire.specs.Reply.{Reply, size_limit};
+ghost use Rattle.hickory_wire.specs.Reply.{size_limit};
 ghost use Rattle.hickory_wire.specs.ReplyParts.{ReplyEncoded};
 ghost use Rattle.hickory_wire.specs.declared.protocol.Protocol.TheVariants as protocol;
-ghost use Rattle.hickory_base.specs.Responses.{GivesBy, IsReplyOf, header_of};
+ghost use Rattle.hickory_base.specs.Responses.{GivesBy, IsReplyOf};
 
 use crate::errors::CatalogError;
+use crate::message_request::Queries;
 use crate::message_response::{MessageResponse, MessageResponseBuilder, ResponseInfo};
 use crate::response_encoding::{copies, encode_response};
 use crate::response_handler::{RecordRef, RequestHandler, ResponseHandler};
 use crate::server::Request;
 use hickory_wire::{
-    Boxed, Edns, EdnsOption, Header, HeaderCounts, Items, MessageType, Metadata, Octets, OpCode,
-    ProtoError, Protocol, Record, ResponseCode, TSIG,
+    BinDecoder, Boxed, DNSClass, Edns, EdnsOption, Header, HeaderCounts, Items, MessageType,
+    Metadata, Name, Octets, OpCode, Proof, Protocol, RData, Record, ResponseCode, TSIG,
 };
 use std::alloc::{AllocError, Global};
-use std::io;
 use std::marker::Model;
 use std::net::{IpAddr, Ipv4Addr, SocketAddr};
 use std::test::Fail;
+use std::{io, iter};
 
 /// What an OPT record said.
 #[derive(Drop)]
@@ -138,7 +139,7 @@ impl TellingSink {
         }
     }
 
-    /// Keeps the reply of a response.
+    /// Counts a failure.
     fn fail(&mut self) -> io::Error
         ensures { self.new ≡ record self.old { failures = (self.old.failures + 1) % 2 ^ 64 } }
     {
@@ -239,6 +240,7 @@ impl DatagramSink {
         }
     }
 
+    /// Counts a failure.
     fn fail(&mut self) -> io::Error
         ensures { self.new ≡ record self.old { failures = (self.old.failures + 1) % 2 ^ 64 } }
     {
@@ -316,7 +318,7 @@ impl RequestHandler for Refusing {
     }
 }
 
-/// Has a handler answer each message, and tells the codes of the replies.
+/// Has a handler answer a message, and tells the code of the reply.
 fn serve<H: RequestHandler, R: ResponseHandler>(
     alloc: Global,
     handler: &mut H,
@@ -328,6 +330,33 @@ fn serve<H: RequestHandler, R: ResponseHandler>(
     let request = Request::from_bytes(alloc, bytes, source, Protocol::Udp)?;
     let info = handler.handle_request(alloc, &request, 0, sink)?;
     Ok(info.metadata().response_code)
+}
+
+/// Hands over a reply to no question, with an answer and a payload of 1,232 bytes.
+fn hand_over<R: ResponseHandler>(
+    alloc: Global,
+    sink: &mut R,
+    answer: &Record,
+) -> Result<ResponseInfo, Fail> {
+    let queries = Queries::read(alloc, &mut BinDecoder::new(b""), 0)?;
+    let mut edns = Edns::new(alloc);
+    edns.set_max_payload(1232);
+    let nothing: &[Record] = &[];
+    let metadata = Metadata::new(10, MessageType::Response, OpCode::QUERY);
+    let builder = MessageResponseBuilder::new(&queries, Some(&edns));
+    let reply = builder.build(metadata, iter::once(answer), nothing, nothing, nothing);
+    Ok(sink.send_response(alloc, reply)?)
+}
+
+/// The address of the root, of 15 bytes in full.
+fn address() -> Record {
+    Record {
+        name: Name::root(),
+        dns_class: DNSClass::IN,
+        ttl: 60,
+        rdata: RData::A(Ipv4Addr::LOCALHOST),
+        proof: Proof::Indeterminate,
+    }
 }
 
 /// A query for the addresses of www.example.com, with RD.
@@ -377,5 +406,30 @@ fn a_datagram_sink_keeps_the_bytes(rt: HostRuntime) -> Result<(), Fail> {
     let datagram = sink.datagrams.as_slice().first().ok_or("no reply")?;
     assert_eq!(rt; datagram.as_slice(), expected.as_slice());
     assert_eq!(rt; (sink.datagrams.len(), sink.failures), (1, 0));
+    Ok(())
+}
+
+#[test]
+fn a_telling_sink_keeps_records_and_edns(rt: HostRuntime) -> Result<(), Fail> {
+    let mut sink = TellingSink::new(rt.alloc());
+    hand_over(rt.alloc(), &mut sink, &address())?;
+    let kept = sink.kept.as_slice().first().ok_or("no reply")?;
+    let answer = kept.answers.as_slice().first().ok_or("no answer")?;
+    assert!(rt; *answer == address());
+    assert_eq!(rt; answer.ttl, 60);
+    let edns = kept.edns.as_ref().ok_or("no EDNS")?;
+    assert_eq!(rt; edns.max_payload, 1232);
+    Ok(())
+}
+
+#[test]
+fn a_datagram_sink_keeps_records_and_edns(rt: HostRuntime) -> Result<(), Fail> {
+    let mut sink = DatagramSink::new(rt.alloc());
+    hand_over(rt.alloc(), &mut sink, &address())?;
+    let datagram = sink.datagrams.as_slice().first().ok_or("no reply")?;
+    assert_eq!(rt;
+        datagram.as_slice(),
+        b"\x00\x0a\x80\x00\x00\x00\x00\x01\x00\x00\x00\x01\x00\x00\x01\x00\x01\x00\x00\x00\x3c\x00\x04\x7f\x00\x00\x01\x00\x00\x29\x04\xd0\x00\x00\x00\x00\x00\x00".as_slice()
+    );
     Ok(())
 }
