@@ -12,7 +12,7 @@ use hickory_wire::{Items, ProtoError, Protocol, Record, ReplyParts, encode_messa
 use std::alloc::{AllocError, Global};
 
 /// Copies of the records that an iterator gives.
-fn copies<I>(alloc: Global, records: I) -> Result<Items<Record>, AllocError>
+pub(crate) fn copies<I>(alloc: Global, records: I) -> Result<Items<Record>, AllocError>
 where
     I: Iterator + Drop,
     I::Item: RecordRef,
