@@ -101,7 +101,12 @@ impl<S: ReplySigner> Catalog<S> {
     /// Answers a query by the handlers of its zone, and hands the sink one reply, with this EDNS. `now` is in seconds
     /// since 1970. QR, opcode and EDNS version of the request are not looked at.
     ///
-    /// `Memory` says that no reply was handed over.
+    /// Where no zone answers for the name the reply is Refused. For a type but SOA and AXFR a chain of one primary or
+    /// secondary handler that proves no denial is asked; what it finds, without a context for the signer, is told with
+    /// AA, a referral in the authority section (RFC 1034 section 4.3.2, step 3b). Every other case is not implemented
+    /// yet, and is answered ServFail without EDNS; so is an EDNS with high bits of a response code.
+    ///
+    /// Where the sink fails the answer tells of ServFail. `Memory` says that no reply was handed over.
     pub fn lookup<R: ResponseHandler>(
         &self,
         alloc: Global,
@@ -121,6 +126,8 @@ impl<S: ReplySigner> Catalog<S> {
 }
 
 impl<S: ReplySigner> RequestHandler for Catalog<S> {
+    /// Hands the sink one reply: that of `lookup`, without EDNS, to a query without EDNS. Any other request is not
+    /// implemented yet, and is answered ServFail.
     fn handle_request<R: ResponseHandler>(
         &mut self,
         alloc: Global,
