@@ -346,7 +346,7 @@ fn put(
     }
 }
 
-fn scripted(alloc: Global, script: Script) -> Result<Scripted, Fail> {
+fn make_scripted(alloc: Global, script: Script) -> Result<Scripted, Fail> {
     Ok(Scripted {
         origin: lower_name(alloc, "www.example.com.")?,
         zone_type: ZoneType::Secondary,
@@ -407,7 +407,7 @@ fn asked_just_once(rt: HostRuntime) -> Result<(), Fail> {
         alloc,
         &mut catalog,
         "com.",
-        Box::new(alloc, scripted(alloc, Script::Count)?)?,
+        Box::new(alloc, make_scripted(alloc, Script::Count)?)?,
     )?;
     let mut sink = sink(alloc, false);
     for ttl in 1..4u8 {
@@ -449,7 +449,7 @@ fn not_implemented(rt: HostRuntime) -> Result<(), Fail> {
             alloc,
             &mut catalog,
             "com.",
-            Box::new(alloc, scripted(alloc, script)?)?,
+            Box::new(alloc, make_scripted(alloc, script)?)?,
         )?;
         assert_eq!(rt;
             reply_of(alloc, &mut catalog)?,
@@ -467,7 +467,7 @@ fn handler_lacks_memory(rt: HostRuntime) -> Result<(), Fail> {
         alloc,
         &mut catalog,
         "com.",
-        Box::new(alloc, scripted(alloc, Script::Memory)?)?,
+        Box::new(alloc, make_scripted(alloc, Script::Memory)?)?,
     )?;
     let mut sink = sink(alloc, false);
     let answer = catalog.handle_request(alloc, &query(alloc)?, 0, &mut sink);
@@ -486,7 +486,7 @@ fn map_of_zones(rt: HostRuntime) -> Result<(), Fail> {
         alloc,
         &mut catalog,
         "com.",
-        Box::new(alloc, scripted(alloc, Script::Skip)?)?,
+        Box::new(alloc, make_scripted(alloc, Script::Skip)?)?,
     )?;
     assert!(rt; catalog.contains(&apex));
     assert!(rt;
