@@ -74,9 +74,10 @@ impl ResponseHandler for Bytes {
         if self.fails {
             return Err(self.fail());
         }
-        let Ok((info, bytes)) = encode_response(alloc, response, Protocol::Tcp) else {
+        let Ok(encoded) = encode_response(alloc, response, Protocol::Tcp) else {
             return Err(self.fail());
         };
+        let (info, bytes) = encoded;
         if self.replies.push(bytes).is_err() {
             return Err(self.fail());
         }
