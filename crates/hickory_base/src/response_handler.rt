@@ -94,6 +94,8 @@ pub trait ResponseHandler {
 
 /// What answers requests: for each it hands a reply to a sink.
 pub trait RequestHandler {
+    ghost use Rattle.std.specs.Prelude.{◌≡◌, OnErr};
+
     /// Handles a request, and answers what was told of the reply. `now` is in seconds since 1970.
     ///
     /// After an `Err` no reply was handed over.
@@ -103,5 +105,7 @@ pub trait RequestHandler {
         request: &Request,
         now: u64,
         sink: &mut R,
-    ) -> Result<ResponseInfo, CatalogError>;
+    ) -> Result<ResponseInfo, CatalogError>
+        ensures err { OnErr result ((R.entries sink.new ≡ R.entries sink.old) × (R.failures sink.new ≡ R.failures sink.old)) }
+        ensures settled { R.settings sink.new ≡ R.settings sink.old };
 }

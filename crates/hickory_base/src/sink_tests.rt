@@ -151,11 +151,15 @@ impl TellingSink {
 impl ResponseHandler for TellingSink {
     type Entry = KeptReply;
 
+    type Settings = ();
+
     ghost entries = { λ sink. sink.kept };
 
-    ghost shows = { λ reply kept. kept ≡ reply };
+    ghost settings = { λ _. tt };
 
-    ghost informs = { λ reply header. header.metadata ≡ reply.metadata };
+    ghost shows = { λ _ reply kept. kept ≡ reply };
+
+    ghost informs = { λ _ reply header. header.metadata ≡ reply.metadata };
 
     ghost failures = { λ sink. sink.failures };
 
@@ -197,11 +201,15 @@ struct FaultySink {
 impl ResponseHandler for FaultySink {
     type Entry = ();
 
+    type Settings = ();
+
     ghost entries = { λ _. [] };
 
-    ghost shows = { λ _ _. ⊥ };
+    ghost settings = { λ _. tt };
 
-    ghost informs = { λ _ _. ⊥ };
+    ghost shows = { λ _ _ _. ⊥ };
+
+    ghost informs = { λ _ _ _. ⊥ };
 
     ghost failures = { λ sink. sink.failures };
 
@@ -252,11 +260,15 @@ impl DatagramSink {
 impl ResponseHandler for DatagramSink {
     type Entry = Octets;
 
+    type Settings = ();
+
     ghost entries = { λ sink. sink.datagrams };
 
-    ghost shows = { λ reply bytes. (header : _) × ReplyEncoded (size_limit protocol.Udp reply.edns) reply bytes header };
+    ghost settings = { λ _. tt };
 
-    ghost informs = { λ reply header. (bytes : _) × ReplyEncoded (size_limit protocol.Udp reply.edns) reply bytes header };
+    ghost shows = { λ _ reply bytes. (header : _) × ReplyEncoded (size_limit protocol.Udp reply.edns) reply bytes header };
+
+    ghost informs = { λ _ reply header. (bytes : _) × ReplyEncoded (size_limit protocol.Udp reply.edns) reply bytes header };
 
     ghost failures = { λ sink. sink.failures };
 

@@ -67,7 +67,8 @@ additional_section found = or_none (additionals_of found) where
   or_none None = []
   or_none (Some records) = records
 
--- The reply of a zone's primary or secondary server for what it found.
+-- The reply of a zone's primary or secondary server for what it found. AA is set with a referral too, as in the Rust crate, where RFC 1034
+-- section 4.3.2 would leave it clear.
 abbrev pub authoritative_reply : MessageRequest → Option EdnsFields → ℕ → AuthLookup → Reply
 authoritative_reply request edns query_type found = record (bare_reply request edns (authoritative_metadata request.metadata)) {
   answers = answer_section query_type (answers_of found);

@@ -21,17 +21,19 @@ use std::alloc::{AllocError, Global};
 /// The zones that a server answers for, each with the chain of its handlers, what identifies the server, and what signs
 /// its replies.
 ///
-/// Contracts see `zones` as the list of zone apexes with their handlers, in the order of names, `nsid` as bytes.
+/// Its handlers are boxed, so that one chain may have handlers of several types; a catalog whose handlers are all of one
+/// type may name that type. Contracts see `zones` as the list of zone apexes with their handlers, in the order of names,
+/// `nsid` as bytes.
 #[derive(Drop)]
-pub struct Catalog<S: ReplySigner> {
-    zones: Zones<Box<dyn ZoneHandler>>,
+pub struct Catalog<S: ReplySigner, H: ZoneHandler = Box<dyn ZoneHandler>> {
+    zones: Zones<H>,
     nsid: Option<NSIDPayload>,
     signer: S,
 }
 
-impl<S: ReplySigner> Catalog<S> {
+impl<S: ReplySigner, H: ZoneHandler> Catalog<S, H> {
     /// A catalog without zones and without an identifier. It takes no memory.
-    pub fn new(alloc: Global, signer: S) -> Catalog<S>
+    pub fn new(alloc: Global, signer: S) -> Catalog<S, H>
         ensures { result ≡ record { zones = []; nsid = None; signer = signer } }
     {
         Catalog {
@@ -46,8 +48,8 @@ impl<S: ReplySigner> Catalog<S> {
     pub fn upsert(
         &mut self,
         name: LowerName,
-        handlers: Vec<Box<dyn ZoneHandler>>,
-    ) -> Result<Option<Vec<Box<dyn ZoneHandler>>>, (LowerName, Vec<Box<dyn ZoneHandler>>)>
+        handlers: Vec<H>,
+    ) -> Result<Option<Vec<H>>, (LowerName, Vec<H>)>
         ensures changed { IfOk result
             (λ old. ChangesAt self.old.zones name (option_map (λ chain. chain.items) old) (Some handlers.items) self.new.zones) }
         ensures handed_back { IfErr result (λ both. both ≡ (name, handlers)) }
@@ -58,7 +60,7 @@ impl<S: ReplySigner> Catalog<S> {
     }
 
     /// Takes the chain of handlers at a zone apex away, if there is one, and hands it back. It takes no memory.
-    pub fn remove(&mut self, name: &LowerName) -> Option<Vec<Box<dyn ZoneHandler>>>
+    pub fn remove(&mut self, name: &LowerName) -> Option<Vec<H>>
         ensures changed { ChangesAt self.old.zones name.now (option_map (λ chain. chain.items) result) None self.new.zones }
         ensures others { self.new ≡ record self.old { zones = self.new.zones } }
     {
@@ -78,7 +80,7 @@ impl<S: ReplySigner> Catalog<S> {
         &self,
         alloc: Global,
         name: &LowerName,
-    ) -> Result<Option<&Vec<Box<dyn ZoneHandler>>>, AllocError>
+    ) -> Result<Option<&Vec<H>>, AllocError>
         ensures { IfOk result (λ found. Finds self.now.zones name.now (option_map (λ chain. chain.now.items) found)) }
     {
         self.zones.find(alloc, name)
@@ -101,7 +103,12 @@ impl<S: ReplySigner> Catalog<S> {
     /// Answers a query by the handlers of its zone, and hands the sink one reply, with this EDNS. `now` is in seconds
     /// since 1970. QR, opcode and EDNS version of the request are not looked at.
     ///
-    /// `Memory` says that no reply was handed over.
+    /// Where no zone answers for the name the reply is Refused. For a type but SOA and AXFR a chain of one primary or
+    /// secondary handler that proves no denial is asked; what it finds, without a context for the signer, is told with
+    /// AA, a referral in the authority section (RFC 1034 section 4.3.2, step 3b). Every other case is not implemented
+    /// yet, and is answered ServFail without EDNS; so is an EDNS with high bits of a response code.
+    ///
+    /// Where the sink fails the answer tells of ServFail. `Memory` says that no reply was handed over.
     pub fn lookup<R: ResponseHandler>(
         &self,
         alloc: Global,
@@ -111,7 +118,7 @@ impl<S: ReplySigner> Catalog<S> {
         sink: &mut R,
     ) -> Result<ResponseInfo, CatalogError>
         ensures replied { IfOk result (λ info. (reply : Reply) ×
-            QueryReply ⟦<Box<dyn ZoneHandler> as ZoneHandler>⟧ self.now.zones request.now (option_copied edns.entry) reply ×
+            QueryReply H.ZoneHandler self.now.zones request.now (option_copied edns.entry) reply ×
             IsSent R.shows R.informs request.now.message.metadata (R.settings sink.old) (R.settings sink.new) (R.entries sink.old) (R.entries sink.new) (R.failures sink.old) (R.failures sink.new) reply (header_of info)) }
         ensures refused { IfErr result (λ e. (e ≡ CatalogError.Memory) ×
             (R.settings sink.new ≡ R.settings sink.old) × (R.entries sink.new ≡ R.entries sink.old) × (R.failures sink.new ≡ R.failures sink.old)) }
@@ -120,7 +127,9 @@ impl<S: ReplySigner> Catalog<S> {
     }
 }
 
-impl<S: ReplySigner> RequestHandler for Catalog<S> {
+impl<S: ReplySigner, H: ZoneHandler> RequestHandler for Catalog<S, H> {
+    /// Hands the sink one reply: that of `lookup`, without EDNS, to a query without EDNS. Any other request is not
+    /// implemented yet, and is answered ServFail.
     fn handle_request<R: ResponseHandler>(
         &mut self,
         alloc: Global,
@@ -129,7 +138,7 @@ impl<S: ReplySigner> RequestHandler for Catalog<S> {
         sink: &mut R,
     ) -> Result<ResponseInfo, CatalogError>
         ensures replied { IfOk result (λ info. (reply : Reply) ×
-            RequestReply ⟦<Box<dyn ZoneHandler> as ZoneHandler>⟧ self.old.zones request.now reply ×
+            RequestReply H.ZoneHandler self.old.zones request.now reply ×
             IsSent R.shows R.informs request.now.message.metadata (R.settings sink.old) (R.settings sink.new) (R.entries sink.old) (R.entries sink.new) (R.failures sink.old) (R.failures sink.new) reply (header_of info)) }
         ensures refused { IfErr result (λ e. (e ≡ CatalogError.Memory) ×
             (R.settings sink.new ≡ R.settings sink.old) × (R.entries sink.new ≡ R.entries sink.old) × (R.failures sink.new ≡ R.failures sink.old)) }

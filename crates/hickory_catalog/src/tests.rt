@@ -1,6 +1,6 @@
 //! Requests through a catalog: a zone in memory, scripted handlers, a sink that keeps bytes.
 
-ghost use Rattle.std.specs.Prelude.{◌≡◌, ◌+◌, ◌%◌, ◌^◌, None};
+ghost use Rattle.std.specs.Prelude.{◌≡◌, ◌+◌, ◌%◌, ◌^◌, None, false};
 ghost use Rattle.hickory_base.specs.declared.zone_store.handler.AxfrPolicy.TheVariants.{Deny};
 
 use crate::catalog::Catalog;
@@ -48,11 +48,15 @@ impl Bytes {
 impl ResponseHandler for Bytes {
     type Entry = Vec<u8>;
 
+    type Settings = ();
+
     ghost entries = { λ sink. sink.replies.items };
 
-    ghost shows = { λ _ _. Unit {0} };
+    ghost settings = { λ _. tt };
 
-    ghost informs = { λ _ _. Unit {0} };
+    ghost shows = { λ _ _ _. Unit {0} };
+
+    ghost informs = { λ _ _ _. Unit {0} };
 
     ghost failures = { λ sink. sink.failures };
 
@@ -74,9 +78,10 @@ impl ResponseHandler for Bytes {
         if self.fails {
             return Err(self.fail());
         }
-        let Ok((info, bytes)) = encode_response(alloc, response, Protocol::Tcp) else {
+        let Ok(encoded) = encode_response(alloc, response, Protocol::Tcp) else {
             return Err(self.fail());
         };
+        let (info, bytes) = encoded;
         if self.replies.push(bytes).is_err() {
             return Err(self.fail());
         }
@@ -346,7 +351,7 @@ fn put(
     }
 }
 
-fn scripted(alloc: Global, script: Script) -> Result<Scripted, Fail> {
+fn make_scripted(alloc: Global, script: Script) -> Result<Scripted, Fail> {
     Ok(Scripted {
         origin: lower_name(alloc, "www.example.com.")?,
         zone_type: ZoneType::Secondary,
@@ -358,7 +363,7 @@ fn scripted(alloc: Global, script: Script) -> Result<Scripted, Fail> {
 #[test]
 fn no_zone(rt: HostRuntime) -> Result<(), Fail> {
     let alloc = rt.alloc();
-    let mut catalog = Catalog::new(alloc, NoSigner);
+    let mut catalog: Catalog<NoSigner> = Catalog::new(alloc, NoSigner);
     let mut sink = sink(alloc, false);
     let told = catalog.handle_request(alloc, &query(alloc)?, 0, &mut sink)?;
     assert_eq!(rt; told.metadata().response_code, ResponseCode::REFUSED);
@@ -387,7 +392,7 @@ fn memory_zone(rt: &(impl Abort + AllocGlobal)) -> Result<InMemoryZoneHandler, F
 #[test]
 fn zone_in_memory(rt: HostRuntime) -> Result<(), Fail> {
     let alloc = rt.alloc();
-    let mut catalog = Catalog::new(alloc, NoSigner);
+    let mut catalog: Catalog<NoSigner> = Catalog::new(alloc, NoSigner);
     let handler = Box::new(alloc, memory_zone(&rt)?)?;
     put(alloc, &mut catalog, "example.com.", handler)?;
     let mut sink = sink(alloc, false);
@@ -402,12 +407,12 @@ fn zone_in_memory(rt: HostRuntime) -> Result<(), Fail> {
 #[test]
 fn asked_just_once(rt: HostRuntime) -> Result<(), Fail> {
     let alloc = rt.alloc();
-    let mut catalog = Catalog::new(alloc, NoSigner);
+    let mut catalog: Catalog<NoSigner> = Catalog::new(alloc, NoSigner);
     put(
         alloc,
         &mut catalog,
         "com.",
-        Box::new(alloc, scripted(alloc, Script::Count)?)?,
+        Box::new(alloc, make_scripted(alloc, Script::Count)?)?,
     )?;
     let mut sink = sink(alloc, false);
     for ttl in 1..4u8 {
@@ -422,7 +427,7 @@ fn asked_just_once(rt: HostRuntime) -> Result<(), Fail> {
 #[test]
 fn sink_fails(rt: HostRuntime) -> Result<(), Fail> {
     let alloc = rt.alloc();
-    let mut catalog = Catalog::new(alloc, NoSigner);
+    let mut catalog: Catalog<NoSigner> = Catalog::new(alloc, NoSigner);
     let mut sink = sink(alloc, true);
     let told = catalog.handle_request(alloc, &query(alloc)?, 0, &mut sink)?;
     assert_eq!(rt; told.metadata().response_code, ResponseCode::SERV_FAIL);
@@ -444,12 +449,12 @@ fn reply_of(alloc: Global, catalog: &mut Catalog<NoSigner>) -> Result<Vec<u8>, F
 fn not_implemented(rt: HostRuntime) -> Result<(), Fail> {
     let alloc = rt.alloc();
     for script in [Script::Skip, Script::NoName, Script::Signed] {
-        let mut catalog = Catalog::new(alloc, NoSigner);
+        let mut catalog: Catalog<NoSigner> = Catalog::new(alloc, NoSigner);
         put(
             alloc,
             &mut catalog,
             "com.",
-            Box::new(alloc, scripted(alloc, script)?)?,
+            Box::new(alloc, make_scripted(alloc, script)?)?,
         )?;
         assert_eq!(rt;
             reply_of(alloc, &mut catalog)?,
@@ -462,12 +467,12 @@ fn not_implemented(rt: HostRuntime) -> Result<(), Fail> {
 #[test]
 fn handler_lacks_memory(rt: HostRuntime) -> Result<(), Fail> {
     let alloc = rt.alloc();
-    let mut catalog = Catalog::new(alloc, NoSigner);
+    let mut catalog: Catalog<NoSigner> = Catalog::new(alloc, NoSigner);
     put(
         alloc,
         &mut catalog,
         "com.",
-        Box::new(alloc, scripted(alloc, Script::Memory)?)?,
+        Box::new(alloc, make_scripted(alloc, Script::Memory)?)?,
     )?;
     let mut sink = sink(alloc, false);
     let answer = catalog.handle_request(alloc, &query(alloc)?, 0, &mut sink);
@@ -479,14 +484,14 @@ fn handler_lacks_memory(rt: HostRuntime) -> Result<(), Fail> {
 #[test]
 fn map_of_zones(rt: HostRuntime) -> Result<(), Fail> {
     let alloc = rt.alloc();
-    let mut catalog = Catalog::new(alloc, NoSigner);
+    let mut catalog: Catalog<NoSigner> = Catalog::new(alloc, NoSigner);
     let apex = lower_name(alloc, "com.")?;
     assert!(rt; catalog.find(alloc, &apex)?.is_none());
     put(
         alloc,
         &mut catalog,
         "com.",
-        Box::new(alloc, scripted(alloc, Script::Skip)?)?,
+        Box::new(alloc, make_scripted(alloc, Script::Skip)?)?,
     )?;
     assert!(rt; catalog.contains(&apex));
     assert!(rt;
@@ -548,7 +553,7 @@ fn counts_at_root(alloc: Global) -> Option<Scripted> {
 #[test]
 fn refused_growth(rt: HostRuntime) {
     let alloc = rt.alloc();
-    let mut catalog = Catalog::new(alloc, NoSigner);
+    let mut catalog: Catalog<NoSigner> = Catalog::new(alloc, NoSigner);
     let Some(handler) = counts_at_root(alloc) else {
         return;
     };
