@@ -1,0 +1,9 @@
+//! The zone service of a DNS server: requests, zones, replies, under the paths of the Rust crate.
+#![tactic(auto)]
+
+pub use hickory_base::access;
+pub use hickory_wire as proto;
+
+pub mod server;
+pub mod store;
+pub mod zone_handler;

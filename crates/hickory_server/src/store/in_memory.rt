@@ -1,0 +1,3 @@
+//! A zone that is held in memory.
+
+pub use hickory_base::zone_store::{InMemoryZoneHandler, RecordSet, RrKey};

@@ -1,0 +1,11 @@
+//! Zones, the catalog of them, and the messages of which replies are made.
+
+pub use hickory_base::errors::{CatalogError, DnsError, LookupError, UpdateFault};
+pub use hickory_base::message_request::{MessageRequest, Queries};
+pub use hickory_base::message_response::{MessageResponse, MessageResponseBuilder};
+pub use hickory_base::zone_store::{
+    AuthLookup, AxfrPolicy, Lookup, LookupControlFlow, LookupOptions, Nsec3QueryInfo, NxProofKind,
+    ZoneHandler, ZoneTransfer, ZoneType,
+};
+pub use hickory_catalog::catalog::Catalog;
+pub use hickory_catalog::signer::{ReplySigner, SignError};

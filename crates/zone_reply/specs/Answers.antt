@@ -1,0 +1,93 @@
+-- What the command prints for its input, and the status that it gives.
+use Rattle.std.specs.Prelude.{◌≡◌, ◌++◌, ◌∷◌, [], ℕ, List, Option, Some, None, IfSome, IsSome, Result, Ok, Err}
+use Rattle.std.specs.Global.{Vec}
+use Rattle.std.specs.Io.BufRead.{first_piece}
+use Rattle.hex.specs.Hex.{decode_of, encode_lower}
+use Rattle.hickory_wire.specs.DomainName.{DomainName}
+use Rattle.hickory_wire.specs.MessageReading.{Reads}
+use Rattle.hickory_wire.specs.Reply.{Reply}
+use Rattle.hickory_wire.specs.declared.error.ProtoError.{ProtoError}
+use Rattle.hickory_wire.specs.declared.protocol.Protocol.{Protocol}
+use Rattle.hickory_base.specs.RequestReading.{IsFaultOf, IsQuestionSection, message_of}
+use Rattle.hickory_base.specs.Requests.{ReceivedRequest}
+use Rattle.hickory_base.specs.declared.zone_store.handler.ZoneHandler.{Ghosts}
+use Rattle.hickory_catalog.specs.Queries.{RequestReply}
+use Rattle.zone_reply.specs.EncodedReplies.{IsEncodingOf}
+use Rattle.zone_reply.specs.Command.{transport_of, refusal_line, refusal_status}
+use Rattle.zone_reply.specs.declared.command.Refusal.{Refusal}
+use Rattle.zone_reply.specs.declared.command.Refusal.TheVariants.{Usage, NotHex, Unreadable, Memory}
+
+-- The request is what these bytes are read as, over this transport (RFC 1035 section 4.1).
+pub record IsRequestOf (bytes : List ℕ) (protocol : Protocol) (request : ReceivedRequest) : Type 0 where
+  pub reads : Reads bytes (message_of request.message)
+  pub questions : IsQuestionSection bytes request.message.queries
+  pub raw : request.bytes ≡ bytes
+  pub protocol_is : request.protocol ≡ protocol
+
+-- The bytes are an encoding, at the transport's limit, of the reply that the zones give to the request.
+pub record IsReplyToRequest {H : Type 0} (handler : Ghosts H) (zones : List (DomainName × List H)) (protocol : Protocol) (request : ReceivedRequest) (bytes : List ℕ) : Type 0 where
+  pub reply : Reply
+  pub is_reply : RequestReply handler zones request reply
+  pub is_encoded : IsEncodingOf protocol reply bytes
+
+-- The bytes are an encoding of the reply to the request that the message is read as.
+pub record IsReplyTo {H : Type 0} (handler : Ghosts H) (zones : List (DomainName × List H)) (protocol : Protocol) (message bytes : List ℕ) : Type 0 where
+  pub request : ReceivedRequest
+  pub is_read : IsRequestOf message protocol request
+  pub is_reply : IsReplyToRequest handler zones protocol request bytes
+
+-- Why there is no reply to a message: it cannot be read, or memory is refused.
+abbrev pub IsRefusedMessage : List ℕ → Refusal → Type 0
+IsRefusedMessage message Unreadable = (e : ProtoError) × IsFaultOf message e
+IsRefusedMessage message Memory = Unit {0}
+IsRefusedMessage message Usage = ⊥
+IsRefusedMessage message NotHex = ⊥
+
+-- The message is what the first line of the input spells in hex digits, where the input is known.
+abbrev pub IsFirstMessage : Option (List ℕ) → List ℕ → Type 0
+IsFirstMessage input message = IfSome input (λ bytes. decode_of (first_piece 10 bytes) ≡ Ok message)
+
+-- Why there is no message: the input cannot be read or spells none, or memory is refused.
+abbrev pub IsRefusedInput : Refusal → Type 0
+IsRefusedInput NotHex = Unit {0}
+IsRefusedInput Memory = Unit {0}
+IsRefusedInput Usage = ⊥
+IsRefusedInput Unreadable = ⊥
+
+-- a line of lower-case hex digits, with its newline
+abbrev pub hex_line : List ℕ → List ℕ
+hex_line bytes = encode_lower bytes ++ 10 ∷ []
+
+-- The line is that of an encoded reply to the message of the input, over the transport that the arguments name.
+pub record IsReplyLine {H : Type 0} (handler : Ghosts H) (zones : List (DomainName × List H)) (arguments : List (List ℕ)) (input : Option (List ℕ)) (line : List ℕ) : Type 0 where
+  pub protocol : Protocol
+  pub is_named : transport_of arguments ≡ Some protocol
+  pub message : List ℕ
+  pub is_first : IsFirstMessage input message
+  pub bytes : List ℕ
+  pub is_reply : IsReplyTo handler zones protocol message bytes
+  pub line_is : line ≡ hex_line bytes
+
+-- What is answered: the line of a reply, or why there is none. A reader may fail at any time, and memory may be refused at any time once the
+-- arguments name a transport.
+abbrev pub IsAnswer : {H : Type 0} → Ghosts H → List (DomainName × List H) → List (List ℕ) → Option (List ℕ) → Result (List ℕ) Refusal → Type 0
+IsAnswer handler zones arguments input (Ok line) = IsReplyLine handler zones arguments input line
+IsAnswer handler zones arguments input (Err Usage) = transport_of arguments ≡ None
+IsAnswer handler zones arguments input (Err NotHex) = IsSome (transport_of arguments)
+IsAnswer handler zones arguments input (Err Unreadable) = IsSome (transport_of arguments) × (message : List ℕ) × IsFirstMessage input message × (e : ProtoError) × IsFaultOf message e
+IsAnswer handler zones arguments input (Err Memory) = IsSome (transport_of arguments)
+
+-- an answer with the bytes of its line
+abbrev pub line_items : Result (Vec ℕ) Refusal → Result (List ℕ) Refusal
+line_items (Ok line) = Ok line.items
+line_items (Err refusal) = Err refusal
+
+-- the line that tells an answer, with its newline
+abbrev pub answer_line : Result (List ℕ) Refusal → List ℕ
+answer_line (Ok line) = line
+answer_line (Err refusal) = refusal_line refusal
+
+-- the status that tells an answer
+abbrev pub answer_status : Result (List ℕ) Refusal → ℕ
+answer_status (Ok line) = 0
+answer_status (Err refusal) = refusal_status refusal

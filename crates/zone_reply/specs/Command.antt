@@ -1,0 +1,36 @@
+-- What the command is given, what it prints and the status that it gives.
+use Rattle.std.specs.Prelude.{◌≡◌, ◌⊎◌, ℕ, nat_eq, cond, List, [], ◌∷◌, Option, Some, None, codes}
+use Rattle.std.specs.Cmp.Lexicographic.{pointwise}
+use Rattle.std.specs.Io.KnownBytes.{Appends}
+use Rattle.hickory_wire.specs.declared.protocol.Protocol.{Protocol}
+use Rattle.hickory_wire.specs.declared.protocol.Protocol.TheVariants.{Udp, Tcp}
+use Rattle.zone_reply.specs.declared.command.Refusal.{Refusal}
+use Rattle.zone_reply.specs.declared.command.Refusal.TheVariants.{Usage, NotHex, Unreadable, Memory}
+
+-- the transport of this name
+abbrev pub transport_named : List ℕ → Option Protocol
+transport_named name = cond (pointwise nat_eq name (codes "udp")) (Some Udp) (cond (pointwise nat_eq name (codes "tcp")) (Some Tcp) None)
+
+-- the transport that the arguments name: there is just one, and it is `udp` or `tcp`
+abbrev pub transport_of : List (List ℕ) → Option Protocol
+transport_of [] = None
+transport_of (name ∷ []) = transport_named name
+transport_of (name ∷ other ∷ others) = None
+
+-- the line that tells a refusal, with its newline
+abbrev pub refusal_line : Refusal → List ℕ
+refusal_line Usage = codes "usage: zone_reply udp|tcp\n"
+refusal_line NotHex = codes "not hex\n"
+refusal_line Unreadable = codes "unreadable\n"
+refusal_line Memory = codes "no memory\n"
+
+-- the status that tells a refusal
+abbrev pub refusal_status : Refusal → ℕ
+refusal_status Usage = 2
+refusal_status NotHex = 2
+refusal_status Unreadable = 1
+refusal_status Memory = 3
+
+-- The line was put behind what the writer held, and the status is given; or printing failed, which status 4 tells.
+abbrev pub IsPrinted : Option (List ℕ) → Option (List ℕ) → List ℕ → ℕ → ℕ → Type 0
+IsPrinted old new line status given = ((given ≡ status) × Appends old new line) ⊎ (given ≡ 4)

@@ -1,0 +1,56 @@
+//! Reading the message from the input.
+
+ghost use Rattle.std.specs.Prelude.{◌≡◌, IfOk, IfErr, IfSome, Ok};
+ghost use Rattle.std.specs.Io.BufRead.{first_piece};
+ghost use Rattle.hex.specs.Hex.{decode_of};
+ghost use Rattle.zone_reply.specs.Answers.{IsFirstMessage, IsRefusedInput};
+
+use crate::command::Refusal;
+use hex::FromHexError;
+use std::alloc::Global;
+use std::io::{self, BufRead, BufReader, Read};
+
+/// The bytes before the first newline, or before the end where there is none.
+fn first_line<R: Read>(alloc: Global, reader: &mut R) -> io::Result<Vec<u8>>
+    ensures { IfOk result (λ line. IfSome (R.remaining reader.old) (λ bytes. line.items ≡ first_piece 10 bytes)) }
+{
+    let mut line = Vec::new(alloc);
+    BufReader::new(alloc, reader)?.read_until(b'\n', &mut line)?;
+    if line.last() == Some(&b'\n') {
+        line.pop();
+    }
+    Ok(line)
+}
+
+/// What a fault of the input is told as.
+fn input_refusal(e: &io::Error) -> Refusal
+    ensures { IsRefusedInput result }
+{
+    match e.kind() {
+        io::ErrorKind::OutOfMemory => Refusal::Memory,
+        _ => Refusal::NotHex,
+    }
+}
+
+/// The bytes that a line of hex digits stands for.
+fn decode(alloc: Global, line: &[u8]) -> Result<Vec<u8>, Refusal>
+    ensures ok { IfOk result (λ bytes. decode_of line.now ≡ Ok bytes.items) }
+    ensures err { IfErr result (λ e. IsRefusedInput e) }
+{
+    match hex::decode(alloc, line) {
+        Ok(bytes) => Ok(bytes),
+        Err(FromHexError::OutOfMemory) => Err(Refusal::Memory),
+        Err(_) => Err(Refusal::NotHex),
+    }
+}
+
+/// The message that the first line of the input spells in hex digits.
+pub fn message<R: Read>(alloc: Global, reader: &mut R) -> Result<Vec<u8>, Refusal>
+    ensures ok { IfOk result (λ message. IsFirstMessage (R.remaining reader.old) message.items) }
+    ensures err { IfErr result (λ e. IsRefusedInput e) }
+{
+    match first_line(alloc, reader) {
+        Ok(line) => decode(alloc, line.as_slice()),
+        Err(e) => Err(input_refusal(&e)),
+    }
+}

@@ -1,0 +1,110 @@
+//! The command on whole inputs. What it is to print was put together by hand from RFC 1035 section 4.
+
+use crate::catalog;
+use crate::command::{Refusal, print};
+use crate::run::run;
+use crate::zone::zone;
+use hickory_server::zone_handler::ZoneHandler;
+use std::alloc::{AllocError, Global};
+use std::io::{self, Read, Write};
+use std::process::Abort;
+use std::test::Fail;
+
+/// What is printed for these arguments and this input, and the status.
+fn ran(alloc: Global, arguments: &[&str], input: &[u8]) -> Result<(u8, Vec<u8>), Refusal> {
+    let mut words = Vec::new(alloc);
+    for word in arguments {
+        words.push(String::from_str(alloc, word)?)?;
+    }
+    let handler: Box<dyn ZoneHandler> = Box::new(alloc, zone(alloc)?)?;
+    let mut catalog = catalog(alloc, handler)?;
+    let mut printed = Vec::new(alloc);
+    let mut reader = input;
+    let status = run(
+        alloc,
+        &mut catalog,
+        words.as_slice(),
+        &mut reader,
+        &mut printed,
+    );
+    Ok((status, printed))
+}
+
+/// Fails unless just this is printed for these arguments and this input, with this status.
+fn prints<R: Abort + Alloc<A = Global>>(
+    rt: &R,
+    arguments: &[&str],
+    input: &str,
+    want: (u8, &str),
+) -> Result<(), Fail> {
+    let (status, printed) = ran(rt.alloc(), arguments, input.as_bytes())?;
+    assert_eq!(rt; status, want.0, "for {input}");
+    assert!(rt; printed.as_slice() == want.1.as_bytes(), "for {input}: {printed:?}");
+    Ok(())
+}
+
+/// The question www.example.com. A, with RD set.
+const QUERY: &str = "12340100000100000000000003777777076578616d706c6503636f6d0000010001";
+
+/// Its authoritative reply, without compression.
+const REPLY: &str = "12348500000100010000000003777777076578616d706c6503636f6d000001000103777777076578616d706c6503636f6d000001000100000e1000045db8d70e\n";
+
+#[test]
+fn a_name_of_the_zone_is_answered(rt: HostRuntime) -> Result<(), Fail> {
+    for transport in ["udp", "tcp"] {
+        prints(&rt, &[transport], QUERY, (0, REPLY))?;
+    }
+    Ok(())
+}
+
+#[test]
+fn only_the_first_line_counts(rt: HostRuntime) -> Result<(), Fail> {
+    let alloc = rt.alloc();
+    let line = format!(in alloc; "{QUERY}\nnot hex\n")?;
+    prints(&rt, &["udp"], line.as_str(), (0, REPLY))
+}
+
+#[test]
+fn letter_case_is_kept_in_the_question(rt: HostRuntime) -> Result<(), Fail> {
+    let query = "12340100000100000000000003575757076578616D706C6503636F6D0000010001";
+    let reply = "12348500000100010000000003575757076578616d706c6503636f6d000001000103777777076578616d706c6503636f6d000001000100000e1000045db8d70e\n";
+    prints(&rt, &["udp"], query, (0, reply))
+}
+
+#[test]
+fn other_names_are_refused(rt: HostRuntime) -> Result<(), Fail> {
+    // The question's name is a pointer into the header, where a label of eight bytes stands.
+    let query = "080000000001000000000000c000000000000000000000000000000000000000000000000000000000000000000000000000";
+    let reply = "080080050001000000000000c00000000000\n";
+    prints(&rt, &["udp"], query, (0, reply))
+}
+
+#[test]
+fn what_is_no_message_is_unreadable(rt: HostRuntime) -> Result<(), Fail> {
+    for input in [
+        "",
+        "\n",
+        "0000000000000000000000",
+        "000600000001000000000000c00c00010001",
+    ] {
+        prints(&rt, &["tcp"], input, (1, "unreadable\n"))?;
+    }
+    Ok(())
+}
+
+#[test]
+fn what_is_no_hex_is_told(rt: HostRuntime) -> Result<(), Fail> {
+    for input in ["0", "zz", "12 34", "1234\r\n", "é"] {
+        prints(&rt, &["udp"], input, (2, "not hex\n"))?;
+    }
+    Ok(())
+}
+
+#[test]
+fn one_argument_names_the_transport(rt: HostRuntime) -> Result<(), Fail> {
+    let usage = (2, "usage: zone_reply udp|tcp\n");
+    prints(&rt, &[], QUERY, usage)?;
+    prints(&rt, &["UDP"], QUERY, usage)?;
+    prints(&rt, &[""], QUERY, usage)?;
+    prints(&rt, &["udp", "tcp"], QUERY, usage)
+}
