@@ -1,5 +1,5 @@
 -- Zones by name: a list of zone apexes, each with what is kept for its zone, in the order of names.
-use Rattle.std.specs.Prelude.{◌≡◌, List, ◌∷◌, ◌++◌, Option, Some, None, option_map}
+use Rattle.std.specs.Prelude.{◌≡◌, List, ◌++◌, Option, option_map}
 use Rattle.std.specs.Option.{option_to_list}
 use Rattle.std.specs.List.{All, Any}
 use Rattle.std.specs.List.Sorted.{IsStrictlySortedBy}

@@ -1,4 +1,4 @@
-use Rattle.std.proofs.Common.{Vec, Global, List}
+use Rattle.std.proofs.Common.{Vec, Global}
 use Rattle.hickory_catalog.proofs.Lookups.{has_zone}
 use Rattle.hickory_catalog.proofs.zones.Zones.contains.Goals as goal
 

@@ -1,4 +1,4 @@
-use Rattle.std.proofs.Common.{◌≡◌, Bool, true, false, [], Option, Some, None, Vec, Global, sym, ◌∙◌, rules}
+use Rattle.std.proofs.Common.{◌≡◌, true, false, Some, None, Vec, Global, sym, ◌∙◌, rules}
 use Rattle.std.proofs.lemmas.Bool.{false≢true}
 use Rattle.hickory_catalog.proofs.Lookups.{lookup_seen, in_order}
 use Rattle.hickory_catalog.proofs.Nearest.{at_name, not_at_relative, started, found_above, passed_above}

@@ -1,4 +1,4 @@
-use Rattle.std.proofs.Common.{Vec, Global, List}
+use Rattle.std.proofs.Common.{Vec, Global}
 use Rattle.hickory_catalog.proofs.Places.{taken_at}
 use Rattle.hickory_catalog.proofs.zones.Zones.remove.Goals as goal
 
