@@ -1,5 +1,5 @@
 -- What the handlers of a zone answered in one call, each answer one that its handler may give.
-use Rattle.std.specs.Prelude.{ℕ, zero, suc, List, [], ◌∷◌, Option, Some, None}
+use Rattle.std.specs.Prelude.{ℕ, zero, suc, List, [], ◌∷◌, Option, None}
 use Rattle.hickory_wire.specs.declared.tsig.TSigResponseContext.{TSigResponseContext}
 use Rattle.hickory_base.specs.Lookups.{Flow}
 use Rattle.hickory_base.specs.Requests.{ReceivedRequest}

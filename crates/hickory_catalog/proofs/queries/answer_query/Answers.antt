@@ -1,6 +1,5 @@
 use Rattle.std.proofs.Common.{◌≡◌, Some, true, rules, refl}
 use Rattle.std.specs.Option.{option_copied}
-use Rattle.hickory_wire.specs.NameOrder.{lower_name}
 use Rattle.hickory_catalog.specs.Queries.{is_implemented_edns, no_zone, single_question, zone}
 use Rattle.hickory_catalog.specs.Replies.{refused_reply}
 use Rattle.hickory_catalog.proofs.QueryReplies.{finds_none, finds_some, if_ok_map, zone_reply_at}
