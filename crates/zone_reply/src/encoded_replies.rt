@@ -5,9 +5,9 @@ ghost use Rattle.std.specs.Option.{option_copied};
 ghost use Rattle.hickory_wire.specs.ReplyParts.{ReplyEncoded};
 ghost use Rattle.zone_reply.specs.EncodedReplies.{IsEncodingOf, TellsEncoding};
 
-use hickory_server::zone_handler::MessageResponse;
-use hickory_server::server::{RecordRef, ResponseHandler, ResponseInfo, encode_response};
 use hickory_server::proto::{Edns, Items, Octets, Protocol};
+use hickory_server::server::{RecordRef, ResponseHandler, ResponseInfo, encode_response};
+use hickory_server::zone_handler::MessageResponse;
 use std::alloc::Global;
 use std::io;
 

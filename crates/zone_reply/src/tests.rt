@@ -39,7 +39,10 @@ fn prints<R: Abort + Alloc<A = Global>>(
 ) -> Result<(), Fail> {
     let (status, printed) = ran(rt.alloc(), arguments, input.as_bytes())?;
     assert_eq!(rt; status, want.0, "for {input}");
-    assert!(rt; printed.as_slice() == want.1.as_bytes(), "for {input}: {printed:?}");
+    assert!(rt;
+        printed.as_slice() == want.1.as_bytes(),
+        "for {input}: {printed:?}"
+    );
     Ok(())
 }
 
@@ -47,7 +50,8 @@ fn prints<R: Abort + Alloc<A = Global>>(
 const QUERY: &str = "12340100000100000000000003777777076578616d706c6503636f6d0000010001";
 
 /// Its authoritative reply, without compression.
-const REPLY: &str = "12348500000100010000000003777777076578616d706c6503636f6d000001000103777777076578616d706c6503636f6d000001000100000e1000045db8d70e\n";
+const REPLY: &str =
+    "12348500000100010000000003777777076578616d706c6503636f6d000001000103777777076578616d706c6503636f6d000001000100000e1000045db8d70e\n";
 
 #[test]
 fn a_name_of_the_zone_is_answered(rt: HostRuntime) -> Result<(), Fail> {
@@ -67,14 +71,16 @@ fn only_the_first_line_counts(rt: HostRuntime) -> Result<(), Fail> {
 #[test]
 fn letter_case_is_kept_in_the_question(rt: HostRuntime) -> Result<(), Fail> {
     let query = "12340100000100000000000003575757076578616D706C6503636F6D0000010001";
-    let reply = "12348500000100010000000003575757076578616d706c6503636f6d000001000103777777076578616d706c6503636f6d000001000100000e1000045db8d70e\n";
+    let reply =
+        "12348500000100010000000003575757076578616d706c6503636f6d000001000103777777076578616d706c6503636f6d000001000100000e1000045db8d70e\n";
     prints(&rt, &["udp"], query, (0, reply))
 }
 
 #[test]
 fn other_names_are_refused(rt: HostRuntime) -> Result<(), Fail> {
     // The question's name is a pointer into the header, where a label of eight bytes stands.
-    let query = "080000000001000000000000c000000000000000000000000000000000000000000000000000000000000000000000000000";
+    let query =
+        "080000000001000000000000c000000000000000000000000000000000000000000000000000000000000000000000000000";
     let reply = "080080050001000000000000c00000000000\n";
     prints(&rt, &["udp"], query, (0, reply))
 }

@@ -80,10 +80,5 @@ pub fn zone(alloc: Global) -> Result<InMemoryZoneHandler, NameError> {
     } else {
         BTreeMap::new(alloc)
     };
-    Ok(InMemoryZoneHandler::new(
-        origin,
-        sets,
-        ZoneType::Primary,
-        AxfrPolicy::AllowAll,
-    ))
+    Ok(InMemoryZoneHandler::new(origin, sets, ZoneType::Primary, AxfrPolicy::AllowAll))
 }
