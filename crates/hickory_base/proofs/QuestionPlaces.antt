@@ -1,10 +1,10 @@
 -- Reading questions never goes back.
-use Rattle.std.proofs.Common.{◌≡◌, ℕ, zero, suc, ◌<◌, ◌≤◌, List, [], ◌∷◌, ◌++◌, length, ltb, Ok, ap, take, drop, arith}
+use Rattle.std.proofs.Common.{◌≡◌, ℕ, zero, suc, ◌≤◌, List, [], ◌∷◌, ◌++◌, length, ltb, Ok, ap, take, arith}
 use Rattle.std.specs.Int.{Width, w16, byte_len, from_be_bytes}
 use Rattle.hickory_wire.specs.Cursor.{Cursor}
 use Rattle.hickory_wire.specs.DomainName.{DomainName}
 use Rattle.hickory_wire.specs.NameReading.{name}
-use Rattle.hickory_wire.specs.Reading.{Read, ◌>>=◌, number, rest_of, moved}
+use Rattle.hickory_wire.specs.Reading.{◌>>=◌, number, rest_of, moved}
 use Rattle.hickory_wire.specs.RecordReading.{question}
 use Rattle.hickory_wire.specs.SectionReading.{items}
 use Rattle.hickory_wire.specs.declared.error.DecodeError.TheVariants.{InsufficientBytes}

@@ -1,5 +1,5 @@
 -- What the iterators of slices of records give.
-use Rattle.std.proofs.Common.{◌≡◌, List, Bor, map, sym, ◌∙◌}
+use Rattle.std.proofs.Common.{◌≡◌, List, sym, ◌∙◌}
 use Rattle.std.specs.Slice.Iter.{iter_steps, iter_rest}
 use Rattle.std.proofs.lemmas.Iterator.{items_from_drains, YieldsList-from_slice}
 use Rattle.hickory_wire.specs.Endings.{GivesRecords}

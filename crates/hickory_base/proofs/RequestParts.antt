@@ -1,10 +1,9 @@
 -- The question section of a request stands behind its header.
-use Rattle.std.proofs.Common.{◌≡◌, ℕ, List, [], length, Ok, sym, ap, subst, ◌∙◌, slice_range}
+use Rattle.std.proofs.Common.{◌≡◌, ℕ, List, [], Ok, sym, ap, subst, ◌∙◌, slice_range}
 use Rattle.hickory_wire.specs.Bytes.{AreBytes}
 use Rattle.hickory_wire.specs.Cursor.{Cursor}
 use Rattle.hickory_wire.specs.MessageLayout.{ItemsAt, QuestionRead}
 use Rattle.hickory_wire.specs.MessageReading.{front_of}
-use Rattle.hickory_wire.specs.Reading.{Read, ◌>>=◌}
 use Rattle.hickory_wire.specs.RecordReading.{question}
 use Rattle.hickory_wire.specs.SectionReading.{items}
 use Rattle.hickory_wire.specs.declared.query.Query.{Query}

@@ -12,7 +12,6 @@ use Rattle.hickory_wire.specs.declared.header.Header.{Header}
 use Rattle.hickory_wire.specs.declared.header.Metadata.{Metadata}
 use Rattle.hickory_wire.specs.declared.rdata.RData.{RData}
 use Rattle.hickory_wire.specs.declared.record.Record.{Record}
-use Rattle.hickory_wire.specs.declared.tsig.TSIG.{TSIG}
 use Rattle.hickory_base.specs.Questions.{QuestionSection}
 use Rattle.hickory_base.specs.declared.message_response.MessageResponse.{MessageResponse}
 use Rattle.hickory_base.specs.declared.message_response.MessageResponseBuilder.{MessageResponseBuilder}

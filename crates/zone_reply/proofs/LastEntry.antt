@@ -1,9 +1,9 @@
 -- What the last entry of a sink shows that had none.
-use Rattle.std.proofs.Common.{◌≡◌, ◌⊎◌, inl, inr, ℕ, List, [], ◌∷◌, ◌++◌, ◌∙◌, sym, ap, subst}
+use Rattle.std.proofs.Common.{◌≡◌, ◌⊎◌, inl, inr, ℕ, List, [], ◌∷◌, ◌++◌, ◌∙◌, sym, subst}
 use Rattle.hickory_wire.specs.Reply.{Reply}
 use Rattle.hickory_wire.specs.declared.header.Header.{Header}
 use Rattle.hickory_wire.specs.declared.header.Metadata.{Metadata}
-use Rattle.hickory_catalog.specs.Sending.{AddsReply, IsFailed, IsSent, IsTaken}
+use Rattle.hickory_catalog.specs.Sending.{AddsReply, IsFailed, IsTaken}
 
 -- one entry is the last
 one_last : {Entry : Type 0} (others : List Entry) {entry last : Entry} → entry ∷ [] ≡ others ++ last ∷ [] → entry ≡ last
