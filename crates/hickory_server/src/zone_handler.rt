@@ -3,6 +3,7 @@
 pub use hickory_base::errors::{CatalogError, DnsError, LookupError, UpdateFault};
 pub use hickory_base::message_request::{MessageRequest, Queries};
 pub use hickory_base::message_response::{MessageResponse, MessageResponseBuilder};
+pub use hickory_base::update_request::UpdateRequest;
 pub use hickory_base::zone_store::{
     AuthLookup, AxfrPolicy, Lookup, LookupControlFlow, LookupOptions, Nsec3QueryInfo, NxProofKind,
     ZoneHandler, ZoneTransfer, ZoneType,

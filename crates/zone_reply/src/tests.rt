@@ -1,11 +1,11 @@
 //! The command on whole inputs. What it is to print was put together by hand from RFC 1035 section 4.
 
 use crate::catalog;
-use crate::command::{Refusal, print};
+use crate::command::Refusal;
 use crate::run::run;
 use crate::zone::zone;
 use hickory_server::zone_handler::ZoneHandler;
-use std::alloc::{AllocError, Global};
+use std::alloc::Global;
 use std::io::{self, Read, Write};
 use std::process::Abort;
 use std::test::Fail;
@@ -113,4 +113,67 @@ fn one_argument_names_the_transport(rt: HostRuntime) -> Result<(), Fail> {
     prints(&rt, &["UDP"], QUERY, usage)?;
     prints(&rt, &[""], QUERY, usage)?;
     prints(&rt, &["udp", "tcp"], QUERY, usage)
+}
+
+/// A reader that gives one digit and then fails.
+#[derive(Drop)]
+struct FaultyReader {
+    has_digit: bool,
+}
+
+impl Read for FaultyReader {
+    fn read(&mut self, buf: &mut [u8]) -> io::Result<usize> {
+        match buf {
+            [first, ..] if self.has_digit => {
+                *first = b'0';
+                self.has_digit = false;
+                Ok(1)
+            }
+            _ => Err(io::Error::from(io::ErrorKind::BrokenPipe)),
+        }
+    }
+}
+
+/// A writer that fails.
+#[derive(Drop)]
+struct FaultyWriter;
+
+impl Write for FaultyWriter {
+    fn write(&mut self, _buf: &[u8]) -> io::Result<usize> {
+        Err(io::Error::from(io::ErrorKind::BrokenPipe))
+    }
+
+    fn flush(&mut self) -> io::Result<()> {
+        Ok(())
+    }
+}
+
+/// The status for `udp` and this reader and writer.
+fn status<R: Read, W: Write>(alloc: Global, reader: &mut R, writer: &mut W) -> Result<u8, Refusal> {
+    let mut words = Vec::new(alloc);
+    words.push(String::from_str(alloc, "udp")?)?;
+    let mut catalog = catalog(alloc, zone(alloc)?)?;
+    Ok(run(alloc, &mut catalog, words.as_slice(), reader, writer))
+}
+
+#[test]
+fn a_read_fault_is_no_hex(rt: HostRuntime) -> Result<(), Fail> {
+    let mut printed = Vec::new(rt.alloc());
+    let status = status(
+        rt.alloc(),
+        &mut FaultyReader { has_digit: true },
+        &mut printed,
+    )?;
+    assert_eq!(rt; status, 2);
+    assert_eq!(rt; printed.as_slice(), b"not hex\n".as_slice());
+    Ok(())
+}
+
+#[test]
+fn a_fault_of_printing_is_told_by_the_status(rt: HostRuntime) -> Result<(), Fail> {
+    let mut query = QUERY.as_bytes();
+    assert_eq!(rt; status(rt.alloc(), &mut query, &mut FaultyWriter)?, 4);
+    let mut nothing = b"".as_slice();
+    assert_eq!(rt; status(rt.alloc(), &mut nothing, &mut FaultyWriter)?, 4);
+    Ok(())
 }
