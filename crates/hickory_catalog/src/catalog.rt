@@ -7,7 +7,7 @@ ghost use Rattle.hickory_base.specs.Responses.{header_of};
 ghost use Rattle.hickory_catalog.specs.Find.{Finds};
 ghost use Rattle.hickory_catalog.specs.Queries.{QueryReply, RequestReply};
 ghost use Rattle.hickory_catalog.specs.Sending.{IsSent};
-ghost use Rattle.hickory_catalog.specs.Zones.{ChangesAt, HasZone};
+ghost use Rattle.hickory_catalog.specs.Zones.{AreInOrder, ChangesAt, HasZone};
 
 use crate::queries::{answer_query, is_implemented_request, send_unimplemented};
 use crate::signer::ReplySigner;
@@ -77,7 +77,8 @@ impl<S: ReplySigner, H: ZoneHandler> Catalog<S, H> {
     /// The chain of handlers of the zone that answers for a name: for a fully qualified name the fully qualified zone
     /// nearest above it or at it (RFC 1034 section 4.3.2, step 2), and for another name the zone of that very name.
     pub fn find(&self, alloc: Global, name: &LowerName) -> Result<Option<&Vec<H>>, AllocError>
-        ensures { IfOk result (λ found. Finds self.now.zones name.now (option_map (λ chain. chain.now.items) found)) }
+        ensures found { IfOk result (λ found. Finds self.now.zones name.now (option_map (λ chain. chain.now.items) found)) }
+        ensures ordered { AreInOrder self.now.zones }
     {
         self.zones.find(alloc, name)
     }

@@ -2,6 +2,8 @@
 use Rattle.std.specs.Prelude.{◌≡◌, ◌++◌, ◌∷◌, [], ℕ, List, Option, Some, None, IfSome, IsSome, Result, Ok, Err}
 use Rattle.std.specs.Global.{Vec}
 use Rattle.std.specs.Io.BufRead.{first_piece}
+use Rattle.std.specs.declared.net.SocketAddr.{SocketAddr}
+use Rattle.std.specs.declared.net.SocketAddr.TheVariants.{V4}
 use Rattle.hex.specs.Hex.{decode_of, encode_lower}
 use Rattle.hickory_wire.specs.DomainName.{DomainName}
 use Rattle.hickory_wire.specs.MessageReading.{Reads}
@@ -17,11 +19,16 @@ use Rattle.zone_reply.specs.Command.{transport_of, refusal_line, refusal_status}
 use Rattle.zone_reply.specs.declared.command.Refusal.{Refusal}
 use Rattle.zone_reply.specs.declared.command.Refusal.TheVariants.{Usage, NotHex, Unreadable, Memory}
 
--- The request is what these bytes are read as, over this transport (RFC 1035 section 4.1).
+-- the source of each request: 127.0.0.1, port 53
+abbrev pub local_source : SocketAddr
+local_source = V4 (record { ip = record { octets = 127 ∷ 0 ∷ 0 ∷ 1 ∷ [] }; port = 53 })
+
+-- The request is what these bytes are read as, from that source and over this transport (RFC 1035 section 4.1).
 pub record IsRequestOf (bytes : List ℕ) (protocol : Protocol) (request : ReceivedRequest) : Type 0 where
   pub reads : Reads bytes (message_of request.message)
   pub questions : IsQuestionSection bytes request.message.queries
   pub raw : request.bytes ≡ bytes
+  pub source_is : request.source ≡ local_source
   pub protocol_is : request.protocol ≡ protocol
 
 -- The bytes are an encoding, at the transport's limit, of the reply that the zones give to the request.
