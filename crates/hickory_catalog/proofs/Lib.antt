@@ -1,4 +1,5 @@
 pub mod Asking
+pub mod Belonging
 pub mod Lookups
 pub mod Nearest
 pub mod OneAnswer

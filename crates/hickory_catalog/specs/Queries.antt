@@ -5,8 +5,6 @@ use Rattle.hickory_wire.specs.DomainName.{DomainName}
 use Rattle.hickory_wire.specs.EdnsFields.{EdnsFields}
 use Rattle.hickory_wire.specs.NameOrder.{lower_name}
 use Rattle.hickory_wire.specs.Reply.{Reply}
-use Rattle.hickory_wire.specs.declared.header.MessageType.{MessageType}
-use Rattle.hickory_wire.specs.declared.header.MessageType.TheVariants as message_type
 use Rattle.hickory_wire.specs.declared.query.Query.{Query}
 use Rattle.hickory_wire.specs.declared.tsig.TSigResponseContext.{TSigResponseContext}
 use Rattle.hickory_base.specs.Lookups.{Flow, asks_for_dnssec}
@@ -24,14 +22,8 @@ use Rattle.hickory_base.specs.declared.zone_store.lookup.LookupOptions.{LookupOp
 use Rattle.hickory_catalog.specs.Find.{Finds}
 use Rattle.hickory_catalog.specs.declared.findings.Finding.{Finding}
 use Rattle.hickory_catalog.specs.declared.findings.Finding.TheVariants.{Found, NoMemory, Unimplemented}
-use Rattle.hickory_catalog.specs.Replies.{authoritative_reply, refused_reply, unimplemented_reply}
+use Rattle.hickory_catalog.specs.Replies.{authoritative_reply, error_reply, unimplemented_reply}
 use Rattle.hickory_catalog.specs.Transcripts.{Asked}
-
--- An OPT record holds the high eight bits of its message's response code (RFC 6891 section 6.1.3). The codes of the replies that are
--- made are below 16, so only an EDNS with none of these bits is implemented.
-abbrev pub is_implemented_edns : Option EdnsFields → Bool
-is_implemented_edns None = true
-is_implemented_edns (Some edns) = edns.rcode_high == 0
 
 -- a type but SOA, which is 6 (RFC 1035 section 3.2.2), and AXFR, which is 252 (section 3.2.3)
 abbrev pub is_implemented_type : ℕ → Bool
@@ -98,33 +90,14 @@ pub data ZoneReply {H : Type 0} (handler : Ghosts H) (chain : List H) (request :
 
 -- The reply to a query, with this EDNS.
 pub data QueryReply {H : Type 0} (handler : Ghosts H) (zones : List (DomainName × List H)) (request : ReceivedRequest) (edns : Option EdnsFields) (reply : Reply) : Type 0 where
-  -- There is not just one question.
+  -- There is not just one question: FormErr, which is 1.
   other_count : single_question request.message.queries.queries ≡ None
-      → reply ≡ unimplemented_reply request.message → QueryReply handler zones request edns reply
-  other_edns : is_implemented_edns edns ≡ false
-      → reply ≡ unimplemented_reply request.message → QueryReply handler zones request edns reply
-  -- No zone answers for the name.
-  no_zone : {query : Query} → single_question request.message.queries.queries ≡ Some query → is_implemented_edns edns ≡ true
+      → reply ≡ error_reply request.message edns 1 → QueryReply handler zones request edns reply
+  -- No zone answers for the name: Refused, which is 5.
+  no_zone : {query : Query} → single_question request.message.queries.queries ≡ Some query
       → Finds zones (lower_name query.name) None
-      → reply ≡ refused_reply request.message edns → QueryReply handler zones request edns reply
+      → reply ≡ error_reply request.message edns 5 → QueryReply handler zones request edns reply
   -- The zone of this chain answers for the name.
-  zone : {query : Query} {chain : List H} → single_question request.message.queries.queries ≡ Some query → is_implemented_edns edns ≡ true
+  zone : {query : Query} {chain : List H} → single_question request.message.queries.queries ≡ Some query
       → Finds zones (lower_name query.name) (Some chain)
       → ZoneReply handler chain request edns query.query_type reply → QueryReply handler zones request edns reply
-
-abbrev pub is_query : MessageType → Bool
-is_query message_type.Query = true
-is_query message_type.Response = false
-
-abbrev pub has_edns : Option EdnsFields → Bool
-has_edns None = false
-has_edns (Some edns) = true
-
--- A request is implemented that asks (RFC 1035 section 4.1.1: QR clear, opcode Query, which is 0), and has no OPT record.
-abbrev pub is_implemented_request : MessageRequest → Bool
-is_implemented_request request = is_query request.metadata.message_type && (request.metadata.op_code == 0) && not (has_edns request.edns)
-
--- The reply to a request: a query gets its reply without EDNS, as it has none itself (RFC 6891 section 6.1.1).
-pub data RequestReply {H : Type 0} (handler : Ghosts H) (zones : List (DomainName × List H)) (request : ReceivedRequest) (reply : Reply) : Type 0 where
-  asks : is_implemented_request request.message ≡ true → QueryReply handler zones request None reply → RequestReply handler zones request reply
-  other : is_implemented_request request.message ≡ false → reply ≡ unimplemented_reply request.message → RequestReply handler zones request reply

@@ -11,14 +11,16 @@ use Rattle.hickory_base.specs.Lookups.{answers_of, additionals_of}
 use Rattle.hickory_base.specs.Responses.{error_metadata}
 use Rattle.hickory_base.specs.declared.message_request.MessageRequest.{MessageRequest}
 use Rattle.hickory_base.specs.declared.zone_store.lookup.AuthLookup.{AuthLookup}
+use Rattle.hickory_catalog.specs.ReplyEdns.{with_high_code}
 
--- The reply to a request that repeats its questions, with this EDNS, and has neither records nor a signature (RFC 1035 section 4.1).
+-- The reply to a request that repeats its questions, with this EDNS and the high bits of its response code, and has neither records nor a
+-- signature (RFC 1035 section 4.1).
 abbrev pub bare_reply : MessageRequest → Option EdnsFields → Metadata → Reply
 bare_reply request edns metadata = record {
   metadata = metadata;
   question = request.queries.bytes;
   question_count = length request.queries.queries;
-  edns = edns;
+  edns = with_high_code metadata.response_code edns;
   answers = [];
   authorities = [];
   soa = [];
@@ -29,10 +31,6 @@ bare_reply request edns metadata = record {
 -- an error reply: a response code and no records
 abbrev pub error_reply : MessageRequest → Option EdnsFields → ℕ → Reply
 error_reply request edns code = bare_reply request edns (error_metadata request.metadata code)
-
--- no zone answers for the name: Refused, which is 5
-abbrev pub refused_reply : MessageRequest → Option EdnsFields → Reply
-refused_reply request edns = error_reply request edns 5
 
 -- what is answered where a case is not implemented: ServFail, which is 2, without EDNS
 abbrev pub unimplemented_reply : MessageRequest → Reply

@@ -5,11 +5,15 @@ ghost use Rattle.std.specs.Option.{option_copied};
 ghost use Rattle.hickory_wire.specs.Reply.{Reply};
 ghost use Rattle.hickory_base.specs.Responses.{header_of};
 ghost use Rattle.hickory_catalog.specs.Find.{Finds};
-ghost use Rattle.hickory_catalog.specs.Queries.{QueryReply, RequestReply};
+ghost use Rattle.hickory_catalog.specs.Queries.{QueryReply};
+ghost use Rattle.hickory_catalog.specs.Requests.{BelongsTo, RequestReply};
 ghost use Rattle.hickory_catalog.specs.Sending.{IsSent};
 ghost use Rattle.hickory_catalog.specs.Zones.{AreInOrder, ChangesAt, HasZone};
 
-use crate::queries::{answer_query, is_implemented_request, send_unimplemented};
+use crate::edns::{cloned, reply_edns};
+use crate::queries::answer_query;
+use crate::requests::request_fault;
+use crate::sending::send_error;
 use crate::signer::ReplySigner;
 use crate::zones::Zones;
 use hickory_base::errors::CatalogError;
@@ -98,12 +102,13 @@ impl<S: ReplySigner, H: ZoneHandler> Catalog<S, H> {
     }
 
     /// Answers a query by the handlers of its zone, and hands the sink one reply, with this EDNS. `now` is in seconds
-    /// since 1970. QR, opcode and EDNS version of the request are not looked at.
+    /// since 1970. QR, opcode and EDNS version of the request are not looked at. The reply's OPT record has the high bits of
+    /// its response code (RFC 6891 section 6.1.3).
     ///
-    /// Where no zone answers for the name the reply is Refused. For a type but SOA and AXFR a chain of one primary or
+    /// Where there is not just one question the reply is FormErr, where no zone answers for the name Refused. For a type but SOA and AXFR a chain of one primary or
     /// secondary handler that proves no denial is asked; what it finds, without a context for the signer, is told with
     /// AA, a referral in the authority section (RFC 1034 section 4.3.2, step 3b). Every other case is not implemented
-    /// yet, and is answered ServFail without EDNS; so is an EDNS with high bits of a response code.
+    /// yet, and is answered ServFail without EDNS.
     ///
     /// Where the sink fails the answer tells of ServFail. `Memory` says that no reply was handed over.
     pub fn lookup<R: ResponseHandler>(
@@ -120,30 +125,40 @@ impl<S: ReplySigner, H: ZoneHandler> Catalog<S, H> {
         ensures refused { IfErr result (λ e. (e ≡ CatalogError.Memory) ×
             (R.settings sink.new ≡ R.settings sink.old) × (R.entries sink.new ≡ R.entries sink.old) × (R.failures sink.new ≡ R.failures sink.old)) }
     {
+        let edns = cloned(edns)?;
         answer_query(&self.zones, alloc, request, edns, sink)
     }
 }
 
 impl<S: ReplySigner, H: ZoneHandler> RequestHandler for Catalog<S, H> {
-    /// Hands the sink one reply: that of `lookup`, without EDNS, to a query without EDNS. Any other request is not
-    /// implemented yet, and is answered ServFail.
+    /// Hands the sink one reply. Where the request has an OPT record, so has the reply: version 0, DO as asked, the payload
+    /// that was asked for but at least 512 bytes, and the server's identifier where it is set and the request asks for it
+    /// (RFC 6891 section 6, RFC 5001).
+    ///
+    /// An EDNS version but 0 is answered BADVERS, a message with QR set FormErr, an opcode but Query NotImp; what is wrong
+    /// first decides. Any other request is answered as `lookup` does with that EDNS.
+    ///
+    /// The reply has the request's id, and an OPT record just where the request has one, but for the cases of `lookup` that
+    /// are not implemented.
     fn handle_request<R: ResponseHandler>(
         &mut self,
         alloc: Global,
         request: &Request,
-        now: u64,
+        _now: u64,
         sink: &mut R,
     ) -> Result<ResponseInfo, CatalogError>
         ensures replied { IfOk result (λ info. (reply : Reply) ×
-            RequestReply H.ZoneHandler self.old.zones request.now reply ×
+            RequestReply H.ZoneHandler self.old.zones self.old.nsid request.now reply × BelongsTo request.now reply ×
             IsSent R.shows R.informs request.now.message.metadata (R.settings sink.old) (R.settings sink.new) (R.entries sink.old) (R.entries sink.new) (R.failures sink.old) (R.failures sink.new) reply (header_of info)) }
         ensures refused { IfErr result (λ e. (e ≡ CatalogError.Memory) ×
             (R.settings sink.new ≡ R.settings sink.old) × (R.entries sink.new ≡ R.entries sink.old) × (R.failures sink.new ≡ R.failures sink.old)) }
         ensures unchanged { self.new ≡ self.old }
     {
-        if is_implemented_request(request.message()) {
-            return self.lookup(alloc, request, None, now, sink);
+        let message = request.message();
+        let edns = reply_edns(alloc, self.nsid(), message.edns.as_ref())?;
+        match request_fault(message) {
+            Some(code) => Ok(send_error(sink, alloc, message, edns, code)),
+            None => answer_query(&self.zones, alloc, request, edns, sink),
         }
-        Ok(send_unimplemented(sink, alloc, request.message()))
     }
 }

@@ -2,8 +2,10 @@
 #![tactic(auto)]
 
 pub mod catalog;
+mod edns;
 mod findings;
 mod queries;
+mod requests;
 mod sending;
 pub mod signer;
 #[cfg(test)]

@@ -1,10 +1,10 @@
 //! From a query to its one reply.
 
-ghost use Rattle.std.specs.Prelude.{◌≡◌, not, IfOk, IfErr};
+ghost use Rattle.std.specs.Prelude.{◌≡◌, IfOk, IfErr};
 ghost use Rattle.std.specs.Option.{option_copied};
 ghost use Rattle.hickory_wire.specs.Reply.{Reply};
 ghost use Rattle.hickory_base.specs.Responses.{header_of};
-ghost use Rattle.hickory_catalog.specs.Queries.{QueryReply, ZoneReply, is_implemented_edns, is_implemented_request, single_question};
+ghost use Rattle.hickory_catalog.specs.Queries.{QueryReply, ZoneReply, single_question};
 ghost use Rattle.hickory_catalog.specs.Replies.{unimplemented_reply};
 ghost use Rattle.hickory_catalog.specs.Sending.{IsSent};
 
@@ -15,32 +15,11 @@ use hickory_base::errors::CatalogError;
 use hickory_base::message_request::MessageRequest;
 use hickory_base::server::{Request, ResponseHandler, ResponseInfo};
 use hickory_base::zone_store::ZoneHandler;
-use hickory_wire::{Edns, LowerQuery, MessageType, OpCode, RecordType, ResponseCode};
+use hickory_wire::{Edns, LowerQuery, RecordType, ResponseCode};
 use std::alloc::Global;
 
-/// Whether a reply can carry this EDNS: it has no high bits of a response code.
-fn is_implemented_edns(edns: Option<&Edns>) -> bool
-    ensures { result ≡ is_implemented_edns (option_copied edns.entry) }
-{
-    match edns {
-        None => true,
-        Some(edns) => edns.rcode_high() == 0,
-    }
-}
-
-/// Whether a request is a query without an OPT record.
-pub(crate) fn is_implemented_request(request: &MessageRequest) -> bool
-    ensures { result ≡ is_implemented_request request.now }
-{
-    let is_query = match request.metadata.message_type {
-        MessageType::Query => true,
-        MessageType::Response => false,
-    };
-    is_query && request.metadata.op_code.value() == OpCode::QUERY.value() && request.edns.is_none()
-}
-
 /// Hands over what is answered where a case is not implemented: ServFail, without EDNS.
-pub(crate) fn send_unimplemented<R: ResponseHandler>(
+fn send_unimplemented<R: ResponseHandler>(
     sink: &mut R,
     alloc: Global,
     request: &MessageRequest,
@@ -65,12 +44,12 @@ fn answer_zone<H: ZoneHandler, R: ResponseHandler>(
     chain: &[H],
     alloc: Global,
     request: &Request,
-    edns: Option<&Edns>,
+    edns: Option<Edns>,
     query_type: RecordType,
     sink: &mut R,
 ) -> Result<ResponseInfo, CatalogError>
     ensures replied { IfOk result (λ info. (reply : Reply) ×
-        ZoneReply H.ZoneHandler chain.now request.now (option_copied edns.entry) query_type reply ×
+        ZoneReply H.ZoneHandler chain.now request.now edns query_type reply ×
         IsSent R.shows R.informs request.now.message.metadata (R.settings sink.old) (R.settings sink.new) (R.entries sink.old) (R.entries sink.new) (R.failures sink.old) (R.failures sink.new) reply (header_of info)) }
     ensures refused { IfErr result (λ e. (e ≡ CatalogError.Memory) ×
         (R.settings sink.new ≡ R.settings sink.old) × (R.entries sink.new ≡ R.entries sink.old) × (R.failures sink.new ≡ R.failures sink.old)) }
@@ -95,22 +74,19 @@ pub(crate) fn answer_query<H: ZoneHandler, R: ResponseHandler>(
     zones: &Zones<H>,
     alloc: Global,
     request: &Request,
-    edns: Option<&Edns>,
+    edns: Option<Edns>,
     sink: &mut R,
 ) -> Result<ResponseInfo, CatalogError>
     ensures replied { IfOk result (λ info. (reply : Reply) ×
-        QueryReply H.ZoneHandler zones.now request.now (option_copied edns.entry) reply ×
+        QueryReply H.ZoneHandler zones.now request.now edns reply ×
         IsSent R.shows R.informs request.now.message.metadata (R.settings sink.old) (R.settings sink.new) (R.entries sink.old) (R.entries sink.new) (R.failures sink.old) (R.failures sink.new) reply (header_of info)) }
     ensures refused { IfErr result (λ e. (e ≡ CatalogError.Memory) ×
         (R.settings sink.new ≡ R.settings sink.old) × (R.entries sink.new ≡ R.entries sink.old) × (R.failures sink.new ≡ R.failures sink.old)) }
 {
     let message = request.message();
     let Some(query) = single_question(message) else {
-        return Ok(send_unimplemented(sink, alloc, message));
+        return Ok(send_error(sink, alloc, message, edns, ResponseCode::FORM_ERR));
     };
-    if !is_implemented_edns(edns) {
-        return Ok(send_unimplemented(sink, alloc, message));
-    }
     match zones.find(alloc, query.name())? {
         None => Ok(send_error(sink, alloc, message, edns, ResponseCode::REFUSED)),
         Some(chain) => {

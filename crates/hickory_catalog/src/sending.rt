@@ -2,7 +2,6 @@
 
 ghost use Rattle.std.specs.Prelude.{◌≡◌};
 ghost use Rattle.std.specs.Iterator.{IsFinite};
-ghost use Rattle.std.specs.Option.{option_copied};
 ghost use Rattle.std.specs.Slice.Iter.{iter_rest};
 ghost use Rattle.hickory_wire.specs.Reply.{Reply};
 ghost use Rattle.hickory_base.specs.Lookups.{answers_of};
@@ -10,6 +9,7 @@ ghost use Rattle.hickory_base.specs.Responses.{GivesBy, IsReplyOf, header_of};
 ghost use Rattle.hickory_catalog.specs.Replies.{additional_section, answer_section, authoritative_metadata, authoritative_reply, authority_section, error_reply, is_referral, unimplemented_reply};
 ghost use Rattle.hickory_catalog.specs.Sending.{IsSent, failure_header};
 
+use crate::edns::with_high_code;
 use hickory_base::message_request::MessageRequest;
 use hickory_base::message_response::{MessageResponse, MessageResponseBuilder};
 use hickory_base::server::{RecordRef, ResponseHandler, ResponseInfo};
@@ -74,12 +74,13 @@ pub(crate) fn send_error<R: ResponseHandler>(
     sink: &mut R,
     alloc: Global,
     request: &MessageRequest,
-    edns: Option<&Edns>,
+    edns: Option<Edns>,
     code: ResponseCode,
 ) -> ResponseInfo
-    ensures { IsSent R.shows R.informs request.now.metadata (R.settings sink.old) (R.settings sink.new) (R.entries sink.old) (R.entries sink.new) (R.failures sink.old) (R.failures sink.new) (error_reply request.now (option_copied edns.entry) code) (header_of result) }
+    ensures { IsSent R.shows R.informs request.now.metadata (R.settings sink.old) (R.settings sink.new) (R.entries sink.old) (R.entries sink.new) (R.failures sink.old) (R.failures sink.new) (error_reply request.now edns code) (header_of result) }
 {
-    let builder = MessageResponseBuilder::new(&request.queries, edns);
+    let edns = with_high_code(code, edns);
+    let builder = MessageResponseBuilder::new(&request.queries, edns.as_ref());
     let error = builder.error_msg(&request.metadata, code);
     send(sink, alloc, &request.metadata, error)
 }
@@ -126,16 +127,17 @@ pub(crate) fn send_answer<R: ResponseHandler>(
     sink: &mut R,
     alloc: Global,
     request: &MessageRequest,
-    edns: Option<&Edns>,
+    edns: Option<Edns>,
     query_type: RecordType,
     found: &AuthLookup,
 ) -> ResponseInfo
-    ensures { IsSent R.shows R.informs request.now.metadata (R.settings sink.old) (R.settings sink.new) (R.entries sink.old) (R.entries sink.new) (R.failures sink.old) (R.failures sink.new) (authoritative_reply request.now (option_copied edns.entry) query_type found.now) (header_of result) }
+    ensures { IsSent R.shows R.informs request.now.metadata (R.settings sink.old) (R.settings sink.new) (R.entries sink.old) (R.entries sink.new) (R.failures sink.old) (R.failures sink.new) (authoritative_reply request.now edns query_type found.now) (header_of result) }
 {
     let mut metadata = Metadata::response_from_request(&request.metadata);
     metadata.authoritative = true;
     let (answers, authorities) = sections(query_type, found);
-    let builder = MessageResponseBuilder::new(&request.queries, edns);
+    let edns = with_high_code(metadata.response_code, edns);
+    let builder = MessageResponseBuilder::new(&request.queries, edns.as_ref());
     let response = builder.build(
         metadata,
         answers,

@@ -1,5 +1,5 @@
 //! One DNS message in, one reply out: `zone_reply udp|tcp` reads a message as a line of hex digits, and prints the reply as
-//! one. It serves the zone example.com.
+//! one. It serves the zone example.com., as the server `ns1`.
 #![tactic(auto)]
 
 mod command;
@@ -15,6 +15,7 @@ use crate::command::{Refusal, print};
 use crate::run::run;
 use crate::signer::NoSigner;
 use crate::zone::{origin, zone};
+use hickory_server::proto::NSIDPayload;
 use hickory_server::zone_handler::{Catalog, ZoneHandler};
 use std::alloc::Global;
 use std::process::ExitCode;
@@ -32,12 +33,13 @@ fn arguments<R: Env + Alloc<A = Global>>(rt: &R) -> Result<Vec<String>, Refusal>
     }
 }
 
-/// The catalog with one zone, which this handler answers for.
+/// The catalog with one zone, which this handler answers for, of the server `ns1`.
 fn catalog<H: ZoneHandler>(alloc: Global, handler: H) -> Result<Catalog<NoSigner, H>, Refusal> {
     let origin = origin(alloc)?;
     let mut chain = Vec::new(alloc);
     chain.push(handler)?;
     let mut catalog = Catalog::new(alloc, NoSigner);
+    catalog.set_nsid(NSIDPayload::new(b"ns1".to_vec(alloc)?).ok());
     match catalog.upsert(origin, chain) {
         Ok(_) => Ok(catalog),
         Err(_) => Err(Refusal::Memory),

@@ -46,7 +46,7 @@ fn reply<S: ReplySigner, H: ZoneHandler>(
     request: &Request,
 ) -> Result<Octets, Refusal>
     ensures kept { catalog.new ≡ catalog.old }
-    ensures ok { IfOk result (λ bytes. IsReplyToRequest H.ZoneHandler catalog.old.zones protocol request.now bytes) }
+    ensures ok { IfOk result (λ bytes. IsReplyToRequest H.ZoneHandler catalog.old.zones catalog.old.nsid protocol request.now bytes) }
     ensures err { IfErr result (λ e. e ≡ Memory) }
 {
     let mut sink = EncodedReplies::new(alloc, protocol);
@@ -66,7 +66,7 @@ fn reply_line<S: ReplySigner, H: ZoneHandler>(
     message: Vec<u8>,
 ) -> Result<Vec<u8>, Refusal>
     ensures kept { catalog.new ≡ catalog.old }
-    ensures ok { IfOk result (λ line. (bytes : List ℕ) × IsReplyTo H.ZoneHandler catalog.old.zones protocol message.items bytes × (line.items ≡ hex_line bytes)) }
+    ensures ok { IfOk result (λ line. (bytes : List ℕ) × IsReplyTo H.ZoneHandler catalog.old.zones catalog.old.nsid protocol message.items bytes × (line.items ≡ hex_line bytes)) }
     ensures err { IfErr result (λ e. IsRefusedMessage message.items e) }
 {
     let request = request(alloc, protocol, message)?;
@@ -82,7 +82,7 @@ fn answer<S: ReplySigner, H: ZoneHandler, R: Read>(
     reader: &mut R,
 ) -> Result<Vec<u8>, Refusal>
     ensures kept { catalog.new ≡ catalog.old }
-    ensures answer { IsAnswer H.ZoneHandler catalog.old.zones (map string_bytes arguments.now) (R.remaining reader.old) (line_items result) }
+    ensures answer { IsAnswer H.ZoneHandler catalog.old.zones catalog.old.nsid (map string_bytes arguments.now) (R.remaining reader.old) (line_items result) }
 {
     let Some(protocol) = transport(arguments) else {
         return Err(Refusal::Usage);
@@ -105,7 +105,7 @@ pub fn run<S: ReplySigner, H: ZoneHandler, R: Read, W: Write>(
 ) -> u8
     ensures kept { catalog.new ≡ catalog.old }
     ensures prints { (answer : Result (List ℕ) Refusal) ×
-        IsAnswer H.ZoneHandler catalog.old.zones (map string_bytes arguments.now) (R.remaining reader.old) answer ×
+        IsAnswer H.ZoneHandler catalog.old.zones catalog.old.nsid (map string_bytes arguments.now) (R.remaining reader.old) answer ×
         IsPrinted (W.contents writer.old) (W.contents writer.new) (answer_line answer) (answer_status answer) result }
 {
     match answer(alloc, catalog, arguments, reader) {

@@ -86,6 +86,55 @@ fn other_names_are_refused(rt: HostRuntime) -> Result<(), Fail> {
 }
 
 #[test]
+fn edns_is_answered(rt: HostRuntime) -> Result<(), Fail> {
+    for (query, reply) in [
+        // the root, type A, with the option NSID, DO and a payload of 100 bytes
+        (
+            "0002000000010000000000010000010001000029006400008000000400030000",
+            "00028005000100000000000100000100010000290200000080000007000300036e7331\n",
+        ),
+        // an option that is cut short is none
+        (
+            "00080000000100000000000100000100010000290200000000000003000300",
+            "00088005000100000000000100000100010000290200000000000000\n",
+        ),
+        // version 1
+        (
+            "000100000001000000000001000001000100002904d0000100000000",
+            "000180000001000000000001000001000100002904d0010000000000\n",
+        ),
+        // version 1 and QR
+        (
+            "000180000001000000000001000001000100002904d0000100000000",
+            "000180000001000000000001000001000100002904d0010000000000\n",
+        ),
+    ] {
+        prints(&rt, &["udp"], query, (0, reply))?;
+    }
+    Ok(())
+}
+
+#[test]
+fn what_is_no_query_is_told(rt: HostRuntime) -> Result<(), Fail> {
+    for (message, reply) in [
+        // QR is set
+        ("000380000000000000000000", "000380010000000000000000\n"),
+        // opcode Status
+        ("000410000000000000000000", "000490040000000000000000\n"),
+        // no question
+        ("000d00000000000000000000", "000d80010000000000000000\n"),
+        // opcode Update
+        (
+            "000e28000001000000000000076578616d706c6503636f6d0000060001",
+            "000ea8040001000000000000076578616d706c6503636f6d0000060001\n",
+        ),
+    ] {
+        prints(&rt, &["tcp"], message, (0, reply))?;
+    }
+    Ok(())
+}
+
+#[test]
 fn what_is_no_message_is_unreadable(rt: HostRuntime) -> Result<(), Fail> {
     for input in [
         "",

@@ -1,0 +1,45 @@
+-- Which reply a request gets.
+use Rattle.std.specs.Prelude.{◌≡◌, ◌==◌, ◌⊎◌, ℕ, Bool, true, false, cond, List, Option, Some, None, is_some}
+use Rattle.hickory_wire.specs.DomainName.{DomainName}
+use Rattle.hickory_wire.specs.Reply.{Reply}
+use Rattle.hickory_wire.specs.declared.header.MessageType.{MessageType}
+use Rattle.hickory_wire.specs.declared.header.MessageType.TheVariants as message_type
+use Rattle.hickory_base.specs.Questions.{edns_version}
+use Rattle.hickory_base.specs.Requests.{ReceivedRequest}
+use Rattle.hickory_base.specs.declared.message_request.MessageRequest.{MessageRequest}
+use Rattle.hickory_base.specs.declared.zone_store.handler.ZoneHandler.{Ghosts}
+use Rattle.hickory_catalog.specs.Queries.{QueryReply}
+use Rattle.hickory_catalog.specs.Replies.{error_reply, unimplemented_reply}
+use Rattle.hickory_catalog.specs.ReplyEdns.{reply_edns}
+
+-- QR is clear (RFC 1035 section 4.1.1)
+abbrev pub is_request : MessageType → Bool
+is_request message_type.Query = true
+is_request message_type.Response = false
+
+-- a message with QR set is no request: FormErr, which is 1; opcode Query, which is 0, is served, any other is NotImp, which is 4
+-- (RFC 1035 section 4.1.1)
+abbrev pub header_fault : MessageRequest → Option ℕ
+header_fault request = cond (is_request request.metadata.message_type) (cond (request.metadata.op_code == 0) None (Some 4)) (Some 1)
+
+-- Why a request is not looked into: the response code that says so, of what is wrong first. Only version 0 of EDNS is known: BADVERS,
+-- which is 16 (RFC 6891 section 6.1.3).
+abbrev pub request_fault : MessageRequest → Option ℕ
+request_fault request = cond (edns_version request.edns == 0) (header_fault request) (Some 16)
+
+-- The reply to a request, for zones in which this may identify the server.
+pub data RequestReply {H : Type 0} (handler : Ghosts H) (zones : List (DomainName × List H)) (identifier : Option (List ℕ)) (request : ReceivedRequest) (reply : Reply) : Type 0 where
+  -- It is not looked into.
+  refused : {code : ℕ} → request_fault request.message ≡ Some code
+      → reply ≡ error_reply request.message (reply_edns identifier request.message.edns) code
+      → RequestReply handler zones identifier request reply
+  -- It asks.
+  asks : request_fault request.message ≡ None
+      → QueryReply handler zones request (reply_edns identifier request.message.edns) reply
+      → RequestReply handler zones identifier request reply
+
+-- A reply has the identifier of its request (RFC 1035 section 4.1.1), and an OPT record just where the request has one (RFC 6891 section
+-- 6.1.1); in a case that is not implemented it has none.
+pub record BelongsTo (request : ReceivedRequest) (reply : Reply) : Type 0 where
+  pub id : reply.metadata.id ≡ request.message.metadata.id
+  pub edns : (is_some reply.edns ≡ is_some request.message.edns) ⊎ (reply ≡ unimplemented_reply request.message)

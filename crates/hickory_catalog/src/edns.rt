@@ -1,0 +1,59 @@
+//! What the OPT record of a reply says.
+
+ghost use Rattle.std.specs.Prelude.{◌≡◌, ◌==◌, ◌&&◌, IfOk};
+ghost use Rattle.std.specs.Option.{option_copied};
+ghost use Rattle.hickory_catalog.specs.ReplyEdns.{asks_for_nsid, reply_edns, with_high_code};
+
+use hickory_wire::{Edns, EdnsOption, NSIDPayload, Octets, ResponseCode};
+use std::alloc::{AllocError, Global};
+
+/// Whether a client asks for the server's identifier in version 0.
+fn is_nsid_wanted(asked: &Edns) -> bool
+    ensures { result ≡ (asked.now.version == 0 && asks_for_nsid asked.now) }
+{
+    asked.version() == 0 && asked.option(EdnsOption::NSID).is_some()
+}
+
+/// What the OPT record of a reply says, where the request has one, for what identifies the server.
+pub(crate) fn reply_edns(
+    alloc: Global,
+    nsid: Option<&NSIDPayload>,
+    asked: Option<&Edns>,
+) -> Result<Option<Edns>, AllocError>
+    ensures { IfOk result (λ edns. edns ≡ reply_edns (option_copied nsid.entry) (option_copied asked.entry)) }
+{
+    let Some(asked) = asked else {
+        return Ok(None);
+    };
+    let mut edns = Edns::new(alloc);
+    edns.set_max_payload(asked.max_payload());
+    edns.set_dnssec_ok(asked.dnssec_ok());
+    if let Some(identifier) = nsid
+        && is_nsid_wanted(asked)
+    {
+        edns.push_option(EdnsOption {
+            code: EdnsOption::NSID,
+            bytes: Octets::from_slice(alloc, identifier.as_slice())?,
+        })?;
+    }
+    Ok(Some(edns))
+}
+
+/// A copy of what an OPT record says, where there is one.
+pub(crate) fn cloned(edns: Option<&Edns>) -> Result<Option<Edns>, AllocError>
+    ensures { IfOk result (λ copy. copy ≡ option_copied edns.entry) }
+{
+    match edns {
+        None => Ok(None),
+        Some(edns) => Ok(Some(edns.clone()?)),
+    }
+}
+
+/// What it says with the high eight bits of a response code.
+pub(crate) fn with_high_code(code: ResponseCode, edns: Option<Edns>) -> Option<Edns>
+    ensures { result ≡ with_high_code code edns }
+{
+    let mut edns = edns?;
+    edns.set_rcode_high(code.high());
+    Some(edns)
+}
