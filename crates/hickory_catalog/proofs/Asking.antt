@@ -10,7 +10,7 @@ use Rattle.hickory_base.specs.declared.zone_store.lookup.LookupOptions.{LookupOp
 use Rattle.hickory_catalog.specs.Transcripts.{Asked, IsAnswer, nobody, skipped, answered}
 
 -- the list from a place on begins with its item
-front_at : {H : Type 0} (all : List H) (i : ℕ) (h : H) → i < length all → h ≡ get_or all i h → drop i all ≡ h ∷ drop (i + 1) all
+pub front_at : {H : Type 0} (all : List H) (i : ℕ) (h : H) → i < length all → h ≡ get_or all i h → drop i all ≡ h ∷ drop (i + 1) all
 front_at all i h lt is = rw (add-one, drop-cons all i h lt) (ap (λ x. x ∷ drop (suc i) all) (sym is))
 
 -- what is no `Skip` is an answer

@@ -1,16 +1,21 @@
 -- Each reply belongs to its request.
-use Rattle.std.proofs.Common.{◌≡◌, ◌⊎◌, inl, inr, ℕ, List, Option, Some, None, refl, sym, subst, ◌∙◌}
+use Rattle.std.proofs.Common.{◌≡◌, ◌⊎◌, inl, inr, ℕ, Bool, true, false, cond, List, Option, Some, None, Result, refl, sym, subst, ◌∙◌}
 use Rattle.std.specs.Prelude.{is_some}
 use Rattle.hickory_wire.specs.DomainName.{DomainName}
 use Rattle.hickory_wire.specs.EdnsFields.{EdnsFields}
 use Rattle.hickory_wire.specs.Reply.{Reply}
+use Rattle.hickory_wire.specs.declared.query.Query.{Query}
 use Rattle.hickory_base.specs.Requests.{ReceivedRequest}
+use Rattle.hickory_base.specs.declared.errors.LookupError.{LookupError}
 use Rattle.hickory_base.specs.declared.message_request.MessageRequest.{MessageRequest}
 use Rattle.hickory_base.specs.declared.zone_store.handler.ZoneHandler.{Ghosts}
-use Rattle.hickory_catalog.specs.declared.findings.Finding.{Finding}
-use Rattle.hickory_catalog.specs.declared.findings.Finding.TheVariants.{Found, NoMemory, Unimplemented}
-use Rattle.hickory_catalog.specs.Queries.{QueryReply, ZoneReply, answer_reply, other_count, no_zone, zone, unasked, answered}
-use Rattle.hickory_catalog.specs.Replies.{error_reply, authoritative_reply, unimplemented_reply}
+use Rattle.hickory_base.specs.declared.zone_store.handler.ZoneType.{ZoneType}
+use Rattle.hickory_base.specs.declared.zone_store.handler.ZoneType.TheVariants.{Primary, Secondary, External}
+use Rattle.hickory_base.specs.declared.zone_store.lookup.AuthLookup.{AuthLookup}
+use Rattle.hickory_catalog.specs.Authoritative.{AuthoritativeReply, refuses, denies, finds}
+use Rattle.hickory_catalog.specs.Forwarded.{findings_of, findings_reply, forwarded_metadata, forwarded_reply, is_authentic, validated}
+use Rattle.hickory_catalog.specs.Queries.{HandlerReply, QueryReply, ResultReply, ZoneReply, answered, lookup, no_zone, other_count, signed, transfer, unanswered, zone}
+use Rattle.hickory_catalog.specs.Replies.{bare_reply, error_reply, unimplemented_reply}
 use Rattle.hickory_catalog.specs.ReplyEdns.{reply_edns, with_high_code}
 use Rattle.hickory_catalog.specs.Requests.{BelongsTo, RequestReply, refused, asks}
 
@@ -28,25 +33,44 @@ asked identifier None = refl
 asked identifier (Some e) = refl
 
 module _ (request : MessageRequest) (edns : Option EdnsFields) (reply : Reply) where
+  by_parts : (made : Reply) (code : ℕ) → reply ≡ made → made.metadata.id ≡ request.metadata.id → made.edns ≡ with_high_code code edns → BelongsWith request edns reply
+  by_parts made code is id e =
+      subst (BelongsWith request edns) (sym is) (record { id = id; edns_kept = inl (subst (λ (o : Option EdnsFields). is_some o ≡ is_some edns) (sym e) (coded code edns)) })
+
   by_error : (code : ℕ) → reply ≡ error_reply request edns code → BelongsWith request edns reply
-  by_error code is = subst (BelongsWith request edns) (sym is) (record { id = refl; edns_kept = inl (coded code edns) })
+  by_error code is = by_parts _ code is refl refl
 
   by_unimplemented : reply ≡ unimplemented_reply request → BelongsWith request edns reply
   by_unimplemented is = subst (BelongsWith request edns) (sym is) (record { id = refl; edns_kept = inr refl })
 
-  by_answer : (query_type : ℕ) (found : Finding) → answer_reply request edns query_type found ≡ Some reply → BelongsWith request edns reply
-  by_answer query_type (Found answer) e =
-      let is : authoritative_reply request edns query_type answer ≡ reply = cc in
-      subst (BelongsWith request edns) is (record { id = refl; edns_kept = inl (coded 0 edns) })
-  by_answer query_type NoMemory e = absurd cc
-  by_answer query_type Unimplemented e =
-      let is : unimplemented_reply request ≡ reply = cc in
-      by_unimplemented (sym is)
+  by_forwarded : (query : Query) (validates : Bool) (result : Result AuthLookup LookupError) → reply ≡ forwarded_reply request edns query validates result → BelongsWith request edns reply
+  by_forwarded query validates result is = wanted request.metadata.recursion_desired is where
+    wanted : (b : Bool) → reply ≡ cond b
+        (findings_reply request edns query (is_authentic validates request (findings_of query.name result)) (validated validates request.metadata (findings_of query.name result)))
+        (bare_reply request edns (forwarded_metadata request.metadata false 5)) → BelongsWith request edns reply
+    wanted true is = by_parts _ _ is refl refl
+    wanted false is = by_parts _ 5 is refl refl
+
+module _ {H : Type 0} (handler : Ghosts H) (h : H) (request : ReceivedRequest) (edns : Option EdnsFields) (query : Query) (reply : Reply) where
+  of_zone_server : (result : Result AuthLookup LookupError) → AuthoritativeReply handler h request edns query reply result → BelongsWith request.message edns reply
+  of_zone_server _ (refuses _ is) = by_parts request.message edns reply _ _ is refl refl
+  of_zone_server _ (denies _ _ _ _ _ _ _ is) = by_parts request.message edns reply _ _ is refl refl
+  of_zone_server _ (finds _ _ _ is) = by_parts request.message edns reply _ 0 is refl refl
+
+  of_handler : (zone_type : ZoneType) (result : Result AuthLookup LookupError) → HandlerReply handler h zone_type request edns query result reply → BelongsWith request.message edns reply
+  of_handler Primary result r = of_zone_server result r
+  of_handler Secondary result r = of_zone_server result r
+  of_handler External result is = by_forwarded request.message edns reply query (handler.validates_dnssec h) result is
+
+  of_result : {result : Result AuthLookup LookupError} {context : _} → ResultReply handler h request edns query reply result context → BelongsWith request.message edns reply
+  of_result (signed _ is) = by_unimplemented request.message edns reply is
+  of_result (answered _ r) = of_handler _ _ r
 
 module _ {H : Type 0} (handler : Ghosts H) (request : ReceivedRequest) (edns : Option EdnsFields) (reply : Reply) where
-  of_zone : (chain : List H) (query_type : ℕ) → ZoneReply handler chain request edns query_type reply → BelongsWith request.message edns reply
-  of_zone chain query_type (unasked _ is) = by_unimplemented request.message edns reply is
-  of_zone chain query_type (answered _ _ e) = by_answer request.message edns reply query_type _ e
+  of_zone : (chain : List H) (query : Query) → ZoneReply handler chain request edns query reply → BelongsWith request.message edns reply
+  of_zone chain query (transfer _ is) = by_unimplemented request.message edns reply is
+  of_zone chain query (unanswered _ _ _ is) = by_error request.message edns reply 2 is
+  of_zone chain query (lookup _ _ _ _ r) = of_result handler _ request edns query reply r
 
   of_query : (zones : List (DomainName × List H)) → QueryReply handler zones request edns reply → BelongsWith request.message edns reply
   of_query zones (other_count _ is) = by_error request.message edns reply 1 is

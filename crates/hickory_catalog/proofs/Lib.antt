@@ -1,5 +1,6 @@
 pub mod Asking
 pub mod Belonging
+pub mod Consulting
 pub mod Lookups
 pub mod Nearest
 pub mod OneAnswer

@@ -1,14 +1,9 @@
 -- From what the steps of a query say to what its reply is.
-use Rattle.std.proofs.Common.{◌≡◌, ℕ, List, Option, Some, None, Result, Ok, Err, subst}
+use Rattle.std.proofs.Common.{◌≡◌, ◌<◌, ℕ, zero, suc, List, [], ◌∷◌, length, get_or, Option, Some, None, Result, Ok, Err, subst, sym, ap, arith}
 use Rattle.std.specs.Option.{option_map}
-use Rattle.std.specs.Prelude.{IfOk}
+use Rattle.std.specs.Prelude.{IfOk, slice_get}
 use Rattle.hickory_wire.specs.DomainName.{DomainName}
-use Rattle.hickory_wire.specs.EdnsFields.{EdnsFields}
-use Rattle.hickory_wire.specs.Reply.{Reply}
-use Rattle.hickory_base.specs.Requests.{ReceivedRequest}
-use Rattle.hickory_base.specs.declared.zone_store.handler.ZoneHandler.{Ghosts}
 use Rattle.hickory_catalog.specs.Find.{Finds}
-use Rattle.hickory_catalog.specs.Queries.{ZoneReply}
 
 -- what follows from what is so of an `Ok`
 pub if_ok_map : {T E : Type 0} (r : Result T E) (P Q : T → Type 0) → IfOk r P → ((t : T) → P t → Q t) → IfOk r Q
@@ -24,8 +19,8 @@ module _ {H : Type 0} (zones : List (DomainName × List H)) {X : Type 0} (items 
   finds_some name named found x f e n =
       subst (λ (m : DomainName). Finds zones m (Some (items x))) n (subst (λ (o : Option X). Finds zones name (option_map items o)) e f)
 
--- the reply of a zone, by its chain and type as they are named elsewhere
-pub zone_reply_at : {H : Type 0} {handler : Ghosts H} {chain named : List H} {request : ReceivedRequest} {edns : Option EdnsFields} {asked query_type : ℕ} {reply : Reply}
-    → chain ≡ named → asked ≡ query_type → ZoneReply handler chain request edns asked reply → ZoneReply handler named request edns query_type reply
-zone_reply_at {handler = handler} {named = named} {request = request} {edns = edns} {asked = asked} {reply = reply} e t r =
-    subst (λ (n : ℕ). ZoneReply handler named request edns n reply) t (subst (λ (c : List _). ZoneReply handler c request edns asked reply) e r)
+-- the item at a place, as one that is there
+pub get_at : {X : Type 0} (xs : List X) (i : ℕ) (x : X) → i < length xs → x ≡ get_or xs i x → slice_get xs i ≡ Some x
+get_at [] i x lt is = absurd (omega (arith, lt))
+get_at (y ∷ ys) zero x lt is = ap Some (sym is)
+get_at (y ∷ ys) (suc i) x lt is = get_at ys i x (omega (arith, lt)) is

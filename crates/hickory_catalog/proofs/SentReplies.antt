@@ -1,8 +1,9 @@
 -- From what a sink's answer says to what a call says of it.
-use Rattle.std.proofs.Common.{◌≡◌, ℕ, ◌+◌, ◌%◌, ◌^◌, ◌⊎◌, inl, inr, List, [], ◌∷◌, length, Option, None, Bor, map, ◌∙◌, sym, ap, subst, refl}
-use Rattle.std.specs.Iterator.Adapters.{once_steps, once_item}
+use Rattle.std.proofs.Common.{◌≡◌, ℕ, ◌+◌, ◌%◌, ◌^◌, ◌⊎◌, inl, inr, false, List, [], ◌∷◌, ◌++◌, length, Option, None, Bor, map, ◌∙◌, sym, ap, subst, refl}
+use Rattle.std.specs.Iterator.Adapters.{chain_first, chain_first_done, chain_second, chain_second_done, chain_steps, once_steps, once_item}
 use Rattle.std.specs.Slice.Iter.{iter_steps, iter_rest}
 use Rattle.std.proofs.lemmas.Iterator.Adapters.{YieldsList-from_once}
+use Rattle.std.proofs.lemmas.Iterator.Consumers.{YieldsList-from_chain}
 use Rattle.std.proofs.lemmas.Iterator.{items_from_drains, YieldsList-from_slice}
 use Rattle.hickory_wire.specs.EdnsFields.{EdnsFields}
 use Rattle.hickory_wire.specs.Reply.{Reply}
@@ -21,6 +22,13 @@ pub given_by_slice : {records xs : List (Record RData)} {it : _} → GivesBy ite
 given_by_slice {xs = xs} gives e =
     let d = gives.1 in
     sym gives.2 ∙ items_from_drains gives.0 (d.1.0, d.1.1, λ _. (d.0, d.1.2)) (YieldsList-from_slice xs e)
+
+-- two slices' iterators that are chained give the one slice and then the other
+pub given_by_chain : {records xs ys : List (Record RData)} {it : _} → GivesBy (chain_steps iter_steps iter_steps) (λ (x : Bor (Record RData)). x.now) it records
+    → iter_rest (chain_first it) ≡ xs → iter_rest (chain_second it) ≡ ys → chain_first_done it ≡ false → chain_second_done it ≡ false → records ≡ xs ++ ys
+given_by_chain {xs = xs} {ys = ys} gives e f g h =
+    let d = gives.1 in
+    sym gives.2 ∙ items_from_drains gives.0 (d.1.0, d.1.1, λ _. (d.0, d.1.2)) (YieldsList-from_chain (YieldsList-from_slice xs e) (YieldsList-from_slice ys f) g h)
 
 no_items : (items : List (Bor (Record RData))) → map (λ (x : Bor (Record RData)). x) items ≡ [] → map (λ (x : Bor (Record RData)). x.now) items ≡ []
 no_items [] e = refl

@@ -1,4 +1,7 @@
+pub mod Authoritative
+pub mod Denying
 pub mod Find
+pub mod Forwarded
 pub mod Queries
 pub mod Replies
 pub mod ReplyEdns

@@ -1,9 +1,12 @@
 //! The catalog: which zone answers a request, and with what reply.
 #![tactic(auto)]
 
+mod authoritative;
 pub mod catalog;
+mod chains;
+mod denying;
 mod edns;
-mod findings;
+mod forwarded;
 mod queries;
 mod requests;
 mod sending;

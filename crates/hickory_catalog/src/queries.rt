@@ -1,71 +1,122 @@
 //! From a query to its one reply.
 
-ghost use Rattle.std.specs.Prelude.{◌≡◌, IfOk, IfErr};
+ghost use Rattle.std.specs.Prelude.{◌≡◌, ◌<◌, length, IfOk, IfErr};
 ghost use Rattle.std.specs.Option.{option_copied};
 ghost use Rattle.hickory_wire.specs.Reply.{Reply};
+ghost use Rattle.hickory_base.specs.Requests.{information, information_of};
 ghost use Rattle.hickory_base.specs.Responses.{header_of};
-ghost use Rattle.hickory_catalog.specs.Queries.{QueryReply, ZoneReply, single_question};
-ghost use Rattle.hickory_catalog.specs.Replies.{unimplemented_reply};
+ghost use Rattle.hickory_catalog.specs.Queries.{HandlerReply, QueryReply, ResultReply, ZoneReply, is_out_of_memory};
 ghost use Rattle.hickory_catalog.specs.Sending.{IsSent};
 
-use crate::findings::{Finding, ask, finding_of, is_implemented};
-use crate::sending::{send_answer, send_error};
+use crate::authoritative::answer_authoritatively;
+use crate::chains::{chain_answer, is_memory};
+use crate::forwarded::send_forwarded;
+use crate::sending::{send_error, send_unimplemented};
 use crate::zones::Zones;
-use hickory_base::errors::CatalogError;
-use hickory_base::message_request::MessageRequest;
-use hickory_base::server::{Request, ResponseHandler, ResponseInfo};
-use hickory_base::zone_store::ZoneHandler;
-use hickory_wire::{Edns, LowerQuery, RecordType, ResponseCode};
+use hickory_base::errors::{CatalogError, LookupError};
+use hickory_base::server::{Request, RequestInfo, ResponseHandler, ResponseInfo};
+use hickory_base::zone_store::{AuthLookup, LookupOptions, ZoneHandler, ZoneType};
+use hickory_wire::{Edns, LowerQuery, RecordType, ResponseCode, TSigResponseContext};
 use std::alloc::Global;
 
-/// Hands over what is answered where a case is not implemented: ServFail, without EDNS.
-fn send_unimplemented<R: ResponseHandler>(
-    sink: &mut R,
+/// Answers for the handler that was asked, to what the chain answered in the end.
+fn answer_for_handler<H: ZoneHandler, R: ResponseHandler>(
+    handler: &H,
     alloc: Global,
-    request: &MessageRequest,
-) -> ResponseInfo
-    ensures { IsSent R.shows R.informs request.now.metadata (R.settings sink.old) (R.settings sink.new) (R.entries sink.old) (R.entries sink.new) (R.failures sink.old) (R.failures sink.new) (unimplemented_reply request.now) (header_of result) }
+    request: &Request,
+    edns: Option<Edns>,
+    query: &LowerQuery,
+    outcome: Result<AuthLookup, LookupError>,
+    sink: &mut R,
+) -> Result<ResponseInfo, CatalogError>
+    ensures replied { IfOk result (λ info. (reply : Reply) ×
+        HandlerReply H.ZoneHandler handler.now (H.zone_type_of handler.now) request.now edns query.now outcome reply ×
+        IsSent R.shows R.informs request.now.message.metadata (R.settings sink.old) (R.settings sink.new) (R.entries sink.old) (R.entries sink.new) (R.failures sink.old) (R.failures sink.new) reply (header_of info)) }
+    ensures refused { IfErr result (λ e. (e ≡ CatalogError.Memory) ×
+        (R.settings sink.new ≡ R.settings sink.old) × (R.entries sink.new ≡ R.entries sink.old) × (R.failures sink.new ≡ R.failures sink.old)) }
 {
-    send_error(sink, alloc, request, None, ResponseCode::SERV_FAIL)
-}
-
-/// The question of a request, where there is just one.
-fn single_question(request: &MessageRequest) -> Option<&LowerQuery>
-    ensures { option_copied result ≡ single_question request.now.queries.queries }
-{
-    match request.queries.queries() {
-        [query] => Some(query),
-        _ => None,
+    match handler.zone_type() {
+        ZoneType::Primary | ZoneType::Secondary => {
+            answer_authoritatively(handler, alloc, request, edns, query, &outcome, sink)
+        }
+        ZoneType::External => {
+            let validates = handler.can_validate_dnssec();
+            let message = request.message();
+            Ok(send_forwarded(sink, alloc, message, edns, query, validates, outcome))
+        }
     }
 }
 
-/// Answers a query by the handlers of its zone, and hands the reply over, with this EDNS.
+/// Whether an answer says that memory was refused.
+fn is_out_of_memory(outcome: &Result<AuthLookup, LookupError>) -> bool
+    ensures { result ≡ is_out_of_memory outcome.now }
+{
+    match outcome {
+        Ok(_) => false,
+        Err(e) => is_memory(e),
+    }
+}
+
+/// Answers to what a chain answered in the end, where this handler was asked.
+fn answer_outcome<H: ZoneHandler, R: ResponseHandler>(
+    handler: &H,
+    alloc: Global,
+    request: &Request,
+    edns: Option<Edns>,
+    query: &LowerQuery,
+    outcome: Result<AuthLookup, LookupError>,
+    context: Option<TSigResponseContext>,
+    sink: &mut R,
+) -> Result<ResponseInfo, CatalogError>
+    ensures replied { IfOk result (λ info. (reply : Reply) ×
+        ResultReply H.ZoneHandler handler.now request.now edns query.now reply outcome context ×
+        IsSent R.shows R.informs request.now.message.metadata (R.settings sink.old) (R.settings sink.new) (R.entries sink.old) (R.entries sink.new) (R.failures sink.old) (R.failures sink.new) reply (header_of info)) }
+    ensures refused { IfErr result (λ e. (e ≡ CatalogError.Memory) ×
+        (R.settings sink.new ≡ R.settings sink.old) × (R.entries sink.new ≡ R.entries sink.old) × (R.failures sink.new ≡ R.failures sink.old)) }
+{
+    if is_out_of_memory(&outcome) {
+        return Err(CatalogError::Memory);
+    }
+    match context {
+        Some(_) => Ok(send_unimplemented(sink, alloc, request.message())),
+        None => answer_for_handler(handler, alloc, request, edns, query, outcome, sink),
+    }
+}
+
+/// Answers a query of a zone by its handlers, and hands the reply over, with this EDNS.
 fn answer_zone<H: ZoneHandler, R: ResponseHandler>(
     chain: &[H],
     alloc: Global,
     request: &Request,
     edns: Option<Edns>,
-    query_type: RecordType,
+    query: &LowerQuery,
     sink: &mut R,
 ) -> Result<ResponseInfo, CatalogError>
     ensures replied { IfOk result (λ info. (reply : Reply) ×
-        ZoneReply H.ZoneHandler chain.now request.now edns query_type reply ×
+        ZoneReply H.ZoneHandler chain.now request.now edns query.now reply ×
         IsSent R.shows R.informs request.now.message.metadata (R.settings sink.old) (R.settings sink.new) (R.entries sink.old) (R.entries sink.new) (R.failures sink.old) (R.failures sink.new) reply (header_of info)) }
     ensures refused { IfErr result (λ e. (e ≡ CatalogError.Memory) ×
         (R.settings sink.new ≡ R.settings sink.old) × (R.entries sink.new ≡ R.entries sink.old) × (R.failures sink.new ≡ R.failures sink.old)) }
 {
-    let message = request.message();
-    if is_implemented(query_type, chain) {
-        let (_, answer, context) = ask(chain, alloc, request);
-        match finding_of(answer, context) {
-            Finding::Found(found) => {
-                Ok(send_answer(sink, alloc, message, edns, query_type, &found))
-            }
-            Finding::NoMemory => Err(CatalogError::Memory),
-            Finding::Unimplemented => Ok(send_unimplemented(sink, alloc, message)),
+    if query.query_type().value() == RecordType::AXFR.value() {
+        return Ok(send_unimplemented(sink, alloc, request.message()));
+    }
+    let info = RequestInfo::new(request.src(), request.protocol(), request.metadata(), query);
+    let options = LookupOptions::from_edns(edns.as_ref());
+    let answer = chain_answer(chain, alloc, request, &info, options);
+    match answer.answer.map_result() {
+        None => Ok(send_error(
+            sink,
+            alloc,
+            request.message(),
+            edns,
+            ResponseCode::SERV_FAIL,
+        )),
+        Some(outcome) => {
+            let handler = &chain[answer.place];
+            let context = answer.context;
+            answer_outcome(handler, alloc, request, edns, query, outcome, context, sink)
         }
-    } else {
-        Ok(send_unimplemented(sink, alloc, message))
     }
 }
 
@@ -84,14 +135,12 @@ pub(crate) fn answer_query<H: ZoneHandler, R: ResponseHandler>(
         (R.settings sink.new ≡ R.settings sink.old) × (R.entries sink.new ≡ R.entries sink.old) × (R.failures sink.new ≡ R.failures sink.old)) }
 {
     let message = request.message();
-    let Some(query) = single_question(message) else {
-        return Ok(send_error(sink, alloc, message, edns, ResponseCode::FORM_ERR));
+    let info = match request.request_info() {
+        Ok(info) => info,
+        Err(_) => return Ok(send_error(sink, alloc, message, edns, ResponseCode::FORM_ERR)),
     };
-    match zones.find(alloc, query.name())? {
+    match zones.find(alloc, info.query.name())? {
         None => Ok(send_error(sink, alloc, message, edns, ResponseCode::REFUSED)),
-        Some(chain) => {
-            let chain = chain.as_slice();
-            answer_zone(chain, alloc, request, edns, query.query_type(), sink)
-        }
+        Some(chain) => answer_zone(chain.as_slice(), alloc, request, edns, info.query, sink),
     }
 }

@@ -1,25 +1,18 @@
 //! Handing replies to a sink.
 
-ghost use Rattle.std.specs.Prelude.{◌≡◌};
+ghost use Rattle.std.specs.Prelude.{◌≡◌, ◌++◌, []};
 ghost use Rattle.std.specs.Iterator.{IsFinite};
-ghost use Rattle.std.specs.Slice.Iter.{iter_rest};
 ghost use Rattle.hickory_wire.specs.Reply.{Reply};
-ghost use Rattle.hickory_base.specs.Lookups.{answers_of};
 ghost use Rattle.hickory_base.specs.Responses.{GivesBy, IsReplyOf, header_of};
-ghost use Rattle.hickory_catalog.specs.Replies.{additional_section, answer_section, authoritative_metadata, authoritative_reply, authority_section, error_reply, is_referral, unimplemented_reply};
+ghost use Rattle.hickory_catalog.specs.Replies.{error_reply, reply_of_sections, unimplemented_reply};
 ghost use Rattle.hickory_catalog.specs.Sending.{IsSent, failure_header};
 
 use crate::edns::with_high_code;
 use hickory_base::message_request::MessageRequest;
 use hickory_base::message_response::{MessageResponse, MessageResponseBuilder};
 use hickory_base::server::{RecordRef, ResponseHandler, ResponseInfo};
-use hickory_base::zone_store::AuthLookup;
-use hickory_wire::{
-    Edns, Header, HeaderCounts, MessageType, Metadata, Record, RecordType, ResponseCode,
-};
+use hickory_wire::{Edns, Header, HeaderCounts, MessageType, Metadata, Record, ResponseCode};
 use std::alloc::Global;
-use std::iter;
-use std::slice::Iter;
 
 /// What is told where the sink failed: ServFail, with the id and the opcode of the request.
 fn failure(request: &Metadata) -> ResponseInfo
@@ -85,65 +78,74 @@ pub(crate) fn send_error<R: ResponseHandler>(
     send(sink, alloc, &request.metadata, error)
 }
 
-/// Whether records that were found are a referral to the servers of a zone below (RFC 1034 section 4.3.2, step 3b).
-fn is_referral(query_type: RecordType, found: &AuthLookup) -> bool
-    ensures { result ≡ is_referral query_type (answers_of found.now) }
+/// Hands over what is answered where a case is not implemented: ServFail, without EDNS.
+pub(crate) fn send_unimplemented<R: ResponseHandler>(
+    sink: &mut R,
+    alloc: Global,
+    request: &MessageRequest,
+) -> ResponseInfo
+    ensures { IsSent R.shows R.informs request.now.metadata (R.settings sink.old) (R.settings sink.new) (R.entries sink.old) (R.entries sink.new) (R.failures sink.old) (R.failures sink.new) (unimplemented_reply request.now) (header_of result) }
 {
-    let asked = query_type.value();
-    let is_asked_for = asked == RecordType::NS.value() || asked == RecordType::ANY.value();
-    match found.iter().next() {
-        None => false,
-        Some(first) => {
-            first.rdata.record_type().value() == RecordType::NS.value() && !is_asked_for
+    send_error(sink, alloc, request, None, ResponseCode::SERV_FAIL)
+}
+
+/// The records of a reply, section by section.
+#[derive(Clone, Copy)]
+pub(crate) struct Sections<'a> {
+    /// The answer section.
+    pub answers: &'a [Record],
+    /// The front of the authority section.
+    pub authorities: &'a [Record],
+    /// The rest of the authority section.
+    pub other_authorities: &'a [Record],
+    /// The SOA of the zone, behind the authorities.
+    pub soa: &'a [Record],
+    /// The additional section.
+    pub additionals: &'a [Record],
+}
+
+impl<'a> Sections<'a> {
+    /// No records.
+    pub fn none() -> Sections<'a>
+        ensures answers { result.answers.now ≡ [] }
+        ensures authorities { result.authorities.now ≡ [] }
+        ensures other_authorities { result.other_authorities.now ≡ [] }
+        ensures soa { result.soa.now ≡ [] }
+        ensures additionals { result.additionals.now ≡ [] }
+    {
+        Sections {
+            answers: &[],
+            authorities: &[],
+            other_authorities: &[],
+            soa: &[],
+            additionals: &[],
         }
     }
 }
 
-/// The records of the answer section and of the authority section.
-fn sections(query_type: RecordType, found: &AuthLookup) -> (Iter<'_, Record>, Iter<'_, Record>)
-    ensures answers { iter_rest result.0 ≡ answer_section query_type (answers_of found.now) }
-    ensures authorities { iter_rest result.1 ≡ authority_section query_type (answers_of found.now) }
-{
-    let none: &[Record] = &[];
-    if is_referral(query_type, found) {
-        (none.iter(), found.iter())
-    } else {
-        (found.iter(), none.iter())
-    }
-}
-
-/// The records of the additional section.
-fn additionals(found: &AuthLookup) -> &[Record]
-    ensures { result.now ≡ additional_section found.now }
-{
-    match found {
-        AuthLookup::Records { additionals, .. } => additionals.as_slice(),
-        _ => &[],
-    }
-}
-
-/// Hands an authoritative reply over.
-pub(crate) fn send_answer<R: ResponseHandler>(
+/// Hands a reply over, of this metadata and these records.
+pub(crate) fn send_records<R: ResponseHandler>(
     sink: &mut R,
     alloc: Global,
     request: &MessageRequest,
     edns: Option<Edns>,
-    query_type: RecordType,
-    found: &AuthLookup,
+    metadata: Metadata,
+    sections: Sections<'_>,
 ) -> ResponseInfo
-    ensures { IsSent R.shows R.informs request.now.metadata (R.settings sink.old) (R.settings sink.new) (R.entries sink.old) (R.entries sink.new) (R.failures sink.old) (R.failures sink.new) (authoritative_reply request.now edns query_type found.now) (header_of result) }
+    ensures { IsSent R.shows R.informs request.now.metadata (R.settings sink.old) (R.settings sink.new) (R.entries sink.old) (R.entries sink.new) (R.failures sink.old) (R.failures sink.new)
+        (reply_of_sections request.now edns metadata sections.entry.answers.now (sections.entry.authorities.now ++ sections.entry.other_authorities.now) sections.entry.soa.now sections.entry.additionals.now) (header_of result) }
 {
-    let mut metadata = Metadata::response_from_request(&request.metadata);
-    metadata.authoritative = true;
-    let (answers, authorities) = sections(query_type, found);
     let edns = with_high_code(metadata.response_code, edns);
     let builder = MessageResponseBuilder::new(&request.queries, edns.as_ref());
     let response = builder.build(
         metadata,
-        answers,
-        authorities,
-        iter::empty::<&Record>(),
-        additionals(found).iter(),
+        sections.answers.iter(),
+        sections
+            .authorities
+            .iter()
+            .chain(sections.other_authorities.iter()),
+        sections.soa.iter(),
+        sections.additionals.iter(),
     );
     send(sink, alloc, &request.metadata, response)
 }

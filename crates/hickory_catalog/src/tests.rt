@@ -446,9 +446,13 @@ fn reply_of(alloc: Global, catalog: &mut Catalog<NoSigner>) -> Result<Vec<u8>, F
 }
 
 #[test]
-fn not_implemented(rt: HostRuntime) -> Result<(), Fail> {
+fn answers_without_records(rt: HostRuntime) -> Result<(), Fail> {
     let alloc = rt.alloc();
-    for script in [Script::Skip, Script::NoName, Script::Signed] {
+    for (script, flags) in [
+        (Script::Skip, (0x81, 0x02)),
+        (Script::NoName, (0x85, 0x03)),
+        (Script::Signed, (0x81, 0x02)),
+    ] {
         let mut catalog: Catalog<NoSigner> = Catalog::new(alloc, NoSigner);
         put(
             alloc,
@@ -458,7 +462,7 @@ fn not_implemented(rt: HostRuntime) -> Result<(), Fail> {
         )?;
         assert_eq!(rt;
             reply_of(alloc, &mut catalog)?,
-            without_records(alloc, 0x81, 0x02)?
+            without_records(alloc, flags.0, flags.1)?
         );
     }
     Ok(())

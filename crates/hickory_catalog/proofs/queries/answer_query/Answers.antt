@@ -1,24 +1,29 @@
-use Rattle.std.proofs.Common.{◌≡◌, Some, rules, refl}
-use Rattle.hickory_catalog.specs.Queries.{no_zone, single_question, zone}
+use Rattle.std.proofs.Common.{refl}
+use Rattle.hickory_catalog.specs.Queries.{no_zone, other_count, zone}
 use Rattle.hickory_catalog.specs.Replies.{error_reply}
-use Rattle.hickory_catalog.proofs.QueryReplies.{finds_none, finds_some, if_ok_map, zone_reply_at}
+use Rattle.hickory_catalog.proofs.QueryReplies.{finds_none, finds_some, if_ok_map}
 use Rattle.hickory_catalog.proofs.queries.answer_query.Goals as goal
 
-pub returns-in-None-clause-replied : goal.returns-in-None-clause-replied
-returns-in-None-clause-replied g c =
-    let single : single_question c.args.request.now.message.queries.queries ≡ Some c.in-Some.query.now = search rules in (
-      error_reply c.args.request.now.message c.args.edns 5,
-      no_zone single (finds_none c.args.zones.now (λ chain. chain.now.items) c.name.result.now _ c.in_ok-find.field-0 c.in_ok-find.ensures.found c.in-None.is c.name.ensures) refl,
-      rw c.message-message.ensures at c.send_error-in-None.ensures,
-    )
+pub returns-in-Err-clause-replied : goal.returns-in-Err-clause-replied
+returns-in-Err-clause-replied g c = (
+  error_reply c.args.request.now.message c.args.edns 1,
+  other_count c.in-Err.ensures.err refl,
+  rw c.message-message.ensures at c.send_error.ensures,
+)
 
-pub returns-in-Some-2-clause-replied : goal.returns-in-Some-2-clause-replied
-returns-in-Some-2-clause-replied g c =
-    let single : single_question c.args.request.now.message.queries.queries ≡ Some c.in-Some.query.now = search rules in
+pub returns-in-None-clause-replied : goal.returns-in-None-clause-replied
+returns-in-None-clause-replied g c = (
+  error_reply c.args.request.now.message c.args.edns 5,
+  no_zone c.in-Ok.ensures.query (finds_none c.args.zones.now (λ chain. chain.now.items) c.name.result.now _ c.in_ok-find.field-0 c.in_ok-find.ensures.found c.in-None.is c.name.ensures) refl,
+  rw c.message-message.ensures at c.send_error-in-None.ensures,
+)
+
+pub returns-in-Some-clause-replied : goal.returns-in-Some-clause-replied
+returns-in-Some-clause-replied g c =
     if_ok_map c.answer_zone.result _ _ c.answer_zone.ensures.replied
     (λ info w. (
       w.0,
-      zone single (finds_some c.args.zones.now (λ chain. chain.now.items) c.name.result.now _ c.in_ok-find.field-0 c.in-Some-2.chain c.in_ok-find.ensures.found c.in-Some-2.is c.name.ensures)
-          (zone_reply_at c.as_slice-chain.ensures.value c.query_type.ensures w.1),
+      zone c.in-Ok.ensures.query (finds_some c.args.zones.now (λ chain. chain.now.items) c.name.result.now _ c.in_ok-find.field-0 c.in-Some.chain c.in_ok-find.ensures.found c.in-Some.is c.name.ensures)
+          (rw c.as_slice.ensures.value at w.1),
       w.2,
     ))

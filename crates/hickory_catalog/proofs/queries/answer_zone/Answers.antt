@@ -1,20 +1,29 @@
-use Rattle.std.proofs.Common.{◌∙◌, sym, ap}
-use Rattle.hickory_catalog.specs.Queries.{answer_reply, answered}
-use Rattle.hickory_catalog.specs.Replies.{authoritative_reply, unimplemented_reply}
+use Rattle.std.proofs.Common.{◌≡◌, ◌==◌, false, rules, refl, sym, ap, ◌∙◌}
+use Rattle.std.specs.Prelude.{is_some}
+use Rattle.hickory_base.specs.Requests.{information, information_of}
+use Rattle.hickory_catalog.specs.Queries.{consult_options, lookup, unanswered}
+use Rattle.hickory_catalog.specs.Replies.{error_reply}
+use Rattle.hickory_catalog.proofs.QueryReplies.{get_at, if_ok_map}
 use Rattle.hickory_catalog.proofs.queries.answer_zone.Goals as goal
 
-pub returns-in-Found-clause-replied : goal.returns-in-Found-clause-replied
-returns-in-Found-clause-replied g c = (
-  authoritative_reply c.args.request.now.message c.args.edns c.args.query_type c.in-Found.found,
-  answered (sym c.is_implemented.ensures ∙ c.if-is_implemented.true) c.ask-answer.ensures
-      (ap (answer_reply c.args.request.now.message c.args.edns c.args.query_type) (sym c.finding_of.ensures ∙ c.in-Found.is)),
-  rw c.message-message.ensures at c.send_answer.ensures,
-)
+pub returns-in-None-clause-replied : goal.returns-in-None-clause-replied
+returns-in-None-clause-replied g c =
+    let plain : (c.args.query.now.query_type == 252) ≡ false = search rules in
+    let info : information_of c.new-info.result ≡ information c.args.request.now c.args.query.now = search rules in
+    let options : c.from_edns-options.result ≡ consult_options c.args.edns = search rules in
+    let answers = rw (info, options) at c.chain_answer-answer.ensures.answers in (
+      error_reply c.args.request.now.message c.args.edns 2,
+      unanswered plain answers (sym c.map_result.ensures ∙ c.in-None.is) refl,
+      rw c.message-in-None.ensures at c.send_error.ensures,
+    )
 
-pub returns-in-Unimplemented-clause-replied : goal.returns-in-Unimplemented-clause-replied
-returns-in-Unimplemented-clause-replied g c = (
-  unimplemented_reply c.args.request.now.message,
-  answered (sym c.is_implemented.ensures ∙ c.if-is_implemented.true) c.ask-answer.ensures
-      (ap (answer_reply c.args.request.now.message c.args.edns c.args.query_type) (sym c.finding_of.ensures ∙ c.in-Unimplemented.is)),
-  rw c.message-message.ensures at c.send_unimplemented.ensures,
-)
+pub returns-in-Some-clause-replied : goal.returns-in-Some-clause-replied
+returns-in-Some-clause-replied g c =
+    let plain : (c.args.query.now.query_type == 252) ≡ false = search rules in
+    let info : information_of c.new-info.result ≡ information c.args.request.now c.args.query.now = search rules in
+    let options : c.from_edns-options.result ≡ consult_options c.args.edns = search rules in
+    let answers = rw (info, options) at c.chain_answer-answer.ensures.answers in
+    let some = sym c.map_result.ensures ∙ c.in-Some.is in
+    let within = c.chain_answer-answer.ensures.place (ap is_some some) in
+    if_ok_map c.answer_outcome.result _ _ c.answer_outcome.ensures.replied
+    (λ info w. (w.0, lookup plain answers some (get_at c.args.chain.now c.chain_answer-answer.result.place c.index-chain-answer.result within c.index-chain-answer.is) w.1, w.2))

@@ -1,0 +1,95 @@
+-- Consulting handlers from a place on, and the answer of a chain.
+use Rattle.std.proofs.Common.{◌≡◌, ℕ, suc, ◌+◌, ◌-◌, ◌<◌, ◌≤◌, true, false, List, [], ◌∷◌, ◌++◌, length, drop, take, get_or, Option, None, Some, refl, ap, subst, ◌∙◌, arith}
+use Rattle.std.proofs.lemmas.List.{drop_all, length-drop, take_all}
+use Rattle.std.specs.Option.{option_or, IsSome}
+use Rattle.hickory_wire.specs.NameOrder.{lower_name}
+use Rattle.hickory_wire.specs.declared.tsig.TSigResponseContext.{TSigResponseContext}
+use Rattle.hickory_base.specs.Lookups.{Flow, is_continue, result_of}
+use Rattle.hickory_base.specs.Requests.{ReceivedRequest, RequestInformation}
+use Rattle.hickory_base.specs.declared.zone_store.handler.ZoneHandler.{Ghosts}
+use Rattle.hickory_base.specs.declared.zone_store.lookup.LookupControlFlow.TheVariants.{Continue, Break, Skip}
+use Rattle.hickory_base.specs.declared.zone_store.lookup.LookupOptions.{LookupOptions}
+use Rattle.hickory_catalog.specs.Transcripts.{Asked, Consulted, Follows, IsAnswer, all_consulted, consulted, out_of_memory, nobody, skipped, answered, wants_memory}
+use Rattle.hickory_catalog.proofs.Asking.{front_at}
+
+-- what is consulted of the rest is consulted of the whole
+abbrev pub ConsultedOn : {H : Type 0} → Ghosts H → RequestInformation → LookupOptions → List H → Flow → Option TSigResponseContext → ℕ → Flow → Option TSigResponseContext → Type 0
+ConsultedOn handler info options all first first_context i last context = (final : Flow) (final_context : Option TSigResponseContext)
+    → Consulted handler info options (drop i all) last context final final_context → Consulted handler info options all first first_context final final_context
+
+module _ {H : Type 0} (handler : Ghosts H) (info : RequestInformation) (options : LookupOptions) (all : List H) (first : Flow) (first_context : Option TSigResponseContext) where
+  pub on_start : ConsultedOn handler info options all first first_context 0 first first_context
+  on_start final final_context r = r
+
+  pub on_memory : (i : ℕ) (last : Flow) (context : Option TSigResponseContext) → ConsultedOn handler info options all first first_context i last context
+      → wants_memory last ≡ true → Consulted handler info options all first first_context last context
+  on_memory i last context on wants = on last context (out_of_memory wants)
+
+  pub on_step : (i : ℕ) (h : H) (last given : Flow) (context fresh : Option TSigResponseContext) → ConsultedOn handler info options all first first_context i last context
+      → i < length all → h ≡ get_or all i h → wants_memory last ≡ false
+      → handler.consult_gives h (lower_name info.query.name) info.query.query_type (Some info) options last given fresh
+      → ConsultedOn handler info options all first first_context (i + 1) given (option_or fresh context)
+  on_step i h last given context fresh on lt is wants gave final final_context r =
+      let e : drop i all ≡ h ∷ drop (i + 1) all = front_at all i h lt is in
+      on final final_context (rw e (consulted wants gave r))
+
+  pub on_end : (i n : ℕ) (last : Flow) (context : Option TSigResponseContext) → ConsultedOn handler info options all first first_context i last context
+      → length all ≡ n → n ≤ i → Consulted handler info options all first first_context last context
+  on_end i n last context on e low =
+      let none : drop i all ≡ [] = drop_all i all (omega arith) in
+      on last context (rw none all_consulted)
+
+module _ {H : Type 0} {handler : Ghosts H} {info : RequestInformation} {options : LookupOptions} where
+  memory_stays : {hs : List H} {last final : Flow} {context final_context : Option TSigResponseContext} → wants_memory last ≡ true
+      → Consulted handler info options hs last context final final_context → (final ≡ last) × (final_context ≡ context)
+  memory_stays wants all_consulted = (refl, refl)
+  memory_stays wants (out_of_memory _) = (refl, refl)
+  memory_stays wants (consulted not _ _) = absurd cc
+
+  -- first these, then those
+  pub joined : {hs gs : List H} {first second final : Flow} {context second_context final_context : Option TSigResponseContext}
+      → Consulted handler info options hs first context second second_context → Consulted handler info options gs second second_context final final_context
+      → Consulted handler info options (hs ++ gs) first context final final_context
+  joined all_consulted r = r
+  joined {hs = hs} {gs = gs} {first = first} {context = context} (out_of_memory wants) r =
+      let s = memory_stays wants r in
+      rw (s.0, s.1) (out_of_memory wants)
+  joined (consulted not gave l) r = consulted not gave (joined l r)
+
+  -- a `Continue` is followed by consulting
+  pub continued : {others : List H} (answer : Flow) {final : Flow} {context final_context : Option TSigResponseContext} → is_continue answer ≡ true
+      → Consulted handler info options others answer context final final_context → Follows handler info options others answer context final final_context
+  continued (Continue _) is c = c
+  continued (Break _) is c = absurd cc
+  continued Skip is c = absurd cc
+
+-- the slice from behind a place on is what is left
+pub behind_is : {H : Type 0} (chain : List H) (place : ℕ) → take (length chain - (place + 1)) (drop (place + 1) chain) ≡ drop (suc place) chain
+behind_is chain place =
+    let e : take (length chain - (place + 1)) (drop (place + 1) chain) ≡ drop (place + 1) chain = take_all (length chain - (place + 1)) (drop (place + 1) chain) (omega (arith, length-drop (place + 1) chain)) in
+    let q : place + 1 ≡ suc place = omega arith in
+    e ∙ ap (λ (n : ℕ). drop n chain) q
+
+-- any other answer stands
+pub stands : {H : Type 0} (handler : Ghosts H) (info : RequestInformation) (options : LookupOptions) (others : List H) (answer : Flow) (context : Option TSigResponseContext) → is_continue answer ≡ false → (answer ≡ Skip → context ≡ None)
+    → Follows handler info options others answer context answer context
+stands handler info options others (Continue _) context is skip = absurd cc
+stands handler info options others (Break _) context is skip = (refl, refl)
+stands handler info options others Skip context is skip = (refl, skip refl)
+
+module _ {H : Type 0} {handler : Ghosts H} {request : ReceivedRequest} {options : LookupOptions} where
+  pub skip_without_context : {chain : List H} {place : ℕ} {answer : Flow} {context : Option TSigResponseContext} → Asked handler request options chain place answer context
+      → answer ≡ Skip → context ≡ None
+  skip_without_context nobody e = refl
+  skip_without_context (skipped _ r) e = skip_without_context r e
+  skip_without_context (answered is _) e = absurd (subst IsAnswer e is)
+
+pub some_is_answer : (answer : Flow) → IsSome (result_of answer) → IsAnswer answer
+some_is_answer (Continue _) h = tt
+some_is_answer (Break _) h = tt
+some_is_answer Skip h = absurd cc
+
+pub continue_is_answer : (answer : Flow) → is_continue answer ≡ true → IsAnswer answer
+continue_is_answer (Continue _) h = tt
+continue_is_answer (Break _) h = tt
+continue_is_answer Skip h = absurd cc

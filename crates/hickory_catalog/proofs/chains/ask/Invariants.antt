@@ -1,0 +1,5 @@
+use Rattle.hickory_catalog.proofs.Asking.{AskedOn}
+use Rattle.hickory_catalog.proofs.chains.ask.Given as goal
+
+abbrev pub invariant-loop-place : goal.invariant-loop-place
+invariant-loop-place g l = AskedOn g.H.ZoneHandler l.request l.options l.chain l.place

@@ -1,0 +1,6 @@
+use Rattle.hickory_base.specs.Requests.{information_of}
+use Rattle.hickory_catalog.proofs.Consulting.{ConsultedOn}
+use Rattle.hickory_catalog.proofs.chains.consult.Given as goal
+
+abbrev pub invariant-loop-i : goal.invariant-loop-i
+invariant-loop-i g l = ConsultedOn g.H.ZoneHandler (information_of l.info) l.options l.handlers l.fn.first l.fn.first_context l.i l.last l.context

@@ -1,0 +1,103 @@
+-- Replies of a server that holds the zone, or a copy of it.
+use Rattle.std.specs.Prelude.{◌≡◌, ◌==◌, ◌&&◌, ◌||◌, not, ℕ, Bool, true, false, cond, List, [], ◌∷◌, ◌++◌, Option, Some, None, Result, Ok, Err}
+use Rattle.std.specs.Bool.{MatchBool}
+use Rattle.hickory_wire.specs.EdnsFields.{EdnsFields}
+use Rattle.hickory_wire.specs.Metadata.{response_to}
+use Rattle.hickory_wire.specs.RecordData.{type_of}
+use Rattle.hickory_wire.specs.Reply.{Reply}
+use Rattle.hickory_wire.specs.declared.header.Metadata.{Metadata}
+use Rattle.hickory_wire.specs.declared.query.Query.{Query}
+use Rattle.hickory_wire.specs.declared.rdata.RData.{RData}
+use Rattle.hickory_wire.specs.declared.record.Record.{Record}
+use Rattle.hickory_base.specs.Failures.{is_nx_domain}
+use Rattle.hickory_base.specs.Lookups.{Flow, answers_of, additionals_of}
+use Rattle.hickory_base.specs.Requests.{ReceivedRequest}
+use Rattle.hickory_base.specs.declared.errors.LookupError.{LookupError}
+use Rattle.hickory_base.specs.declared.errors.LookupError.TheVariants.{ResponseCode}
+use Rattle.hickory_base.specs.declared.message_request.MessageRequest.{MessageRequest}
+use Rattle.hickory_base.specs.declared.zone_store.handler.ZoneHandler.{Ghosts}
+use Rattle.hickory_base.specs.declared.zone_store.lookup.AuthLookup.{AuthLookup}
+use Rattle.hickory_base.specs.declared.zone_store.lookup.LookupOptions.{LookupOptions}
+use Rattle.hickory_base.specs.declared.zone_store.lookup.LookupControlFlow.TheVariants.{Skip}
+use Rattle.hickory_catalog.specs.Denying.{AnswerDenied, NothingDenied, is_wildcard_match, records_given}
+use Rattle.hickory_catalog.specs.Replies.{bare_reply, reply_of_sections}
+use Rattle.hickory_catalog.specs.Transcripts.{options_of, wants_memory}
+
+-- a reply with AA and this response code (RFC 1035 section 4.1.1)
+abbrev pub authoritative_metadata : Metadata → ℕ → Metadata
+authoritative_metadata request code = record (response_to request) { authoritative = true; response_code = code }
+
+-- the code with which a handler refuses to answer: Refused, which is 5, or NotAuth, which is 9
+abbrev pub refusal_code : LookupError → Option ℕ
+refusal_code (ResponseCode code) = cond (code == 5 || code == 9) (Some code) None
+refusal_code other = None
+
+-- the code of a negative reply: the name does not exist, or it has no such records (RFC 2308 sections 2.1 and 2.2)
+abbrev pub negative_code : LookupError → ℕ
+negative_code e = cond (is_nx_domain e) 3 0
+
+-- the denials of a negative reply; where the zone's SOA was skipped, none
+abbrev pub denial_section : Flow → Flow → List (Record RData)
+denial_section denial Skip = []
+denial_section denial soa = records_given denial
+
+-- a negative reply: the denials, and the SOA of the zone behind them (RFC 2308 section 3, RFC 4035 section 3.1.3)
+abbrev pub negative_reply : MessageRequest → Option EdnsFields → LookupError → Flow → Flow → Reply
+negative_reply request edns e denial soa = reply_of_sections request edns (authoritative_metadata request.metadata (negative_code e)) [] (denial_section denial soa) (records_given soa) []
+
+-- the first record is one of type NS, which is 2
+abbrev pub starts_with_ns : List (Record RData) → Bool
+starts_with_ns [] = false
+starts_with_ns (r ∷ rs) = type_of r.rdata == 2
+
+-- The records are a referral to the servers of a zone below (RFC 1034 section 4.3.2, step 3b): NS records that were asked for
+-- neither as such nor as any type, which is 255.
+abbrev pub is_referral : ℕ → List (Record RData) → Bool
+is_referral query_type records = starts_with_ns records && not (query_type == 2 || query_type == 255)
+
+-- what stands in the answer section: what was asked for, but no referral
+abbrev pub answer_section : ℕ → List (Record RData) → List (Record RData)
+answer_section query_type records = cond (is_referral query_type records) [] records
+
+-- what stands at the front of the authority section: a referral
+abbrev pub referral_section : ℕ → List (Record RData) → List (Record RData)
+referral_section query_type records = cond (is_referral query_type records) records []
+
+-- what stands in the additional section: what the zone gave with its records
+abbrev pub additional_section : AuthLookup → List (Record RData)
+additional_section found = or_none (additionals_of found) where
+  or_none : Option (List (Record RData)) → List (Record RData)
+  or_none None = []
+  or_none (Some records) = records
+
+-- The reply with what was found, and with what else the handler gave for the authority section. AA is set with a referral too, as in
+-- the Rust crate, where RFC 1034 section 4.3.2 would leave it clear.
+abbrev pub positive_reply : MessageRequest → Option EdnsFields → ℕ → AuthLookup → Flow → Reply
+positive_reply request edns query_type found beside = reply_of_sections request edns (authoritative_metadata request.metadata 0)
+    (answer_section query_type (answers_of found)) (referral_section query_type (answers_of found) ++ records_given beside) [] (additional_section found)
+
+-- What else a handler gives for the authority section of a positive reply: with the SOA of the zone, type 6, its servers, type 2; with
+-- other records a denial, where one is wanted.
+abbrev pub BesideAnswer : {H : Type 0} → Ghosts H → H → Query → LookupOptions → AuthLookup → Flow → Type 0
+BesideAnswer handler h query options found given = MatchBool (query.query_type == 6)
+    (handler.lookup_gives h (handler.origin_of h) 2 None options given)
+    (AnswerDenied handler h query (is_wildcard_match (answers_of found)) options given)
+
+-- The reply of a handler that holds the zone, to what the chain answered in the end. Each call that it takes is one of the handler that
+-- was asked, with the options of the request and without information on it; none of them wants memory.
+pub data AuthoritativeReply {H : Type 0} (handler : Ghosts H) (h : H) (request : ReceivedRequest) (edns : Option EdnsFields) (query : Query) (reply : Reply)
+    : Result AuthLookup LookupError → Type 0 where
+  -- It refuses, and no more is asked.
+  refuses : {e : LookupError} {code : ℕ} → refusal_code e ≡ Some code
+      → reply ≡ bare_reply request.message edns (authoritative_metadata request.message.metadata code)
+      → AuthoritativeReply handler h request edns query reply (Err e)
+  -- It has nothing: a denial is asked for, and the SOA of the zone, type 6.
+  denies : {e : LookupError} (denial soa : Flow) → refusal_code e ≡ None
+      → NothingDenied handler h query (options_of request) denial → wants_memory denial ≡ false
+      → handler.lookup_gives h (handler.origin_of h) 6 None (options_of request) soa → wants_memory soa ≡ false
+      → reply ≡ negative_reply request.message edns e denial soa
+      → AuthoritativeReply handler h request edns query reply (Err e)
+  -- It has records.
+  finds : {found : AuthLookup} (beside : Flow) → BesideAnswer handler h query (options_of request) found beside → wants_memory beside ≡ false
+      → reply ≡ positive_reply request.message edns query.query_type found beside
+      → AuthoritativeReply handler h request edns query reply (Ok found)

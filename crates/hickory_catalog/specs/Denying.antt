@@ -1,0 +1,69 @@
+-- Which denials go with an authoritative reply, and what else the handler that was asked is asked for it.
+use Rattle.std.specs.Prelude.{◌≡◌, ◌==◌, nat_lt, ℕ, Bool, true, false, cond, List, [], slice_get, Option, Some, None, Ok}
+use Rattle.std.specs.Bool.{MatchBool}
+use Rattle.std.specs.List.{list_any}
+use Rattle.hickory_wire.specs.NameOrder.{counted_labels, lower_name}
+use Rattle.hickory_wire.specs.declared.query.Query.{Query}
+use Rattle.hickory_wire.specs.declared.rdata.RData.{RData}
+use Rattle.hickory_wire.specs.declared.rdata.RData.TheVariants.{Unknown}
+use Rattle.hickory_wire.specs.declared.record.Record.{Record}
+use Rattle.hickory_base.specs.Lookups.{Flow, answers_of}
+use Rattle.hickory_base.specs.declared.zone_store.handler.NxProofKind.{NxProofKind}
+use Rattle.hickory_base.specs.declared.zone_store.handler.NxProofKind.TheVariants.{Nsec, Nsec3}
+use Rattle.hickory_base.specs.declared.zone_store.handler.ZoneHandler.{Ghosts}
+use Rattle.hickory_base.specs.declared.zone_store.lookup.LookupControlFlow.TheVariants.{Continue, Break, Skip}
+use Rattle.hickory_base.specs.declared.zone_store.lookup.LookupOptions.{LookupOptions}
+
+-- the records of a handler's answer, none where it is an error or a `Skip`
+abbrev pub records_given : Flow → List (Record RData)
+records_given (Continue (Ok found)) = answers_of found
+records_given (Break (Ok found)) = answers_of found
+records_given other = []
+
+-- The labels field of a signature record, which is the fourth octet of the data of an RRSIG, type 46 (RFC 4034 section 3.1.3): how many
+-- labels the owner name has in the zone, the `*` of a wildcard not counted.
+abbrev pub signed_labels : RData → Option ℕ
+signed_labels (Unknown code octets) = cond (code == 46) (slice_get octets 3) None
+signed_labels other = None
+
+-- The record is a signature of records that come of a wildcard: its owner name has more labels than were signed (RFC 4035 section 5.3.4).
+abbrev pub is_expanded : Record RData → Bool
+is_expanded r = fewer (signed_labels r.rdata) where
+  fewer : Option ℕ → Bool
+  fewer None = false
+  fewer (Some labels) = nat_lt labels (counted_labels r.name.labels)
+
+-- the records come of a wildcard
+abbrev pub is_wildcard_match : List (Record RData) → Bool
+is_wildcard_match records = list_any is_expanded records
+
+-- A denial is wanted beside records that were found: in a zone with NSEC3 always, in one with NSEC where the records come of a wildcard
+-- (RFC 4035 section 3.1.3.3, RFC 5155 section 7.2.6).
+abbrev pub needs_denial : Option NxProofKind → Bool → Bool
+needs_denial None from_wildcard = false
+needs_denial (Some Nsec) from_wildcard = from_wildcard
+needs_denial (Some (Nsec3 algorithm salt iterations opt_out)) from_wildcard = true
+
+-- What a handler gives as a denial, by what it can deny with (RFC 4035 section 3.1.3, RFC 5155 section 7.2): nothing is asked of one that
+-- cannot.
+abbrev pub DenialGiven : {H : Type 0} → Ghosts H → H → Query → Bool → LookupOptions → Option NxProofKind → Flow → Type 0
+DenialGiven handler h query from_wildcard options None given = given ≡ Skip
+DenialGiven handler h query from_wildcard options (Some Nsec) given = handler.nsec_gives h (lower_name query.name) options given
+DenialGiven handler h query from_wildcard options (Some (Nsec3 algorithm salt iterations opt_out)) given = handler.nsec3_gives h (record {
+  qname = lower_name query.name;
+  qtype = query.query_type;
+  has_wildcard_match = from_wildcard;
+  algorithm = algorithm;
+  salt = salt;
+  iterations = iterations;
+}) options given
+
+-- the denial beside an answer; nothing is asked where none is wanted
+abbrev pub AnswerDenied : {H : Type 0} → Ghosts H → H → Query → Bool → LookupOptions → Flow → Type 0
+AnswerDenied handler h query from_wildcard options given = MatchBool (needs_denial (handler.nx_proof_kind_of h) from_wildcard)
+    (DenialGiven handler h query from_wildcard options (handler.nx_proof_kind_of h) given) (given ≡ Skip)
+
+-- the denial in the place of an answer; nothing is asked where the client takes no DNSSEC records
+abbrev pub NothingDenied : {H : Type 0} → Ghosts H → H → Query → LookupOptions → Flow → Type 0
+NothingDenied handler h query options given = MatchBool options.dnssec_ok
+    (DenialGiven handler h query false options (handler.nx_proof_kind_of h) given) (given ≡ Skip)

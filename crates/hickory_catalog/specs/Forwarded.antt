@@ -1,0 +1,136 @@
+-- Replies of a server that asked elsewhere.
+use Rattle.std.specs.Prelude.{◌==◌, nat_eq, ◌&&◌, ◌||◌, not, ℕ, Bool, true, false, cond, List, [], ◌∷◌, ◌++◌, filter, Option, Some, None, option_to_list, Result, Ok, Err}
+use Rattle.std.specs.List.{list_all, list_any}
+use Rattle.hickory_wire.specs.DomainName.{DomainName}
+use Rattle.hickory_wire.specs.EdnsFields.{EdnsFields}
+use Rattle.hickory_wire.specs.Metadata.{response_to}
+use Rattle.hickory_wire.specs.NameOrder.{name_eq}
+use Rattle.hickory_wire.specs.RecordData.{type_of}
+use Rattle.hickory_wire.specs.Reply.{Reply}
+use Rattle.hickory_wire.specs.declared.header.Metadata.{Metadata}
+use Rattle.hickory_wire.specs.declared.query.Query.{Query}
+use Rattle.hickory_wire.specs.declared.rdata.RData.{RData}
+use Rattle.hickory_wire.specs.declared.record.Proof.{Proof}
+use Rattle.hickory_wire.specs.declared.record.Proof.TheVariants.{Secure, Bogus}
+use Rattle.hickory_wire.specs.declared.record.Record.{Record}
+use Rattle.hickory_base.specs.Failures.{authorities_of, is_no_records_found, is_nx_domain, soa_of}
+use Rattle.hickory_base.specs.Lookups.{answers_of, asks_for_dnssec}
+use Rattle.hickory_base.specs.declared.errors.DnsError.TheVariants.{DnssecBogus}
+use Rattle.hickory_base.specs.declared.errors.LookupError.{LookupError}
+use Rattle.hickory_base.specs.declared.errors.LookupError.TheVariants.{Net}
+use Rattle.hickory_base.specs.declared.message_request.MessageRequest.{MessageRequest}
+use Rattle.hickory_base.specs.declared.zone_store.lookup.AuthLookup.{AuthLookup}
+use Rattle.hickory_base.specs.declared.zone_store.lookup.AuthLookup.TheVariants.{Resolved}
+use Rattle.hickory_catalog.specs.declared.forwarded.Findings.{Findings}
+use Rattle.hickory_catalog.specs.Replies.{bare_reply, reply_of_sections}
+
+-- a response code alone
+abbrev pub code_alone : ℕ → Bool → Findings
+code_alone code is_bogus = record { code = code; answers = []; authorities = []; soa = None; additionals = []; is_bogus = is_bogus }
+
+abbrev pub records_found : AuthLookup → Findings
+records_found (Resolved found) = record (code_alone 0 false) { answers = found.answers; authorities = found.authorities; additionals = found.additionals }
+records_found other = record (code_alone 0 false) { answers = answers_of other }
+
+abbrev pub or_empty : Option (List (Record RData)) → List (Record RData)
+or_empty None = []
+or_empty (Some records) = records
+
+-- a record of the name, in any letter case
+abbrev pub is_named : DomainName → Record RData → Bool
+is_named name r = name_eq r.name name
+
+abbrev pub has_name : DomainName → List (Record RData) → Bool
+has_name name records = list_any (is_named name) records
+
+-- a record but the SOA of a zone, which is of type 6
+abbrev pub is_no_soa : Record RData → Bool
+is_no_soa r = not (type_of r.rdata == 6)
+
+-- the code of a negative answer: a record of the name shows that the name exists, so that it is NoError and not NXDomain, which is 3
+abbrev pub forwarded_code : DomainName → LookupError → ℕ
+forwarded_code name e = cond (has_name name (or_empty (authorities_of e))) 0 (cond (is_nx_domain e) 3 0)
+
+-- A negative answer (RFC 2308 sections 2.1 and 2.2): its authorities without SOA records, and the SOA that belongs to it.
+abbrev pub nothing_found : DomainName → LookupError → Findings
+nothing_found name e = record (code_alone (forwarded_code name e) false) { authorities = filter is_no_soa (or_empty (authorities_of e)); soa = soa_of e }
+
+abbrev pub is_dnssec_bogus : LookupError → Bool
+is_dnssec_bogus (Net DnssecBogus) = true
+is_dnssec_bogus other = false
+
+-- what there is to pass on for an answer; an error that is no negative answer is ServFail, which is 2
+abbrev pub findings_of : DomainName → Result AuthLookup LookupError → Findings
+findings_of name (Ok found) = records_found found
+findings_of name (Err e) = cond (is_no_records_found e || is_nx_domain e) (nothing_found name e) (code_alone 2 (is_dnssec_bogus e))
+
+-- The records by whose proofs the whole is judged: the answers, or for a negative answer with an SOA that SOA and the authorities
+-- (RFC 4035 section 3.2.3).
+abbrev pub judged_records : Findings → List (Record RData)
+judged_records found = judged found.soa where
+  judged : Option (Record RData) → List (Record RData)
+  judged None = found.answers
+  judged (Some soa) = soa ∷ found.authorities
+
+abbrev pub is_bogus_proof : Proof → Bool
+is_bogus_proof Bogus = true
+is_bogus_proof other = false
+
+abbrev pub is_secure_proof : Proof → Bool
+is_secure_proof Secure = true
+is_secure_proof other = false
+
+-- the proof of some record is wrong
+abbrev pub is_bogus : Findings → Bool
+is_bogus found = found.is_bogus || list_any (λ r. is_bogus_proof r.proof) (judged_records found)
+
+abbrev pub is_no_record : List (Record RData) → Bool
+is_no_record [] = true
+is_no_record (r ∷ rs) = false
+
+-- there are records, and all are proved
+abbrev pub is_secure : Findings → Bool
+is_secure found = not (is_bogus found) && not (is_no_record (judged_records found)) && list_all (λ r. is_secure_proof r.proof) (judged_records found)
+
+-- what is passed on of a bogus answer: ServFail, without the records by which it was judged but the authorities (RFC 4035 section 5.5)
+abbrev pub without_bogus : Findings → Findings
+without_bogus found = dropped found.soa where
+  dropped : Option (Record RData) → Findings
+  dropped None = record found { code = 2; answers = [] }
+  dropped (Some soa) = record found { code = 2; soa = None }
+
+-- What is passed on where the handler validates: with CD (checking disabled) set, a bogus answer too (RFC 4035 section 3.2.2).
+abbrev pub validated : Bool → Metadata → Findings → Findings
+validated validates request found = cond (validates && is_bogus found && not request.checking_disabled) (without_bogus found) found
+
+-- AD tells of a proved answer whoever asks by AD or DO (RFC 6840 sections 5.7 and 5.8).
+abbrev pub is_authentic : Bool → MessageRequest → Findings → Bool
+is_authentic validates request found = validates && is_secure found && (request.metadata.authentic_data || asks_for_dnssec request.edns)
+
+-- Types of DNSSEC: SIG, KEY, DS, RRSIG, NSEC, DNSKEY, NSEC3, NSEC3PARAM, CDS, CDNSKEY (RFC 2535, RFC 4034, RFC 5155, RFC 7344).
+abbrev pub is_dnssec_type : ℕ → Bool
+is_dnssec_type n = list_any (nat_eq n) (24 ∷ 25 ∷ 43 ∷ 46 ∷ 47 ∷ 48 ∷ 50 ∷ 51 ∷ 59 ∷ 60 ∷ [])
+
+-- A record is passed on: any one to whom takes DNSSEC records; else one of another type, or of the very type that was asked for
+-- (RFC 4035 section 3.2.1).
+abbrev pub is_passed_on : Bool → ℕ → Record RData → Bool
+is_passed_on dnssec_ok query_type r = dnssec_ok || not (is_dnssec_type (type_of r.rdata)) || type_of r.rdata == query_type
+
+abbrev pub passed_on : MessageRequest → Query → List (Record RData) → List (Record RData)
+passed_on request query records = filter (is_passed_on (asks_for_dnssec request.edns) query.query_type) records
+
+-- a reply with RA, with AD or without it, and this response code (RFC 1035 section 4.1.1, RFC 4035 section 3.2.3)
+abbrev pub forwarded_metadata : Metadata → Bool → ℕ → Metadata
+forwarded_metadata request authentic code = record (response_to request) { recursion_available = true; authentic_data = authentic; response_code = code }
+
+-- the reply with what is passed on; the SOA of a negative answer stands before the other authorities
+abbrev pub findings_reply : MessageRequest → Option EdnsFields → Query → Bool → Findings → Reply
+findings_reply request edns query authentic found = reply_of_sections request edns (forwarded_metadata request.metadata authentic found.code)
+    (passed_on request query found.answers) (passed_on request query (option_to_list found.soa) ++ passed_on request query found.authorities) [] (passed_on request query found.additionals)
+
+-- The reply of a handler that asks elsewhere, to what the chain answered in the end. A client that does not want recursion, RD clear, is
+-- refused: Refused, which is 5 (RFC 1034 section 4.3.1).
+abbrev pub forwarded_reply : MessageRequest → Option EdnsFields → Query → Bool → Result AuthLookup LookupError → Reply
+forwarded_reply request edns query validates result = cond request.metadata.recursion_desired
+    (findings_reply request edns query (is_authentic validates request (findings_of query.name result)) (validated validates request.metadata (findings_of query.name result)))
+    (bare_reply request edns (forwarded_metadata request.metadata false 5))

@@ -1,0 +1,371 @@
+//! Replies of a server that asked elsewhere.
+
+ghost use Rattle.std.specs.Prelude.{◌≡◌, filter, option_to_list};
+ghost use Rattle.std.specs.List.{list_all, list_any};
+ghost use Rattle.hickory_base.specs.Lookups.{asks_for_dnssec};
+ghost use Rattle.hickory_base.specs.Responses.{header_of};
+ghost use Rattle.hickory_catalog.specs.Forwarded.{code_alone, findings_of, findings_reply, forwarded_code, forwarded_metadata, forwarded_reply, has_name, is_authentic, is_bogus, is_bogus_proof, is_dnssec_bogus, is_dnssec_type, is_named, is_no_soa, is_passed_on, is_secure, is_secure_proof, nothing_found, passed_on, records_found, validated, without_bogus};
+ghost use Rattle.hickory_catalog.specs.Sending.{IsSent};
+
+use crate::sending::{Sections, send_records};
+use hickory_base::errors::{DnsError, LookupError};
+use hickory_base::message_request::MessageRequest;
+use hickory_base::server::{ResponseHandler, ResponseInfo};
+use hickory_base::zone_store::AuthLookup;
+use hickory_wire::{
+    Boxed, Edns, Items, LowerQuery, Metadata, Name, Proof, Record, RecordType, ResponseCode,
+};
+use std::alloc::Global;
+use std::slice;
+
+/// What there is to pass on.
+#[derive(Drop)]
+pub(crate) struct Findings {
+    /// The response code.
+    pub code: ResponseCode,
+    /// The answers.
+    pub answers: Items<Record>,
+    /// The authorities, without SOA records where nothing was found.
+    pub authorities: Items<Record>,
+    /// The SOA of a negative answer (RFC 2308 section 3).
+    pub soa: Option<Boxed<Record>>,
+    /// The additionals.
+    pub additionals: Items<Record>,
+    /// Whether the proof is known to be wrong, whatever the records say.
+    pub is_bogus: bool,
+}
+
+/// A response code alone.
+fn code_alone(alloc: Global, code: ResponseCode, is_bogus: bool) -> Findings
+    ensures { result ≡ code_alone code is_bogus }
+{
+    Findings {
+        code,
+        answers: Items::new(alloc),
+        authorities: Items::new(alloc),
+        soa: None,
+        additionals: Items::new(alloc),
+        is_bogus,
+    }
+}
+
+/// What there is to pass on of records that were found.
+fn records_found(alloc: Global, found: AuthLookup) -> Findings
+    ensures { result ≡ records_found found }
+{
+    match found {
+        AuthLookup::Empty => code_alone(alloc, ResponseCode::NO_ERROR, false),
+        AuthLookup::Resolved(found) => Findings {
+            code: ResponseCode::NO_ERROR,
+            answers: found.answers,
+            authorities: found.authorities,
+            soa: None,
+            additionals: found.additionals,
+            is_bogus: false,
+        },
+        AuthLookup::Records { answers, .. } => Findings {
+            code: ResponseCode::NO_ERROR,
+            answers,
+            authorities: Items::new(alloc),
+            soa: None,
+            additionals: Items::new(alloc),
+            is_bogus: false,
+        },
+    }
+}
+
+/// Whether a record is another than the SOA of a zone.
+fn is_no_soa(given: &Record) -> bool
+    ensures { result ≡ is_no_soa given.now }
+{
+    given.rdata.record_type().value() != RecordType::SOA.value()
+}
+
+/// The records without the SOA records.
+fn without_soa(records: Items<Record>) -> Items<Record>
+    ensures { result ≡ filter is_no_soa records }
+{
+    let mut records = records.into_vec();
+    records.retain(|record| is_no_soa(record));
+    Items::from_vec(records)
+}
+
+/// Whether some record has the name, in any letter case.
+fn has_name(name: &Name, records: &[Record]) -> bool
+    ensures { result ≡ has_name name.now records.now }
+{
+    records.iter().any(|record| record.name == *name)
+}
+
+/// The code of a negative answer.
+fn forwarded_code(name: &Name, e: &LookupError) -> ResponseCode
+    ensures { result ≡ forwarded_code name.now e.now }
+{
+    let is_in_use = match e.authorities() {
+        None => false,
+        Some(records) => has_name(name, records),
+    };
+    if !is_in_use && e.is_nx_domain() {
+        ResponseCode::NX_DOMAIN
+    } else {
+        ResponseCode::NO_ERROR
+    }
+}
+
+/// What there is to pass on of a negative answer.
+fn nothing_found(alloc: Global, name: &Name, e: LookupError) -> Findings
+    ensures { result ≡ nothing_found name.now e }
+{
+    let mut findings = code_alone(alloc, forwarded_code(name, &e), false);
+    match e {
+        LookupError::Net(
+            DnsError::NoRecords {
+                authorities,
+                soa,
+                ..
+            },
+        ) => {
+            findings.authorities = without_soa(authorities);
+            findings.soa = soa;
+        }
+        _ => {}
+    }
+    findings
+}
+
+/// Whether the failure is a wrong DNSSEC proof.
+fn is_dnssec_bogus(e: &LookupError) -> bool
+    ensures { result ≡ is_dnssec_bogus e.now }
+{
+    matches!(e, LookupError::Net(DnsError::DnssecBogus))
+}
+
+/// What there is to pass on for an answer.
+fn findings_of(alloc: Global, name: &Name, outcome: Result<AuthLookup, LookupError>) -> Findings
+    ensures { result ≡ findings_of name.now outcome }
+{
+    match outcome {
+        Ok(found) => records_found(alloc, found),
+        Err(e) => {
+            if e.is_no_records_found() || e.is_nx_domain() {
+                nothing_found(alloc, name, e)
+            } else {
+                code_alone(alloc, ResponseCode::SERV_FAIL, is_dnssec_bogus(&e))
+            }
+        }
+    }
+}
+
+/// Whether a proof is wrong.
+fn is_bogus_proof(proof: Proof) -> bool
+    ensures { result ≡ is_bogus_proof proof }
+{
+    matches!(proof, Proof::Bogus)
+}
+
+/// Whether something is proved.
+fn is_secure_proof(proof: Proof) -> bool
+    ensures { result ≡ is_secure_proof proof }
+{
+    matches!(proof, Proof::Secure)
+}
+
+/// Whether the proof of some record is wrong.
+fn any_is_bogus(records: &[Record]) -> bool
+    ensures { result ≡ list_any (λ r. is_bogus_proof r.proof) records.now }
+{
+    records.iter().any(|record| is_bogus_proof(record.proof))
+}
+
+/// Whether all records are proved.
+fn all_are_secure(records: &[Record]) -> bool
+    ensures { result ≡ list_all (λ r. is_secure_proof r.proof) records.now }
+{
+    records.iter().all(|record| is_secure_proof(record.proof))
+}
+
+/// Whether what there is to pass on is known to be wrong.
+fn is_bogus(found: &Findings) -> bool
+    ensures { result ≡ is_bogus found.now }
+{
+    found.is_bogus
+        || match &found.soa {
+            None => any_is_bogus(found.answers.as_slice()),
+            Some(soa) => {
+                is_bogus_proof(soa.get().proof) || any_is_bogus(found.authorities.as_slice())
+            }
+        }
+}
+
+/// Whether there are records, and all are proved.
+fn is_secure(found: &Findings) -> bool
+    ensures { result ≡ is_secure found.now }
+{
+    if is_bogus(found) {
+        return false;
+    }
+    match &found.soa {
+        None => {
+            let answers = found.answers.as_slice();
+            !answers.is_empty() && all_are_secure(answers)
+        }
+        Some(soa) => {
+            is_secure_proof(soa.get().proof) && all_are_secure(found.authorities.as_slice())
+        }
+    }
+}
+
+/// What is passed on of a bogus answer.
+fn without_bogus(alloc: Global, found: Findings) -> Findings
+    ensures { result ≡ without_bogus found }
+{
+    let mut found = found;
+    found.code = ResponseCode::SERV_FAIL;
+    if found.soa.is_none() {
+        found.answers = Items::new(alloc);
+    } else {
+        found.soa = None;
+    }
+    found
+}
+
+/// What is passed on, for a handler that validates or not.
+fn validated(alloc: Global, validates: bool, request: &Metadata, found: Findings) -> Findings
+    ensures { result ≡ validated validates request.now found }
+{
+    if validates && is_bogus(&found) && !request.checking_disabled {
+        without_bogus(alloc, found)
+    } else {
+        found
+    }
+}
+
+/// Whether the request asks for DNSSEC records.
+fn asks_for_dnssec(request: &MessageRequest) -> bool
+    ensures { result ≡ asks_for_dnssec request.now.edns }
+{
+    match &request.edns {
+        None => false,
+        Some(edns) => edns.dnssec_ok(),
+    }
+}
+
+/// Whether the reply has AD.
+fn is_authentic(validates: bool, request: &MessageRequest, found: &Findings) -> bool
+    ensures { result ≡ is_authentic validates request.now found.now }
+{
+    validates && is_secure(found) && (request.metadata.authentic_data || asks_for_dnssec(request))
+}
+
+/// Whether a type is one of DNSSEC.
+fn is_dnssec_type(record_type: RecordType) -> bool
+    ensures { result ≡ is_dnssec_type record_type }
+{
+    [24, 25, 43, 46, 47, 48, 50, 51, 59, 60].contains(&record_type.value())
+}
+
+/// Whether a record is passed on.
+fn is_passed_on(dnssec_ok: bool, query_type: RecordType, given: &Record) -> bool
+    ensures { result ≡ is_passed_on dnssec_ok query_type given.now }
+{
+    let record_type = given.rdata.record_type();
+    dnssec_ok || !is_dnssec_type(record_type) || record_type.value() == query_type.value()
+}
+
+/// The records that are passed on.
+fn passed_on(request: &MessageRequest, query: &LowerQuery, records: Items<Record>) -> Items<Record>
+    ensures { result ≡ passed_on request.now query.now records }
+{
+    let dnssec_ok = asks_for_dnssec(request);
+    let query_type = query.query_type();
+    let mut records = records.into_vec();
+    records.retain(|record| is_passed_on(dnssec_ok, query_type, record));
+    Items::from_vec(records)
+}
+
+/// The SOA that is passed on, as the front of the authority section.
+fn soa_passed_on<'a>(
+    request: &MessageRequest,
+    query: &LowerQuery,
+    soa: &'a Option<Boxed<Record>>,
+) -> &'a [Record]
+    ensures { result.now ≡ passed_on request.now query.now (option_to_list soa.now) }
+{
+    match soa {
+        None => &[],
+        Some(soa) => {
+            if is_passed_on(asks_for_dnssec(request), query.query_type(), soa.get()) {
+                slice::from_ref(soa.get())
+            } else {
+                &[]
+            }
+        }
+    }
+}
+
+/// The metadata of a reply with RA.
+fn forwarded_metadata(request: &Metadata, authentic: bool, code: ResponseCode) -> Metadata
+    ensures { result ≡ forwarded_metadata request.now authentic code }
+{
+    let mut metadata = Metadata::response_from_request(request);
+    metadata.recursion_available = true;
+    metadata.authentic_data = authentic;
+    metadata.response_code = code;
+    metadata
+}
+
+/// Hands over what is passed on.
+fn send_findings<R: ResponseHandler>(
+    sink: &mut R,
+    alloc: Global,
+    request: &MessageRequest,
+    edns: Option<Edns>,
+    query: &LowerQuery,
+    authentic: bool,
+    found: Findings,
+) -> ResponseInfo
+    ensures { IsSent R.shows R.informs request.now.metadata (R.settings sink.old) (R.settings sink.new) (R.entries sink.old) (R.entries sink.new) (R.failures sink.old) (R.failures sink.new) (findings_reply request.now edns query.now authentic found) (header_of result) }
+{
+    let Findings {
+        code,
+        answers,
+        authorities,
+        soa,
+        additionals,
+        ..
+    } = found;
+    let metadata = forwarded_metadata(&request.metadata, authentic, code);
+    let answers = passed_on(request, query, answers);
+    let authorities = passed_on(request, query, authorities);
+    let additionals = passed_on(request, query, additionals);
+    let sections = Sections {
+        answers: answers.as_slice(),
+        authorities: soa_passed_on(request, query, &soa),
+        other_authorities: authorities.as_slice(),
+        soa: &[],
+        additionals: additionals.as_slice(),
+    };
+    send_records(sink, alloc, request, edns, metadata, sections)
+}
+
+/// Answers for a handler that asks elsewhere, to what the chain answered in the end, and hands the reply over.
+pub(crate) fn send_forwarded<R: ResponseHandler>(
+    sink: &mut R,
+    alloc: Global,
+    request: &MessageRequest,
+    edns: Option<Edns>,
+    query: &LowerQuery,
+    validates: bool,
+    outcome: Result<AuthLookup, LookupError>,
+) -> ResponseInfo
+    ensures { IsSent R.shows R.informs request.now.metadata (R.settings sink.old) (R.settings sink.new) (R.entries sink.old) (R.entries sink.new) (R.failures sink.old) (R.failures sink.new) (forwarded_reply request.now edns query.now validates outcome) (header_of result) }
+{
+    if !request.metadata.recursion_desired {
+        let refused = forwarded_metadata(&request.metadata, false, ResponseCode::REFUSED);
+        return send_records(sink, alloc, request, edns, refused, Sections::none());
+    }
+    let found = findings_of(alloc, &query.original().name, outcome);
+    let authentic = is_authentic(validates, request, &found);
+    let found = validated(alloc, validates, &request.metadata, found);
+    send_findings(sink, alloc, request, edns, query, authentic, found)
+}
