@@ -43,7 +43,7 @@ denial_section denial soa = records_given denial
 
 -- a negative reply: the denials, and the SOA of the zone behind them (RFC 2308 section 3, RFC 4035 section 3.1.3)
 abbrev pub negative_reply : MessageRequest → Option EdnsFields → LookupError → Flow → Flow → Reply
-negative_reply request edns e denial soa = reply_of_sections request edns (authoritative_metadata request.metadata (negative_code e)) [] (denial_section denial soa) (records_given soa) []
+negative_reply request edns e denial soa = reply_of_sections request edns (authoritative_metadata request.metadata (negative_code e)) [] (denial_section denial soa ++ records_given soa) []
 
 -- the first record is one of type NS, which is 2
 abbrev pub starts_with_ns : List (Record RData) → Bool
@@ -74,7 +74,7 @@ additional_section found = or_none (additionals_of found) where
 -- the Rust crate, where RFC 1034 section 4.3.2 would leave it clear.
 abbrev pub positive_reply : MessageRequest → Option EdnsFields → ℕ → AuthLookup → Flow → Reply
 positive_reply request edns query_type found beside = reply_of_sections request edns (authoritative_metadata request.metadata 0)
-    (answer_section query_type (answers_of found)) (referral_section query_type (answers_of found) ++ records_given beside) [] (additional_section found)
+    (answer_section query_type (answers_of found)) (referral_section query_type (answers_of found) ++ records_given beside) (additional_section found)
 
 -- What else a handler gives for the authority section of a positive reply: with the SOA of the zone, type 6, its servers, type 2; with
 -- other records a denial, where one is wanted.

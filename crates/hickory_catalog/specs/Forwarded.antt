@@ -126,7 +126,7 @@ forwarded_metadata request authentic code = record (response_to request) { recur
 -- the reply with what is passed on; the SOA of a negative answer stands before the other authorities
 abbrev pub findings_reply : MessageRequest → Option EdnsFields → Query → Bool → Findings → Reply
 findings_reply request edns query authentic found = reply_of_sections request edns (forwarded_metadata request.metadata authentic found.code)
-    (passed_on request query found.answers) (passed_on request query (option_to_list found.soa) ++ passed_on request query found.authorities) [] (passed_on request query found.additionals)
+    (passed_on request query found.answers) (passed_on request query (option_to_list found.soa) ++ passed_on request query found.authorities) (passed_on request query found.additionals)
 
 -- The reply of a handler that asks elsewhere, to what the chain answered in the end. A client that does not want recursion, RD clear, is
 -- refused: Refused, which is 5 (RFC 1034 section 4.3.1).

@@ -24,9 +24,9 @@ bare_reply request edns metadata = record {
   signature = None;
 }
 
--- the same with records, section by section, the SOA of a negative reply behind the authorities
-abbrev pub reply_of_sections : MessageRequest → Option EdnsFields → Metadata → List (Record RData) → List (Record RData) → List (Record RData) → List (Record RData) → Reply
-reply_of_sections request edns metadata answers authorities soa additionals = record (bare_reply request edns metadata) { answers = answers; authorities = authorities; soa = soa; additionals = additionals }
+-- the same with records: answers, authorities, additionals
+abbrev pub reply_of_sections : MessageRequest → Option EdnsFields → Metadata → List (Record RData) → List (Record RData) → List (Record RData) → Reply
+reply_of_sections request edns metadata answers authorities additionals = record (bare_reply request edns metadata) { answers = answers; authorities = authorities; additionals = additionals }
 
 -- an error reply: a response code and no records
 abbrev pub error_reply : MessageRequest → Option EdnsFields → ℕ → Reply

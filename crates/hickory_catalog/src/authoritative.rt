@@ -137,7 +137,6 @@ fn send_positive<R: ResponseHandler>(
         answers,
         authorities,
         other_authorities: records_given(beside),
-        soa: &[],
         additionals: additional_section(found),
     };
     send_records(sink, alloc, request, edns, metadata, sections)
@@ -159,8 +158,7 @@ fn send_negative<R: ResponseHandler>(
     let sections = Sections {
         answers: &[],
         authorities: denial_section(denial, soa),
-        other_authorities: &[],
-        soa: records_given(soa),
+        other_authorities: records_given(soa),
         additionals: &[],
     };
     send_records(sink, alloc, request, edns, metadata, sections)

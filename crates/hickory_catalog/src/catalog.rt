@@ -105,10 +105,16 @@ impl<S: ReplySigner, H: ZoneHandler> Catalog<S, H> {
     /// since 1970. QR, opcode and EDNS version of the request are not looked at. The reply's OPT record has the high bits of
     /// its response code (RFC 6891 section 6.1.3).
     ///
-    /// Where there is not just one question the reply is FormErr, where no zone answers for the name Refused. For a type but SOA and AXFR a chain of one primary or
-    /// secondary handler that proves no denial is asked; what it finds, without a context for the signer, is told with
-    /// AA, a referral in the authority section (RFC 1034 section 4.3.2, step 3b). Every other case is not implemented
-    /// yet, and is answered ServFail without EDNS.
+    /// Where there is not just one question the reply is FormErr, where no zone answers for the name Refused. Else the
+    /// handlers of the zone are asked from left to right until one answers; after its `Continue` each other one is
+    /// consulted, from left to right, about the answer so far, and where nobody answers in the end the reply is ServFail.
+    /// The handler that was asked makes the reply: a primary or secondary one with AA, with denials where they are wanted
+    /// (RFC 4035 section 3.1.3) and the SOA of the zone in a negative reply (RFC 2308 section 3), an external one with RA,
+    /// judged by DNSSEC proofs where it validates (RFC 4035 section 3.2), and only where RD is set. What the handlers are
+    /// told to take care of is what the request's EDNS says, and in a consult what the reply's says.
+    ///
+    /// A transfer, and an answer with a context for the signer, are not implemented yet, and are answered ServFail without
+    /// EDNS.
     ///
     /// Where the sink fails the answer tells of ServFail. `Memory` says that no reply was handed over.
     pub fn lookup<R: ResponseHandler>(

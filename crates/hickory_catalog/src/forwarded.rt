@@ -342,7 +342,6 @@ fn send_findings<R: ResponseHandler>(
         answers: answers.as_slice(),
         authorities: soa_passed_on(request, query, &soa),
         other_authorities: authorities.as_slice(),
-        soa: &[],
         additionals: additionals.as_slice(),
     };
     send_records(sink, alloc, request, edns, metadata, sections)

@@ -13,6 +13,7 @@ use hickory_base::message_response::{MessageResponse, MessageResponseBuilder};
 use hickory_base::server::{RecordRef, ResponseHandler, ResponseInfo};
 use hickory_wire::{Edns, Header, HeaderCounts, MessageType, Metadata, Record, ResponseCode};
 use std::alloc::Global;
+use std::iter;
 
 /// What is told where the sink failed: ServFail, with the id and the opcode of the request.
 fn failure(request: &Metadata) -> ResponseInfo
@@ -98,8 +99,6 @@ pub(crate) struct Sections<'a> {
     pub authorities: &'a [Record],
     /// The rest of the authority section.
     pub other_authorities: &'a [Record],
-    /// The SOA of the zone, behind the authorities.
-    pub soa: &'a [Record],
     /// The additional section.
     pub additionals: &'a [Record],
 }
@@ -110,14 +109,12 @@ impl<'a> Sections<'a> {
         ensures answers { result.answers.now ≡ [] }
         ensures authorities { result.authorities.now ≡ [] }
         ensures other_authorities { result.other_authorities.now ≡ [] }
-        ensures soa { result.soa.now ≡ [] }
         ensures additionals { result.additionals.now ≡ [] }
     {
         Sections {
             answers: &[],
             authorities: &[],
             other_authorities: &[],
-            soa: &[],
             additionals: &[],
         }
     }
@@ -133,7 +130,7 @@ pub(crate) fn send_records<R: ResponseHandler>(
     sections: Sections<'_>,
 ) -> ResponseInfo
     ensures { IsSent R.shows R.informs request.now.metadata (R.settings sink.old) (R.settings sink.new) (R.entries sink.old) (R.entries sink.new) (R.failures sink.old) (R.failures sink.new)
-        (reply_of_sections request.now edns metadata sections.entry.answers.now (sections.entry.authorities.now ++ sections.entry.other_authorities.now) sections.entry.soa.now sections.entry.additionals.now) (header_of result) }
+        (reply_of_sections request.now edns metadata sections.entry.answers.now (sections.entry.authorities.now ++ sections.entry.other_authorities.now) sections.entry.additionals.now) (header_of result) }
 {
     let edns = with_high_code(metadata.response_code, edns);
     let builder = MessageResponseBuilder::new(&request.queries, edns.as_ref());
@@ -144,7 +141,7 @@ pub(crate) fn send_records<R: ResponseHandler>(
             .authorities
             .iter()
             .chain(sections.other_authorities.iter()),
-        sections.soa.iter(),
+        iter::empty::<&Record>(),
         sections.additionals.iter(),
     );
     send(sink, alloc, &request.metadata, response)

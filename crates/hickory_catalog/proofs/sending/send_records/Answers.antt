@@ -1,11 +1,11 @@
 use Rattle.std.proofs.Common.{◌≡◌, ◌∙◌, ap, rules, Option, refl}
-use Rattle.std.specs.Iterator.Adapters.{chain_first, chain_first_done, chain_second, chain_second_done}
+use Rattle.std.specs.Iterator.Adapters.{chain_first, chain_first_done, chain_second, chain_second_done, once_item}
 use Rattle.std.specs.Option.{option_copied}
 use Rattle.std.specs.Slice.Iter.{iter_rest}
 use Rattle.hickory_wire.specs.EdnsFields.{EdnsFields}
 use Rattle.hickory_base.specs.Responses.{ReplyBase}
 use Rattle.hickory_catalog.specs.ReplyEdns.{with_high_code}
-use Rattle.hickory_catalog.proofs.SentReplies.{given_by_chain, given_by_slice, reply_of_built}
+use Rattle.hickory_catalog.proofs.SentReplies.{given_by_chain, given_by_empty, given_by_slice, reply_of_built}
 use Rattle.hickory_catalog.proofs.sending.send_records.Goals as goal
 
 pub returns : goal.returns
@@ -20,5 +20,5 @@ returns g c =
     (ap (λ z. iter_rest (chain_second z)) b.authorities ∙ (ap iter_rest c.chain.ensures.second ∙ c.iter-3.ensures.rest))
     (ap chain_first_done b.authorities ∙ c.chain.ensures.first_done)
     (ap chain_second_done b.authorities ∙ c.chain.ensures.second_done))
-    (given_by_slice is.soa (ap iter_rest b.soa ∙ c.iter-4.ensures.rest))
-    (given_by_slice is.additionals (ap iter_rest b.additionals ∙ c.iter-5.ensures.rest)))
+    (given_by_empty is.soa (ap once_item b.soa ∙ c.empty.ensures.item))
+    (given_by_slice is.additionals (ap iter_rest b.additionals ∙ c.iter-4.ensures.rest)))
