@@ -19,7 +19,7 @@ use Rattle.hickory_base.specs.declared.zone_store.handler.ZoneHandler.{Ghosts}
 use Rattle.hickory_base.specs.declared.zone_store.lookup.AuthLookup.{AuthLookup}
 use Rattle.hickory_base.specs.declared.zone_store.lookup.LookupOptions.{LookupOptions}
 use Rattle.hickory_base.specs.declared.zone_store.lookup.LookupControlFlow.TheVariants.{Skip}
-use Rattle.hickory_catalog.specs.Denying.{AnswerDenied, NothingDenied, is_wildcard_match, records_given}
+use Rattle.hickory_catalog.specs.Denying.{DenialBesideAnswer, DenialOfNegative, is_wildcard_match, records_given}
 use Rattle.hickory_catalog.specs.Replies.{bare_reply, reply_of_sections}
 use Rattle.hickory_catalog.specs.Transcripts.{options_of, wants_memory}
 
@@ -32,7 +32,8 @@ abbrev pub refusal_code : LookupError → Option ℕ
 refusal_code (ResponseCode code) = cond (code == 5 || code == 9) (Some code) None
 refusal_code other = None
 
--- the code of a negative reply: the name does not exist, or it has no such records (RFC 2308 sections 2.1 and 2.2)
+-- The code of a negative reply: NXDomain, which is 3, where the name does not exist (RFC 2308 section 2.1), else NoError. So any other
+-- failure looks like no data (section 2.2), ServFail too, as in the Rust crate.
 abbrev pub negative_code : LookupError → ℕ
 negative_code e = cond (is_nx_domain e) 3 0
 
@@ -41,7 +42,8 @@ abbrev pub denial_section : Flow → Flow → List (Record RData)
 denial_section denial Skip = []
 denial_section denial soa = records_given denial
 
--- a negative reply: the denials, and the SOA of the zone behind them (RFC 2308 section 3, RFC 4035 section 3.1.3)
+-- A negative reply: the denials, and the SOA of the zone behind them (RFC 2308 section 3, RFC 4035 section 3.1.3). Its TTL is as the handler
+-- gave it; RFC 2308 section 3 would have the lesser of it and MINIMUM.
 abbrev pub negative_reply : MessageRequest → Option EdnsFields → LookupError → Flow → Flow → Reply
 negative_reply request edns e denial soa = reply_of_sections request edns (authoritative_metadata request.metadata (negative_code e)) [] (denial_section denial soa ++ records_given soa) []
 
@@ -71,7 +73,7 @@ additional_section found = or_none (additionals_of found) where
   or_none (Some records) = records
 
 -- The reply with what was found, and with what else the handler gave for the authority section. AA is set with a referral too, as in
--- the Rust crate, where RFC 1034 section 4.3.2 would leave it clear.
+-- the Rust crate, where RFC 1034 section 6.2.6 has it clear.
 abbrev pub positive_reply : MessageRequest → Option EdnsFields → ℕ → AuthLookup → Flow → Reply
 positive_reply request edns query_type found beside = reply_of_sections request edns (authoritative_metadata request.metadata 0)
     (answer_section query_type (answers_of found)) (referral_section query_type (answers_of found) ++ records_given beside) (additional_section found)
@@ -81,7 +83,7 @@ positive_reply request edns query_type found beside = reply_of_sections request 
 abbrev pub BesideAnswer : {H : Type 0} → Ghosts H → H → Query → LookupOptions → AuthLookup → Flow → Type 0
 BesideAnswer handler h query options found given = MatchBool (query.query_type == 6)
     (handler.lookup_gives h (handler.origin_of h) 2 None options given)
-    (AnswerDenied handler h query (is_wildcard_match (answers_of found)) options given)
+    (DenialBesideAnswer handler h query (is_wildcard_match (answers_of found)) options given)
 
 -- The reply of a handler that holds the zone, to what the chain answered in the end. Each call that it takes is one of the handler that
 -- was asked, with the options of the request and without information on it; none of them wants memory.
@@ -91,9 +93,9 @@ pub data AuthoritativeReply {H : Type 0} (handler : Ghosts H) (h : H) (request :
   refuses : {e : LookupError} {code : ℕ} → refusal_code e ≡ Some code
       → reply ≡ bare_reply request.message edns (authoritative_metadata request.message.metadata code)
       → AuthoritativeReply handler h request edns query reply (Err e)
-  -- It has nothing: a denial is asked for, and the SOA of the zone, type 6.
+  -- Any other error: where DO is set and the zone can deny, a denial is asked for; then the SOA of the zone, type 6.
   denies : {e : LookupError} (denial soa : Flow) → refusal_code e ≡ None
-      → NothingDenied handler h query (options_of request) denial → wants_memory denial ≡ false
+      → DenialOfNegative handler h query (options_of request) denial → wants_memory denial ≡ false
       → handler.lookup_gives h (handler.origin_of h) 6 None (options_of request) soa → wants_memory soa ≡ false
       → reply ≡ negative_reply request.message edns e denial soa
       → AuthoritativeReply handler h request edns query reply (Err e)

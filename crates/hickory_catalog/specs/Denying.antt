@@ -1,4 +1,4 @@
--- Which denials go with an authoritative reply, and what else the handler that was asked is asked for it.
+-- Which denials go with an authoritative reply.
 use Rattle.std.specs.Prelude.{◌≡◌, ◌==◌, nat_lt, ℕ, Bool, true, false, cond, List, [], slice_get, Option, Some, None, Ok}
 use Rattle.std.specs.Bool.{MatchBool}
 use Rattle.std.specs.List.{list_any}
@@ -37,8 +37,8 @@ is_expanded r = fewer (signed_labels r.rdata) where
 abbrev pub is_wildcard_match : List (Record RData) → Bool
 is_wildcard_match records = list_any is_expanded records
 
--- A denial is wanted beside records that were found: in a zone with NSEC3 always, in one with NSEC where the records come of a wildcard
--- (RFC 4035 section 3.1.3.3, RFC 5155 section 7.2.6).
+-- Beside records that were found a denial is asked for in a zone with NSEC where they come of a wildcard (RFC 4035 section 3.1.3.3), and in
+-- one with NSEC3 always: the handler is told whether they do (RFC 5155 section 7.2.6). DO is not looked at here; it is in the options.
 abbrev pub needs_denial : Option NxProofKind → Bool → Bool
 needs_denial None from_wildcard = false
 needs_denial (Some Nsec) from_wildcard = from_wildcard
@@ -59,11 +59,11 @@ DenialGiven handler h query from_wildcard options (Some (Nsec3 algorithm salt it
 }) options given
 
 -- the denial beside an answer; nothing is asked where none is wanted
-abbrev pub AnswerDenied : {H : Type 0} → Ghosts H → H → Query → Bool → LookupOptions → Flow → Type 0
-AnswerDenied handler h query from_wildcard options given = MatchBool (needs_denial (handler.nx_proof_kind_of h) from_wildcard)
+abbrev pub DenialBesideAnswer : {H : Type 0} → Ghosts H → H → Query → Bool → LookupOptions → Flow → Type 0
+DenialBesideAnswer handler h query from_wildcard options given = MatchBool (needs_denial (handler.nx_proof_kind_of h) from_wildcard)
     (DenialGiven handler h query from_wildcard options (handler.nx_proof_kind_of h) given) (given ≡ Skip)
 
 -- the denial in the place of an answer; nothing is asked where the client takes no DNSSEC records
-abbrev pub NothingDenied : {H : Type 0} → Ghosts H → H → Query → LookupOptions → Flow → Type 0
-NothingDenied handler h query options given = MatchBool options.dnssec_ok
+abbrev pub DenialOfNegative : {H : Type 0} → Ghosts H → H → Query → LookupOptions → Flow → Type 0
+DenialOfNegative handler h query options given = MatchBool options.dnssec_ok
     (DenialGiven handler h query false options (handler.nx_proof_kind_of h) given) (given ≡ Skip)

@@ -43,7 +43,7 @@ is_named name r = name_eq r.name name
 abbrev pub has_name : DomainName → List (Record RData) → Bool
 has_name name records = list_any (is_named name) records
 
--- a record but the SOA of a zone, which is of type 6
+-- any record but an SOA, which is of type 6
 abbrev pub is_no_soa : Record RData → Bool
 is_no_soa r = not (type_of r.rdata == 6)
 
@@ -64,8 +64,8 @@ abbrev pub findings_of : DomainName → Result AuthLookup LookupError → Findin
 findings_of name (Ok found) = records_found found
 findings_of name (Err e) = cond (is_no_records_found e || is_nx_domain e) (nothing_found name e) (code_alone 2 (is_dnssec_bogus e))
 
--- The records by whose proofs the whole is judged: the answers, or for a negative answer with an SOA that SOA and the authorities
--- (RFC 4035 section 3.2.3).
+-- The records by whose proofs the whole is judged: the answers, or with a kept SOA that SOA and the authorities. RFC 4035 section 3.2.3
+-- would judge the authorities beside answers too.
 abbrev pub judged_records : Findings → List (Record RData)
 judged_records found = judged found.soa where
   judged : Option (Record RData) → List (Record RData)
@@ -92,7 +92,8 @@ is_no_record (r ∷ rs) = false
 abbrev pub is_secure : Findings → Bool
 is_secure found = not (is_bogus found) && not (is_no_record (judged_records found)) && list_all (λ r. is_secure_proof r.proof) (judged_records found)
 
--- what is passed on of a bogus answer: ServFail, without the records by which it was judged but the authorities (RFC 4035 section 5.5)
+-- What is passed on of a bogus answer: ServFail, which is 2. The answers are dropped, or where an SOA was kept that SOA; authorities and
+-- additionals stay. RFC 4035 section 5.5 would pass on no records.
 abbrev pub without_bogus : Findings → Findings
 without_bogus found = dropped found.soa where
   dropped : Option (Record RData) → Findings
@@ -111,8 +112,8 @@ is_authentic validates request found = validates && is_secure found && (request.
 abbrev pub is_dnssec_type : ℕ → Bool
 is_dnssec_type n = list_any (nat_eq n) (24 ∷ 25 ∷ 43 ∷ 46 ∷ 47 ∷ 48 ∷ 50 ∷ 51 ∷ 59 ∷ 60 ∷ [])
 
--- A record is passed on: any one to whom takes DNSSEC records; else one of another type, or of the very type that was asked for
--- (RFC 4035 section 3.2.1).
+-- With DO every record is passed on; without it all but those of a DNSSEC type, unless that very type was asked for (RFC 4035 section
+-- 3.2.1).
 abbrev pub is_passed_on : Bool → ℕ → Record RData → Bool
 is_passed_on dnssec_ok query_type r = dnssec_ok || not (is_dnssec_type (type_of r.rdata)) || type_of r.rdata == query_type
 
@@ -129,7 +130,7 @@ findings_reply request edns query authentic found = reply_of_sections request ed
     (passed_on request query found.answers) (passed_on request query (option_to_list found.soa) ++ passed_on request query found.authorities) (passed_on request query found.additionals)
 
 -- The reply of a handler that asks elsewhere, to what the chain answered in the end. A client that does not want recursion, RD clear, is
--- refused: Refused, which is 5 (RFC 1034 section 4.3.1).
+-- refused as in the Rust crate: Refused, which is 5. RFC 1034 section 4.3.1 would answer it from what is known here.
 abbrev pub forwarded_reply : MessageRequest → Option EdnsFields → Query → Bool → Result AuthLookup LookupError → Reply
 forwarded_reply request edns query validates result = cond request.metadata.recursion_desired
     (findings_reply request edns query (is_authentic validates request (findings_of query.name result)) (validated validates request.metadata (findings_of query.name result)))

@@ -37,7 +37,7 @@ abbrev pub is_out_of_memory : Result AuthLookup LookupError → Bool
 is_out_of_memory (Ok found) = false
 is_out_of_memory (Err e) = is_memory e
 
--- The reply to what a chain of handlers answered in the end, one of which was asked, and with which context for a signer.
+-- The reply to the chain's final answer, with its context for a signer; `h` is the handler that was asked.
 pub data ResultReply {H : Type 0} (handler : Ghosts H) (h : H) (request : ReceivedRequest) (edns : Option EdnsFields) (query : Query) (reply : Reply)
     : Result AuthLookup LookupError → Option TSigResponseContext → Type 0 where
   -- An answer with a context is not implemented.

@@ -3,8 +3,8 @@ use Rattle.std.specs.Prelude.{◌==◌, ◌&&◌, ◌/◌, ℕ, Bool, cond, max,
 use Rattle.hickory_wire.specs.EdnsFields.{EdnsFields}
 use Rattle.hickory_wire.specs.declared.edns.EdnsOption.{EdnsOption}
 
--- The client asks for the server's identifier: it sends the option NSID, which is 3 (RFC 5001 section 2.1). What it has as the option's
--- data does not matter.
+-- The client asks for the server's identifier: it sends the option NSID (RFC 5001 section 2.1), which is 3 (section 2.3). Data in it are
+-- ignored (section 2.2).
 abbrev pub asks_for_nsid : EdnsFields → Bool
 asks_for_nsid asked = is_some (find (λ option. option.code == 3) asked.options)
 
@@ -14,8 +14,9 @@ abbrev pub nsid_options : Option (List ℕ) → EdnsFields → List EdnsOption
 nsid_options None asked = []
 nsid_options (Some identifier) asked = cond (asked.version == 0 && asks_for_nsid asked) (record { code = 3; bytes = identifier } ∷ []) []
 
--- A reply has an OPT record where the request has one (RFC 6891 section 6.1.1). It says version 0, DO as asked (RFC 3225 section 3), the
--- payload that was asked for, but at least 512 (RFC 6891 section 6.2.3), and no other flag (section 6.1.4).
+-- A reply has an OPT record just where the request has one (RFC 6891 sections 6.1.1 and 7). It says version 0, DO as asked (RFC 3225
+-- section 3), the payload that was asked for, but at least 512 (RFC 6891 section 6.2.3; section 6.2.4 would have the server's own), and no
+-- other flag (section 6.1.4).
 abbrev pub reply_edns : Option (List ℕ) → Option EdnsFields → Option EdnsFields
 reply_edns identifier None = None
 reply_edns identifier (Some asked) = Some (record {

@@ -17,8 +17,8 @@ abbrev pub is_request : MessageType → Bool
 is_request message_type.Query = true
 is_request message_type.Response = false
 
--- a message with QR set is no request: FormErr, which is 1; opcode Query, which is 0, is served, any other is NotImp, which is 4
--- (RFC 1035 section 4.1.1)
+-- A message with QR set is answered FormErr, which is 1, as in the Rust crate; opcode Query, which is 0, is served; any other is NotImp,
+-- which is 4, Update too for now (codes: RFC 1035 section 4.1.1).
 abbrev pub header_fault : MessageRequest → Option ℕ
 header_fault request = cond (is_request request.metadata.message_type) (cond (request.metadata.op_code == 0) None (Some 4)) (Some 1)
 
@@ -27,19 +27,19 @@ header_fault request = cond (is_request request.metadata.message_type) (cond (re
 abbrev pub request_fault : MessageRequest → Option ℕ
 request_fault request = cond (edns_version request.edns == 0) (header_fault request) (Some 16)
 
--- The reply to a request, for zones in which this may identify the server.
+-- The reply to a request, by a server with these zones and this identifier, if it has one.
 pub data RequestReply {H : Type 0} (handler : Ghosts H) (zones : List (DomainName × List H)) (identifier : Option (List ℕ)) (request : ReceivedRequest) (reply : Reply) : Type 0 where
   -- It is not looked into.
   refused : {code : ℕ} → request_fault request.message ≡ Some code
       → reply ≡ error_reply request.message (reply_edns identifier request.message.edns) code
       → RequestReply handler zones identifier request reply
-  -- It asks.
+  -- It is a query.
   asks : request_fault request.message ≡ None
       → QueryReply handler zones request (reply_edns identifier request.message.edns) reply
       → RequestReply handler zones identifier request reply
 
--- A reply has the identifier of its request (RFC 1035 section 4.1.1), and an OPT record just where the request has one (RFC 6891 section
--- 6.1.1); in a case that is not implemented it has none.
+-- A reply has the identifier of its request (RFC 1035 section 4.1.1), and an OPT record just where the request has one (RFC 6891
+-- sections 6.1.1 and 7); in a case that is not implemented it has none.
 pub record BelongsTo (request : ReceivedRequest) (reply : Reply) : Type 0 where
   pub id : reply.metadata.id ≡ request.message.metadata.id
   pub edns : (is_some reply.edns ≡ is_some request.message.edns) ⊎ (reply ≡ unimplemented_reply request.message)

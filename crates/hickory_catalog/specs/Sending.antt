@@ -10,7 +10,7 @@ use Rattle.hickory_wire.specs.declared.header.Metadata.{Metadata}
 abbrev pub AddsReply : {Entry : Type 0} → (Reply → Entry → Type 0) → List Entry → List Entry → Reply → Type 0
 AddsReply {Entry} shows old new reply = (entry : Entry) × shows reply entry × (new ≡ old ++ entry ∷ [])
 
--- What is told where the sink failed: the request's id and opcode, ServFail (2), no flag and nothing in any section
+-- What is told where the sink failed: the request's id and opcode, ServFail (2), no flag but QR and nothing in any section
 -- (RFC 1035 section 4.1.1).
 abbrev pub failure_header : Metadata → Header
 failure_header request = record {

@@ -65,8 +65,8 @@ Follows handler info options others (Continue result) context final final_contex
 Follows handler info options others (Break result) context final final_context = (final ≡ Break result) × (final_context ≡ context)
 Follows handler info options others Skip context final final_context = (final ≡ Skip) × (final_context ≡ None)
 
--- What a chain of handlers answers to a request: one of them, at this place, is asked, and then each other one may be consulted, with
--- options of its own.
+-- What a chain of handlers answers to a request: they are asked from left to right until one, at this place, answers; after its `Continue`
+-- each other one is consulted, with the options of consults.
 pub record ChainAnswers {H : Type 0} (handler : Ghosts H) (request : ReceivedRequest) (info : RequestInformation) (consult_options : LookupOptions)
     (chain : List H) (place : ℕ) (final : Flow) (final_context : Option TSigResponseContext) : Type 0 where
   pub answer : Flow

@@ -110,8 +110,8 @@ impl<S: ReplySigner, H: ZoneHandler> Catalog<S, H> {
     /// consulted, from left to right, about the answer so far, and where nobody answers in the end the reply is ServFail.
     /// The handler that was asked makes the reply: a primary or secondary one with AA, with denials where they are wanted
     /// (RFC 4035 section 3.1.3) and the SOA of the zone in a negative reply (RFC 2308 section 3), an external one with RA,
-    /// judged by DNSSEC proofs where it validates (RFC 4035 section 3.2), and only where RD is set. What the handlers are
-    /// told to take care of is what the request's EDNS says, and in a consult what the reply's says.
+    /// judged by DNSSEC proofs where it validates (RFC 4035 section 3.2); without RD its reply is Refused. Searches and
+    /// further lookups are told DO of the request's EDNS, consults DO of the reply's. `now` is not used yet.
     ///
     /// A transfer, and an answer with a context for the signer, are not implemented yet, and are answered ServFail without
     /// EDNS.
@@ -139,7 +139,7 @@ impl<S: ReplySigner, H: ZoneHandler> Catalog<S, H> {
 impl<S: ReplySigner, H: ZoneHandler> RequestHandler for Catalog<S, H> {
     /// Hands the sink one reply. Where the request has an OPT record, so has the reply: version 0, DO as asked, the payload
     /// that was asked for but at least 512 bytes, and the server's identifier where it is set and the request asks for it
-    /// (RFC 6891 section 6, RFC 5001).
+    /// (RFC 6891 section 6, RFC 5001). `now` is not used yet.
     ///
     /// An EDNS version but 0 is answered BADVERS, a message with QR set FormErr, an opcode but Query NotImp; what is wrong
     /// first decides. Any other request is answered as `lookup` does with that EDNS.

@@ -3,7 +3,7 @@
 ghost use Rattle.std.specs.Prelude.{◌≡◌, false, IfOk, IfErr};
 ghost use Rattle.std.specs.Option.{option_copied};
 ghost use Rattle.hickory_base.specs.Lookups.{answers_of};
-ghost use Rattle.hickory_catalog.specs.Denying.{AnswerDenied, DenialGiven, NothingDenied, is_expanded, is_wildcard_match, needs_denial, records_given, signed_labels};
+ghost use Rattle.hickory_catalog.specs.Denying.{DenialBesideAnswer, DenialGiven, DenialOfNegative, is_expanded, is_wildcard_match, needs_denial, records_given, signed_labels};
 ghost use Rattle.hickory_catalog.specs.Transcripts.{wants_memory};
 
 use crate::chains::wants_memory;
@@ -132,7 +132,7 @@ pub(crate) fn answer_denial<H: ZoneHandler>(
     records: &[Record],
     options: LookupOptions,
 ) -> LookupControlFlow<AuthLookup>
-    ensures { AnswerDenied H.ZoneHandler handler.now query.now (is_wildcard_match records.now) options result }
+    ensures { DenialBesideAnswer H.ZoneHandler handler.now query.now (is_wildcard_match records.now) options result }
 {
     let from_wildcard = is_wildcard_match(records);
     if needs_denial(handler.nx_proof_kind(), from_wildcard) {
@@ -149,7 +149,7 @@ pub(crate) fn nothing_denial<H: ZoneHandler>(
     query: &LowerQuery,
     options: LookupOptions,
 ) -> LookupControlFlow<AuthLookup>
-    ensures { NothingDenied H.ZoneHandler handler.now query.now options result }
+    ensures { DenialOfNegative H.ZoneHandler handler.now query.now options result }
 {
     if options.dnssec_ok {
         denial(handler, alloc, query, false, options)

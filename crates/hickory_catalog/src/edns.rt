@@ -49,7 +49,7 @@ pub(crate) fn cloned(edns: Option<&Edns>) -> Result<Option<Edns>, AllocError>
     }
 }
 
-/// What it says with the high eight bits of a response code.
+/// What the OPT record says, with the high eight bits of this response code.
 pub(crate) fn with_high_code(code: ResponseCode, edns: Option<Edns>) -> Option<Edns>
     ensures { result ≡ with_high_code code edns }
 {

@@ -27,7 +27,7 @@ pub(crate) struct Findings {
     pub answers: Items<Record>,
     /// The authorities, without SOA records where nothing was found.
     pub authorities: Items<Record>,
-    /// The SOA of a negative answer (RFC 2308 section 3).
+    /// The SOA of a negative answer (RFC 2308 sections 2.1 and 2.2).
     pub soa: Option<Boxed<Record>>,
     /// The additionals.
     pub additionals: Items<Record>,
