@@ -134,8 +134,12 @@ pub(crate) fn answer_denial<H: ZoneHandler>(
 ) -> LookupControlFlow<AuthLookup>
     ensures { DenialBesideAnswer H.ZoneHandler handler.now query.now (is_wildcard_match records.now) options result }
 {
+    let kind = handler.nx_proof_kind();
+    if kind.is_none() {
+        return LookupControlFlow::Skip;
+    }
     let from_wildcard = is_wildcard_match(records);
-    if needs_denial(handler.nx_proof_kind(), from_wildcard) {
+    if needs_denial(kind, from_wildcard) {
         denial(handler, alloc, query, from_wildcard, options)
     } else {
         LookupControlFlow::Skip
