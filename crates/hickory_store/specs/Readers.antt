@@ -11,7 +11,7 @@ TakesFront old new result buffer = IfOk result (λ n. Consumes old new (take n b
 
 -- the bytes that were left are these, and none is left now
 pub record ReadsToEnd (old new : Option (List ℕ)) (bytes : List ℕ) : Type 0 where
-  pub bytes : Consumes old new bytes
+  pub taken : Consumes old new bytes
   pub ended : IsAtEnd new
 
 -- the error `Io` comes of one failure of the reader, and every other result of none

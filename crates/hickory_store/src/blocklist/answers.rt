@@ -6,7 +6,7 @@ ghost use Rattle.hickory_base.specs.declared.errors.UpdateFault.TheVariants as u
 ghost use Rattle.hickory_base.specs.declared.zone_store.handler.AxfrPolicy.TheVariants as axfr_policy;
 ghost use Rattle.hickory_base.specs.declared.zone_store.handler.ZoneType.TheVariants as zone_type;
 ghost use Rattle.hickory_base.specs.declared.zone_store.lookup.LookupControlFlow.TheVariants.{Continue, Skip};
-ghost use Rattle.hickory_store.specs.BlockAnswers.{Answers, Consulted, Searched, IsBlockedBy, block_records, found_for, sinkhole_data};
+ghost use Rattle.hickory_store.specs.BlockAnswers.{Answers, Consulted, Searched, IsBlockedBy, block_record, block_records, found_for, sinkhole_data};
 
 use crate::blocklist::config::{BlocklistConfig, BlocklistConsultAction};
 use crate::blocklist::handler::BlocklistZoneHandler;

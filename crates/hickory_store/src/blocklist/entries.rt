@@ -1,6 +1,6 @@
 //! The names on a list.
 
-ghost use Rattle.std.specs.Prelude.{◌≡◌, ◌≤◌, ◌↔◌, [], length, true, IfOk, OnOk, OnErr, IsTrue};
+ghost use Rattle.std.specs.Prelude.{◌≡◌, ◌≤◌, ◌↔◌, [], ◌∷◌, length, true, IfOk, OnOk, OnErr, IsTrue};
 ghost use Rattle.std.specs.Str.Lines.{lines};
 ghost use Rattle.hickory_wire.specs.NameOrder.{is_wildcard};
 ghost use Rattle.hickory_store.specs.Entries.{HasEntry, IsEntry, AreEntries, AddsEntry, AddsLines, AddsFirstLines};
@@ -125,15 +125,24 @@ impl Entries {
         Ok(())
     }
 
+    /// Adds the name that a line lists, if there is one. Where memory is refused, nothing changes.
+    fn add_line(&mut self, alloc: Global, line: &str) -> Result<(), AllocError>
+        ensures ok { OnOk result (AddsLines self.old (line.now ∷ []) self.new) }
+        ensures err { OnErr result (self.new ≡ self.old) }
+    {
+        match read_line(alloc, line)? {
+            Some(listed) => self.insert(listed),
+            None => Ok(()),
+        }
+    }
+
     /// Adds the names that the lines of a text list. Where memory is refused, those of a front of the lines are added.
     pub(crate) fn add_lines(&mut self, alloc: Global, text: &str) -> Result<(), AllocError>
         ensures ok { OnOk result (AddsLines self.old (lines text.now) self.new) }
         ensures err { OnErr result (AddsFirstLines self.old (lines text.now) self.new) }
     {
         for line in text.lines() {
-            if let Some(listed) = read_line(alloc, line)? {
-                self.insert(listed)?;
-            }
+            self.add_line(alloc, line)?;
         }
         Ok(())
     }

@@ -2,7 +2,7 @@
 
 ghost use Rattle.std.specs.Prelude.{◌≡◌, IfOk};
 ghost use Rattle.std.specs.Option.{option_copied};
-ghost use Rattle.hickory_store.specs.ListLines.{name_part};
+ghost use Rattle.hickory_store.specs.ListLines.{entry_of, name_of};
 ghost use Rattle.hickory_store.specs.Entries.{Tells};
 
 use hickory_wire::{LowerName, Name, NameError};
@@ -20,14 +20,20 @@ pub(crate) struct Listed {
     pub(crate) is_wildcard: bool,
 }
 
-/// The part of a line that should be a name.
-fn name_part(line: &str) -> Option<&str>
-    ensures { option_copied result ≡ name_part line.now }
+/// What a line has before a comment.
+fn entry_of(line: &str) -> &str
+    ensures { result.now ≡ entry_of line.now }
 {
-    let entry = match line.split_once('#') {
+    match line.split_once('#') {
         Some((entry, _)) => entry.trim(),
         None => line,
-    };
+    }
+}
+
+/// The part of an entry that should be a name.
+fn name_of(entry: &str) -> Option<&str>
+    ensures { option_copied result ≡ name_of entry.now }
+{
     match entry.split_once(' ') {
         Some((address, name)) if address.trim() == UNSPECIFIED_ADDRESS => Some(name),
         Some(_) => None,
@@ -39,7 +45,7 @@ fn name_part(line: &str) -> Option<&str>
 pub(crate) fn read_line(alloc: Global, line: &str) -> Result<Option<Listed>, AllocError>
     ensures { IfOk result (Tells line.now) }
 {
-    let Some(text) = name_part(line) else {
+    let Some(text) = name_of(entry_of(line)) else {
         return Ok(None);
     };
     let mut name = match Name::from_ascii(alloc, text) {

@@ -1,8 +1,8 @@
 //! Where lists are read from.
 
-ghost use Rattle.std.specs.Prelude.{◌≡◌, ◌<◌, length, IfOk, OnOk};
-ghost use Rattle.hickory_store.specs.Readers.{Reading, ReadsToEnd};
-ghost use Rattle.hickory_store.specs.declared.blocklist.handler.AddError.TheVariants.{Io};
+ghost use Rattle.std.specs.Prelude.{◌≡◌, ◌<◌, ◌++◌, ℕ, List, length, Err, IfOk, OnOk};
+ghost use Rattle.hickory_store.specs.Readers.{CountsIo, ReadsToEnd};
+ghost use Rattle.hickory_store.specs.declared.blocklist.handler.AddError.TheVariants as add_error;
 
 use crate::blocklist::handler::AddError;
 use std::alloc::Global;
@@ -85,10 +85,11 @@ fn append_all<R: ListReader>(
     chunk: &mut [u8],
 ) -> Result<(), AddError>
     requires { 0 < length chunk.old }
-    ensures ok { OnOk result (ReadsToEnd (R.remaining reader.old) (R.remaining reader.new) bytes.old.items bytes.new.items) }
+    ensures ok { OnOk result ((rest : List ℕ) × ReadsToEnd (R.remaining reader.old) (R.remaining reader.new) rest × (bytes.new.items ≡ bytes.old.items ++ rest)) }
     ensures failures { CountsIo result (R.failures reader.old) (R.failures reader.new) }
+    ensures no_text { ¬ (result ≡ Err add_error.NotUtf8) }
 {
-    loop {
+    'chunks: loop {
         let len = reader.read(chunk)?;
         if len == 0 {
             return Ok(());
@@ -99,8 +100,9 @@ fn append_all<R: ListReader>(
 
 /// All bytes that a reader has left.
 pub(crate) fn read_all<R: ListReader>(alloc: Global, reader: &mut R) -> Result<Vec<u8>, AddError>
-    ensures ok { IfOk result (λ bytes. ReadsToEnd (R.remaining reader.old) (R.remaining reader.new) [] bytes.items) }
+    ensures ok { IfOk result (λ bytes. ReadsToEnd (R.remaining reader.old) (R.remaining reader.new) bytes.items) }
     ensures failures { CountsIo result (R.failures reader.old) (R.failures reader.new) }
+    ensures no_text { ¬ (result ≡ Err add_error.NotUtf8) }
 {
     let mut chunk = vec![in alloc; 0; CHUNK_LEN]?;
     let mut bytes = Vec::new(alloc);
