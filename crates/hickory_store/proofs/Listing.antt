@@ -113,8 +113,8 @@ adds_more old lines mid line new so_far step = λ name. (
   λ either. elim either [
     | inl b ↦ (step name).1 (inl ((so_far name).1 (inl b)))
     | inr any ↦ elim (any_cases (λ l. Lists l name) lines line any) [
-        | inl before ↦ (step name).1 (inl ((so_far name).1 (inr before)))
-        | inr here ↦ (step name).1 (inr (Any-push (λ l. Lists l name) [] line here))
+      | inl before ↦ (step name).1 (inl ((so_far name).1 (inr before)))
+      | inr here ↦ (step name).1 (inr (Any-push (λ l. Lists l name) [] line here))
     ]
   ],
 )

@@ -11,3 +11,5 @@ pub use config::{BlocklistConfig, BlocklistConsultAction};
 pub use handler::{AddError, BlocklistZoneHandler};
 pub use reader::{CountedReader, ListReader};
 
+#[cfg(test)]
+mod tests;

@@ -43,14 +43,14 @@ impl Default for BlocklistConfig {
     ghost use Rattle.hickory_store.specs.declared.blocklist.config.BlocklistConsultAction.TheVariants.{Disabled};
 
     ghost is_default = { λ config. config ≡ record {
-        wildcard_match = true;
-        min_wildcard_depth = 2;
-        sinkhole_ipv4 = None;
-        sinkhole_ipv6 = None;
-        ttl = 86400;
-        block_message = None;
-        consult_action = Disabled;
-        log_clients = true;
+      wildcard_match = true;
+      min_wildcard_depth = 2;
+      sinkhole_ipv4 = None;
+      sinkhole_ipv6 = None;
+      ttl = 86400;
+      block_message = None;
+      consult_action = Disabled;
+      log_clients = true;
     } };
 
     fn default() -> BlocklistConfig {

@@ -73,11 +73,7 @@ impl Entries {
     }
 
     /// Whether the name is below some wildcard, of whose labels at least `depth` stand behind the `*`.
-    pub(crate) fn is_under_wildcard(
-        &self,
-        name: &LowerName,
-        depth: u8,
-    ) -> Result<bool, AllocError>
+    pub(crate) fn is_under_wildcard(&self, name: &LowerName, depth: u8) -> Result<bool, AllocError>
         requires { name.now.is_fqdn ≡ true }
         ensures { IfOk result (λ under. IsTrue under ↔ IsUnderWildcard self.now depth name.now) }
     {

@@ -12,9 +12,8 @@ use crate::blocklist::entries::Entries;
 use crate::blocklist::reader::{ListReader, read_all};
 use hickory_wire::{LowerName, Name};
 use std::alloc::{AllocError, Global};
-use std::io;
 use std::marker::Model;
-use std::str;
+use std::{io, str};
 use thiserror::Error;
 
 /// Why a list was not added, or not all of it.

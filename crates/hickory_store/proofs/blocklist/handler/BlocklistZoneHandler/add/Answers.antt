@@ -28,5 +28,5 @@ returns-clause-added g c =
       c.in_ok-bytes.bytes.items,
       record { whole = c.in_ok-bytes.ensures.ok; utf8 = subst IsUtf8 c.deref.ensures.value c.in-Ok.ensures.cases.1 },
       subst (λ (old : List DomainName). AddsLines old (lines c.in_ok-bytes.bytes.items) c.add_lines.new.self) (ap (λ (list : Blocklist). list.entries) c.self.view_is)
-      (subst (λ (bs : List ℕ). AddsLines c.self.inside.entries (lines bs) c.add_lines.new.self) same c.in_ok-add_lines.ensures.ok),
+          (subst (λ (bs : List ℕ). AddsLines c.self.inside.entries (lines bs) c.add_lines.new.self) same c.in_ok-add_lines.ensures.ok),
     )
