@@ -33,111 +33,150 @@ fn found(answer: LookupControlFlow<AuthLookup>) -> Result<Lookup, Fail> {
     }
 }
 
-/// Whether just these are the answers, TTL and proof too.
-fn has_answers(found: &Lookup, expected: &[Record]) -> bool {
-    let answers = found.answers.as_slice();
-    answers == expected
-        && found.authorities.len() == 0
-        && found.additionals.len() == 0
-        && answers
-            .iter()
-            .zip(expected)
-            .all(|(a, b)| a.ttl == b.ttl && a.proof == b.proof)
+/// Whether the record is just the other, TTL and proof too.
+fn is_same(record: &Record, other: &Record) -> bool {
+    record == other && record.ttl == other.ttl && record.proof == other.proof
 }
 
-fn foo_lookup(
+/// Whether the answer stands and has just this record of foo.com.
+fn has_record(
     alloc: Global,
-    list: &BlocklistZoneHandler,
+    answer: LookupControlFlow<AuthLookup>,
+    ttl: u32,
+    rdata: RData,
+) -> Result<bool, Fail> {
+    let found = found(answer)?;
+    let expected = record(alloc, ttl, rdata)?;
+    Ok(match found.answers.as_slice() {
+        [only] => is_same(only, &expected),
+        _ => false,
+    })
+}
+
+/// Whether the answer stands and has this record of foo.com, and then the message.
+fn has_record_and_message(
+    alloc: Global,
+    answer: LookupControlFlow<AuthLookup>,
+    rdata: RData,
+    message: &[u8],
+) -> Result<bool, Fail> {
+    let found = found(answer)?;
+    let expected = record(alloc, 60, rdata)?;
+    let told = record(alloc, 60, text(alloc, message)?)?;
+    Ok(match found.answers.as_slice() {
+        [first, second] => is_same(first, &expected) && is_same(second, &told),
+        _ => false,
+    })
+}
+
+/// What a list that blocks foo.com answers for it.
+fn looked_up(
+    alloc: Global,
+    config: BlocklistConfig,
     record_type: RecordType,
-) -> Result<Lookup, Fail> {
+) -> Result<LookupControlFlow<AuthLookup>, Fail> {
+    let list = blocklist(alloc, config, "foo.com")?;
     let name = lower(alloc, "foo.com.")?;
-    found(list.lookup(alloc, &name, record_type, None, PLAIN))
+    Ok(list.lookup(alloc, &name, record_type, None, PLAIN))
+}
+
+/// 0.0.0.0
+fn no_ipv4() -> RData {
+    RData::A(Ipv4Addr::new(0, 0, 0, 0))
 }
 
 #[test]
 fn a_blocked_name_has_no_address(rt: HostRuntime) -> Result<(), Fail> {
-    let alloc = rt.alloc();
-    let list = blocklist(alloc, BlocklistConfig::default(), "foo.com")?;
-    let ipv4 = record(alloc, 86_400, RData::A(Ipv4Addr::new(0, 0, 0, 0)))?;
-    assert!(rt; has_answers(&foo_lookup(alloc, &list, RecordType::A)?, &[ipv4]));
-    let ipv6 = record(
-        alloc,
-        86_400,
-        RData::AAAA(Ipv6Addr::new(0, 0, 0, 0, 0, 0, 0, 0)),
-    )?;
-    assert!(rt; has_answers(&foo_lookup(alloc, &list, RecordType::AAAA)?, &[ipv6]));
+    let answer = looked_up(rt.alloc(), BlocklistConfig::default(), RecordType::A)?;
+    assert!(rt; has_record(rt.alloc(), answer, 86_400, no_ipv4())?);
+    Ok(())
+}
+
+#[test]
+fn a_blocked_name_has_no_ipv6_address(rt: HostRuntime) -> Result<(), Fail> {
+    let answer = looked_up(rt.alloc(), BlocklistConfig::default(), RecordType::AAAA)?;
+    let address = RData::AAAA(Ipv6Addr::new(0, 0, 0, 0, 0, 0, 0, 0));
+    assert!(rt; has_record(rt.alloc(), answer, 86_400, address)?);
     Ok(())
 }
 
 fn sinkhole(alloc: Global, message: &str) -> Result<BlocklistConfig, Fail> {
+    let message = String::from_str(alloc, message)?;
     Ok(BlocklistConfig {
         sinkhole_ipv4: Some(Ipv4Addr::new(192, 0, 2, 1)),
         sinkhole_ipv6: Some(Ipv6Addr::new(0x2001, 0xdb8, 0, 0, 0, 0, 0, 1)),
         ttl: 60,
-        block_message: Some(String::from_str(alloc, message)?),
+        block_message: Some(message),
         ..BlocklistConfig::default()
     })
 }
 
 #[test]
 fn a_message_stands_behind_the_address(rt: HostRuntime) -> Result<(), Fail> {
-    let alloc = rt.alloc();
-    let list = blocklist(alloc, sinkhole(alloc, "blocked")?, "foo.com")?;
-    let found = foo_lookup(alloc, &list, RecordType::MX)?;
-    let address = record(alloc, 60, RData::A(Ipv4Addr::new(192, 0, 2, 1)))?;
-    let message = record(alloc, 60, text(alloc, b"blocked")?)?;
-    assert!(rt; has_answers(&found, &[address, message]));
+    let config = sinkhole(rt.alloc(), "blocked")?;
+    let answer = looked_up(rt.alloc(), config, RecordType::MX)?;
+    let address = RData::A(Ipv4Addr::new(192, 0, 2, 1));
+    assert!(rt; has_record_and_message(rt.alloc(), answer, address, b"blocked")?);
     Ok(())
 }
 
-#[test]
-fn a_long_message_is_one_string(rt: HostRuntime) -> Result<(), Fail> {
-    let alloc = rt.alloc();
+/// A text of 256 bytes.
+fn long_message(alloc: Global) -> Result<String, Fail> {
     let mut message = String::new(alloc);
     for _ in 0..64_u8 {
         message.push_str("0123")?;
     }
-    let list = blocklist(alloc, sinkhole(alloc, message.as_str())?, "foo.com")?;
-    let found = foo_lookup(alloc, &list, RecordType::AAAA)?;
-    let address = Ipv6Addr::new(0x2001, 0xdb8, 0, 0, 0, 0, 0, 1);
-    let address = record(alloc, 60, RData::AAAA(address))?;
-    let message = record(alloc, 60, text(alloc, message.as_bytes())?)?;
-    assert!(rt; has_answers(&found, &[address, message]));
+    Ok(message)
+}
+
+#[test]
+fn a_long_message_is_one_string(rt: HostRuntime) -> Result<(), Fail> {
+    let message = long_message(rt.alloc())?;
+    let config = sinkhole(rt.alloc(), message.as_str())?;
+    let answer = looked_up(rt.alloc(), config, RecordType::AAAA)?;
+    let address = RData::AAAA(Ipv6Addr::new(0x2001, 0xdb8, 0, 0, 0, 0, 0, 1));
+    assert!(rt; has_record_and_message(rt.alloc(), answer, address, message.as_bytes())?);
     Ok(())
+}
+
+/// Whether what was found tells the question for this type of foo.com, and has nothing beside answers.
+fn tells_question(alloc: Global, found: &Lookup, query_type: RecordType) -> Result<bool, Fail> {
+    let asked = Query {
+        name: Name::from_ascii(alloc, "foo.com.")?,
+        query_type,
+        query_class: DNSClass::IN,
+    };
+    Ok(found.query == asked && found.authorities.len() == 0 && found.additionals.len() == 0)
 }
 
 #[test]
 fn the_question_is_told(rt: HostRuntime) -> Result<(), Fail> {
-    let alloc = rt.alloc();
-    let list = blocklist(alloc, BlocklistConfig::default(), "foo.com")?;
-    let found = foo_lookup(alloc, &list, RecordType::MX)?;
-    let asked = Query {
-        name: Name::from_ascii(alloc, "foo.com.")?,
-        query_type: RecordType::MX,
-        query_class: DNSClass::IN,
-    };
-    assert!(rt; found.query == asked);
+    let answer = looked_up(rt.alloc(), BlocklistConfig::default(), RecordType::MX)?;
+    assert!(rt; tells_question(rt.alloc(), &found(answer)?, RecordType::MX)?);
     Ok(())
+}
+
+/// What a list of these lines answers to the question for the addresses of foo.com.
+fn searched(alloc: Global, lines: &str) -> Result<LookupControlFlow<AuthLookup>, Fail> {
+    let list = blocklist(alloc, BlocklistConfig::default(), lines)?;
+    let request = request(alloc, FOO_QUERY)?;
+    let (answer, context) = list.search(alloc, &request, PLAIN);
+    if context.is_some() {
+        return Err(Fail::new("a context"));
+    }
+    Ok(answer)
 }
 
 #[test]
 fn a_request_is_looked_up(rt: HostRuntime) -> Result<(), Fail> {
-    let alloc = rt.alloc();
-    let list = blocklist(alloc, BlocklistConfig::default(), "foo.com")?;
-    let request = request(alloc, FOO_QUERY)?;
-    let (answer, context) = list.search(alloc, &request, PLAIN);
-    assert!(rt; context.is_none());
-    let address = record(alloc, 86_400, RData::A(Ipv4Addr::new(0, 0, 0, 0)))?;
-    assert!(rt; has_answers(&found(answer)?, &[address]));
+    let answer = searched(rt.alloc(), "foo.com")?;
+    assert!(rt; has_record(rt.alloc(), answer, 86_400, no_ipv4())?);
     Ok(())
 }
 
 #[test]
 fn other_requests_are_skipped(rt: HostRuntime) -> Result<(), Fail> {
-    let alloc = rt.alloc();
-    let list = blocklist(alloc, BlocklistConfig::default(), "bar.net\n*.foo.com")?;
-    let request = request(alloc, FOO_QUERY)?;
-    let (answer, _) = list.search(alloc, &request, PLAIN);
+    let answer = searched(rt.alloc(), "bar.net\n*.foo.com")?;
     assert!(rt; matches!(answer, LookupControlFlow::Skip));
     Ok(())
 }
@@ -190,29 +229,33 @@ fn consulted(
 }
 
 /// Whether the answer is the other handler's.
-fn is_last(alloc: Global, answer: LookupControlFlow<AuthLookup>) -> Result<bool, Fail> {
+fn is_last(alloc: Global, answer: &LookupControlFlow<AuthLookup>) -> Result<bool, Fail> {
     let address = record(alloc, 300, RData::A(Ipv4Addr::new(198, 51, 100, 1)))?;
     Ok(match answer {
-        LookupControlFlow::Continue(Ok(AuthLookup::Records { answers, .. })) => {
-            answers.as_slice() == [address].as_slice()
+        LookupControlFlow::Continue(Ok(found)) => {
+            found.iter().count() == 1 && found.iter().all(|r| is_same(r, &address))
         }
         _ => false,
     })
 }
 
 #[test]
-fn only_an_enforcing_list_answers_a_consultation(rt: HostRuntime) -> Result<(), Fail> {
+fn other_lists_give_the_answer_back(rt: HostRuntime) -> Result<(), Fail> {
     let alloc = rt.alloc();
     for action in [
         BlocklistConsultAction::Disabled,
         BlocklistConsultAction::Log,
     ] {
         let answer = consulted(alloc, action, "foo.com")?;
-        assert!(rt; is_last(alloc, answer)?);
+        assert!(rt; is_last(alloc, &answer)?);
     }
-    let answer = consulted(alloc, BlocklistConsultAction::Enforce, "foo.com")?;
-    let address = record(alloc, 86_400, RData::A(Ipv4Addr::new(0, 0, 0, 0)))?;
-    assert!(rt; has_answers(&found(answer)?, &[address]));
+    Ok(())
+}
+
+#[test]
+fn an_enforcing_list_answers_a_consultation(rt: HostRuntime) -> Result<(), Fail> {
+    let answer = consulted(rt.alloc(), BlocklistConsultAction::Enforce, "foo.com")?;
+    assert!(rt; has_record(rt.alloc(), answer, 86_400, no_ipv4())?);
     Ok(())
 }
 
@@ -220,6 +263,6 @@ fn only_an_enforcing_list_answers_a_consultation(rt: HostRuntime) -> Result<(), 
 fn names_that_are_not_blocked_keep_their_answer(rt: HostRuntime) -> Result<(), Fail> {
     let alloc = rt.alloc();
     let answer = consulted(alloc, BlocklistConsultAction::Enforce, "bar.net")?;
-    assert!(rt; is_last(alloc, answer)?);
+    assert!(rt; is_last(alloc, &answer)?);
     Ok(())
 }

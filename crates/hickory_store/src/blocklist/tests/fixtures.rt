@@ -39,7 +39,8 @@ pub(crate) fn blocklist(
 /// Gives pieces one by one, and then ends or fails.
 #[derive(Drop)]
 pub(crate) struct Pieces<'t> {
-    pub(crate) rest: &'t [&'t [u8]],
+    pub(crate) pieces: &'t [&'t [u8]],
+    pub(crate) next: usize,
     pub(crate) fails: bool,
     pub(crate) failures: u64,
 }
@@ -52,11 +53,11 @@ impl ListReader for Pieces<'_> {
     ghost failures = { λ pieces. pieces.failures };
 
     fn read(&mut self, buffer: &mut [u8]) -> io::Result<usize> {
-        match self.rest.split_first() {
-            Some((piece, rest)) => {
+        match self.pieces.get(self.next) {
+            Some(piece) => {
                 let len = piece.len().min(buffer.len());
                 buffer[..len].copy_from_slice(&piece[..len]);
-                self.rest = rest;
+                self.next += 1;
                 Ok(len)
             }
             None if self.fails => {

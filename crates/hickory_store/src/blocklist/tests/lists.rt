@@ -153,14 +153,6 @@ fn the_root_is_not_blocked(rt: HostRuntime) -> Result<(), Fail> {
     Ok(())
 }
 
-fn script<'t>(rest: &'t [&'t [u8]], fails: bool) -> Pieces<'t> {
-    Pieces {
-        rest,
-        fails,
-        failures: 0,
-    }
-}
-
 /// What adding these pieces answers to a list of one name, how many names it has then, and how often reading failed.
 fn added(
     alloc: Global,
@@ -168,7 +160,12 @@ fn added(
     fails: bool,
 ) -> Result<(Result<(), AddError>, usize, u64), Fail> {
     let mut list = blocklist(alloc, BlocklistConfig::default(), "first.org")?;
-    let mut reader = script(pieces, fails);
+    let mut reader = Pieces {
+        pieces,
+        next: 0,
+        fails,
+        failures: 0,
+    };
     let result = list.add(&mut reader);
     Ok((result, list.entry_count(), reader.failures))
 }

@@ -7,6 +7,7 @@ use hickory_base::zone_store::{
     AuthLookup, AxfrPolicy, LookupControlFlow, Nsec3QueryInfo, ZoneHandler, ZoneType,
 };
 use hickory_wire::{RecordType, ResponseCode};
+use std::alloc::Global;
 use std::test::Fail;
 
 #[test]
@@ -69,23 +70,27 @@ fn a_boxed_list_blocks(rt: HostRuntime) -> Result<(), Fail> {
 }
 
 #[test]
-fn settings_compare_by_each_field(rt: HostRuntime) -> Result<(), Fail> {
-    let alloc = rt.alloc();
+fn settings_have_defaults(rt: HostRuntime) {
     let plain = BlocklistConfig::default();
     assert!(rt; plain == BlocklistConfig::default());
     assert!(rt; plain.consult_action == BlocklistConsultAction::default());
-    let told = BlocklistConfig {
-        block_message: Some(String::from_str(alloc, "blocked")?),
+}
+
+fn told(alloc: Global, parts: &[&str]) -> Result<BlocklistConfig, Fail> {
+    let mut message = String::new(alloc);
+    for part in parts {
+        message.push_str(part)?;
+    }
+    Ok(BlocklistConfig {
+        block_message: Some(message),
         ..BlocklistConfig::default()
-    };
-    assert!(rt; plain != told);
-    let mut same = String::new(alloc);
-    same.push_str("block")?;
-    same.push_str("ed")?;
-    let again = BlocklistConfig {
-        block_message: Some(same),
-        ..BlocklistConfig::default()
-    };
-    assert!(rt; told == again);
+    })
+}
+
+#[test]
+fn settings_compare_by_each_field(rt: HostRuntime) -> Result<(), Fail> {
+    let whole = told(rt.alloc(), &["blocked"])?;
+    assert!(rt; whole == told(rt.alloc(), &["block", "ed"])?);
+    assert!(rt; whole != BlocklistConfig::default());
     Ok(())
 }
