@@ -1,0 +1,6 @@
+//! Names that are blocked.
+
+pub use hickory_store::blocklist::{
+    AddError, BlocklistConfig, BlocklistConsultAction, BlocklistZoneHandler, CountedReader,
+    ListReader,
+};

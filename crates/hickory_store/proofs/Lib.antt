@@ -1,0 +1,5 @@
+pub mod Adding
+pub mod FirstBytes
+pub mod Shortening
+pub mod Kept
+pub mod Listing
