@@ -38,8 +38,8 @@ fn signature(alloc: Global, bytes: &[u8]) -> Result<Boxed<Record<TSIG>>, AllocEr
 
 /// A signer whose signature is the bytes that it was handed, or that fails.
 #[derive(Drop)]
-struct Scripted {
-    fails: bool,
+pub(crate) struct Scripted {
+    pub(crate) fails: bool,
 }
 
 impl ReplySigner for Scripted {
