@@ -1,5 +1,5 @@
 -- Whether a byte stands in a text, by the place where it stands first, and what that says of a line.
-use Rattle.std.proofs.Common.{◌≡◌, ◌==◌, ◌∙◌, ℕ, ◌<◌, Bool, true, false, cond, List, length, Some, None, Option, ap, sym, refl, arith}
+use Rattle.std.proofs.Common.{◌≡◌, ◌∙◌, ℕ, ◌<◌, Bool, true, false, cond, List, length, Some, None, ap, sym, refl, arith}
 use Rattle.std.specs.List.{list_any, position_or_len, before_first, after_first}
 use Rattle.std.specs.Str.{trim, bytes_eq}
 use Rattle.std.specs.Prelude.{codes}

@@ -1,22 +1,22 @@
 -- The names on a list, and beside them the bases of the wildcards among them, as names are put in.
-use Rattle.std.proofs.Common.{◌≡◌, ◌≢◌, ℕ, Bool, true, false, cond, not, List, [], ◌∷◌, ◌++◌, drop, inl, inr, refl, sym, ap, subst, ◌∙◌, arith}
+use Rattle.std.proofs.Common.{◌≡◌, ℕ, Bool, true, false, cond, List, [], ◌∷◌, drop, inl, inr, refl, sym, ap, subst, ◌∙◌}
 use Rattle.std.specs.Prelude.{◌↔◌, ◌⊎◌, IsTrue}
-use Rattle.std.specs.List.{All, AllByRecursion, Any, list_any}
+use Rattle.std.specs.List.{All, AllByRecursion, list_any}
 use Rattle.std.specs.List.Sorted.{IsStrictlySortedBy}
 use Rattle.std.specs.Cmp.{IsEquivalence, eq_by_cmp_equiv}
 use Rattle.std.specs.BTreeSet.{insert_key}
 use Rattle.std.specs.Ordering.{match_ordering}
 use Rattle.std.specs.declared.cmp.Ordering.{Ordering}
 use Rattle.std.specs.declared.cmp.Ordering.TheVariants.{Less, Equal, Greater}
-use Rattle.std.proofs.lemmas.Bool.{false≢true, cases_Bool}
+use Rattle.std.proofs.lemmas.Bool.{false≢true}
 use Rattle.std.proofs.lemmas.List.Elements.{All-from_recursion, recursion_from_All}
 use Rattle.std.proofs.lemmas.List.Folds.{Any-from_list_any, list_any-from_Any}
 use Rattle.std.proofs.lemmas.Map.Steps.{list_any_congr}
 use Rattle.hickory_wire.specs.DomainName.{DomainName}
-use Rattle.hickory_wire.specs.NameOrder.{SameName, lower_label, lower_labels, name_cmp, name_cmp_total, name_eq, is_wildcard}
+use Rattle.hickory_wire.specs.NameOrder.{SameName, lower_labels, name_cmp, name_cmp_total, name_eq, is_wildcard}
 use Rattle.hickory_wire.specs.NameHash.{same_from_eq}
 use Rattle.hickory_wire.proofs.SameNames.{eq_from_same, eq_is, both_ways, is_false}
-use Rattle.hickory_store.specs.Entries.{HasEntry, IsEntry, AreEntries, AddsEntry, AreKept, wildcard_over}
+use Rattle.hickory_store.specs.Entries.{HasEntry, IsEntry, AreEntries, AddsEntry, wildcard_over}
 
 -- ---- membership as a test
 

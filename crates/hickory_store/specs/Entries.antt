@@ -1,5 +1,5 @@
 -- The names on a list, as a list of names in which each stands once.
-use Rattle.std.specs.Prelude.{◌≡◌, ◌↔◌, ◌<◌, ◌⊎◌, ℕ, Bool, true, List, [], ◌∷◌, length, take, drop, Option, Some, None}
+use Rattle.std.specs.Prelude.{◌≡◌, ◌↔◌, ◌<◌, ◌⊎◌, ℕ, true, List, [], ◌∷◌, length, take, Option, Some, None}
 use Rattle.std.specs.List.{All, Any, list_any}
 use Rattle.std.specs.List.Sorted.{IsStrictlySortedBy}
 use Rattle.hickory_wire.specs.DomainName.{DomainName}

@@ -1,6 +1,6 @@
 //! What the handler answers.
 
-ghost use Rattle.std.specs.Prelude.{◌≡◌, ◌↔◌, [], ◌∷◌, Err, None, IfOk, IsTrue, false};
+ghost use Rattle.std.specs.Prelude.{◌≡◌, ◌↔◌, Err, None, IfOk, IsTrue, false};
 ghost use Rattle.hickory_base.specs.declared.errors.LookupError.TheVariants as lookup_error;
 ghost use Rattle.hickory_base.specs.declared.errors.UpdateFault.TheVariants as update_fault;
 ghost use Rattle.hickory_base.specs.declared.zone_store.handler.AxfrPolicy.TheVariants as axfr_policy;

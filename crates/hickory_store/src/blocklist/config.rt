@@ -1,7 +1,5 @@
 //! How a list of blocked names is used.
 
-ghost use Rattle.std.specs.Prelude.{◌≡◌};
-
 use std::net::{Ipv4Addr, Ipv6Addr};
 
 /// What a handler does when it is consulted about the answer of another handler of its chain.

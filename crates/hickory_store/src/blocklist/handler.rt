@@ -1,6 +1,6 @@
 //! The handler, and how its lists are filled.
 
-ghost use Rattle.std.specs.Prelude.{◌≡◌, [], length, IfOk, OnOk};
+ghost use Rattle.std.specs.Prelude.{◌≡◌, [], length, IfOk};
 ghost use Rattle.hickory_wire.specs.NameOrder.{lower_name};
 ghost use Rattle.hickory_store.specs.Adding.{Adds};
 ghost use Rattle.hickory_store.specs.Readers.{CountsIo};

@@ -1,4 +1,4 @@
-use Rattle.std.proofs.Common.{◌≡◌, inl, inr, Some, Ok, Err, sym, ap, ◌∙◌, lit<}
+use Rattle.std.proofs.Common.{◌≡◌, inl, inr, Some, sym, ap, ◌∙◌, lit<}
 use Rattle.hickory_wire.specs.DomainName.{DomainName}
 use Rattle.hickory_wire.specs.NameOrder.{lower_name, lower_labels, is_wildcard}
 use Rattle.hickory_wire.specs.NameText.{IsNameText}

@@ -1,4 +1,4 @@
-use Rattle.std.proofs.Common.{sym, ap, ◌∙◌}
+use Rattle.std.proofs.Common.{ap, ◌∙◌}
 use Rattle.hickory_store.proofs.Kept.{tells_entry, has}
 use Rattle.hickory_store.proofs.blocklist.entries.Entries.contains.Goals as goal
 

@@ -1,4 +1,4 @@
-use Rattle.std.proofs.Common.{sym, ap, ◌∙◌, subst, rules}
+use Rattle.std.proofs.Common.{sym, ◌∙◌, subst}
 use Rattle.hickory_store.specs.Entries.{AddsEntry}
 use Rattle.hickory_store.proofs.Kept.{adds_entry, beside_plain, put_entries}
 use Rattle.hickory_store.proofs.blocklist.entries.Entries.insert.Goals as goal

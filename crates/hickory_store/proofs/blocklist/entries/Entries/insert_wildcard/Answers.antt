@@ -1,4 +1,4 @@
-use Rattle.std.proofs.Common.{sym, ap, ◌∙◌, subst, rules}
+use Rattle.std.proofs.Common.{sym, subst}
 use Rattle.hickory_store.specs.Entries.{AddsEntry, AreEntries}
 use Rattle.hickory_store.proofs.Kept.{adds_entry, beside_wildcard, beside_back, put_entries, shortened}
 use Rattle.hickory_store.proofs.blocklist.entries.Entries.insert_wildcard.Goals as goal

@@ -1,9 +1,8 @@
-use Rattle.std.proofs.Common.{◌≡◌, List, ℕ, Err, sym, ap, ◌∙◌, subst}
+use Rattle.std.proofs.Common.{◌≡◌, List, ℕ, Err, ap, ◌∙◌, subst}
 use Rattle.std.specs.Str.{IsUtf8}
 use Rattle.std.specs.Str.Lines.{lines}
 use Rattle.hickory_wire.specs.DomainName.{DomainName}
 use Rattle.hickory_store.specs.BlockAnswers.{Blocklist}
-use Rattle.hickory_store.specs.Adding.{ReadsText}
 use Rattle.hickory_store.specs.Entries.{AddsLines, AddsFirstLines}
 use Rattle.hickory_store.proofs.Adding.{nothing_added, front_added}
 use Rattle.hickory_store.proofs.blocklist.handler.BlocklistZoneHandler.add.Goals as goal
