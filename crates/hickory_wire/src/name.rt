@@ -49,7 +49,7 @@ fn remove_label(bytes: &mut Vec<u8>)
         return;
     }
     let label = 1 + usize::from(bytes[0]);
-    bytes.rotate_left(label);
+    bytes.copy_within(label.., 0);
     let rest = bytes.len() - label;
     bytes.truncate(rest);
 }

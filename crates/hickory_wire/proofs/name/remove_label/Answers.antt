@@ -1,4 +1,6 @@
 use Rattle.std.proofs.Common.{◌≡◌, ◌+◌, ◌-◌, ◌<◌, ◌∙◌, ℕ, List, length, take, get_or, ap, arith, rules}
+use Rattle.std.specs.List.{copy_within}
+use Rattle.std.specs.Vec.{vec_len}
 use Rattle.hickory_wire.proofs.FirstLabel.{first_fits, rest_wire, rest_labels}
 use Rattle.hickory_wire.proofs.name.remove_label.Goals as goal
 
@@ -15,8 +17,9 @@ returns-clause-is_wire c =
     let filled : 0 < length bytes = search rules in
     let n : ℕ = 1 + c.from-label.result in
     let first : n ≡ 1 + get_or bytes 0 0 = search rules in
+    let whole : vec_len c.args.bytes.now ≡ length bytes = search rules in
     let size : c.len.result - n ≡ length bytes - n = search rules in
-    rest_wire bytes _ n c.requires filled first (c.truncate.ensures.items ∙ ap (λ k. take k c.rotate_left.new.self.items) size ∙ ap (take (length bytes - n)) c.rotate_left.ensures.items)
+    rest_wire bytes _ n c.requires filled first (c.truncate.ensures.items ∙ ap (λ k. take k c.copy_within.new.self.items) size ∙ ap (take (length bytes - n)) c.copy_within.ensures.items ∙ ap (λ k. take (length bytes - n) (copy_within bytes n k 0)) whole)
 
 pub returns-clause-labels : goal.returns-clause-labels
 returns-clause-labels c =
@@ -24,5 +27,6 @@ returns-clause-labels c =
     let filled : 0 < length bytes = search rules in
     let n : ℕ = 1 + c.from-label.result in
     let first : n ≡ 1 + get_or bytes 0 0 = search rules in
+    let whole : vec_len c.args.bytes.now ≡ length bytes = search rules in
     let size : c.len.result - n ≡ length bytes - n = search rules in
-    rest_labels bytes _ n c.requires filled first (c.truncate.ensures.items ∙ ap (λ k. take k c.rotate_left.new.self.items) size ∙ ap (take (length bytes - n)) c.rotate_left.ensures.items)
+    rest_labels bytes _ n c.requires filled first (c.truncate.ensures.items ∙ ap (λ k. take k c.copy_within.new.self.items) size ∙ ap (take (length bytes - n)) c.copy_within.ensures.items ∙ ap (λ k. take (length bytes - n) (copy_within bytes n k 0)) whole)
