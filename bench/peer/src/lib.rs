@@ -164,6 +164,13 @@ fn measured_answer_request(
     Some(())
 }
 
+fn answered_len(zone: &[u8], bytes: &[u8], rounds: u64) -> Option<u64> {
+    let catalog = catalog(zone)?;
+    let sink = Sink(Arc::new(AtomicU64::new(0)));
+    measured_answer_request(&catalog, &sink, bytes, rounds)?;
+    Some(sink.0.load(Ordering::Relaxed))
+}
+
 /// Answers a request; the number of bytes of all replies.
 ///
 /// # Safety
@@ -176,14 +183,7 @@ pub unsafe extern "C" fn peer_answer_request(
     len: usize,
     rounds: u64,
 ) -> u64 {
-    let Some(catalog) = catalog(bytes_at(zone, zone_len)) else {
-        return WRONG;
-    };
-    let sink = Sink(Arc::new(AtomicU64::new(0)));
-    match measured_answer_request(&catalog, &sink, bytes_at(bytes, len), rounds) {
-        Some(()) => sink.0.load(Ordering::Relaxed),
-        None => WRONG,
-    }
+    answered_len(bytes_at(zone, zone_len), bytes_at(bytes, len), rounds).unwrap_or(WRONG)
 }
 
 fn name(decoder: &mut BinDecoder<'_>) -> Option<LowerName> {
@@ -209,6 +209,16 @@ fn measured_find_zone(catalog: &Catalog, wanted: &LowerName, rounds: u64) -> u64
     found
 }
 
+fn found(zones: &[u8], wanted: &[u8], rounds: u64) -> Option<u64> {
+    let mut catalog = Catalog::new();
+    for zone in names(zones)? {
+        let authority = InMemoryAuthority::empty(Name::from(&zone), ZoneType::Primary, false);
+        catalog.upsert(zone, Box::new(Arc::new(authority)));
+    }
+    let wanted = name(&mut BinDecoder::new(wanted))?;
+    Some(measured_find_zone(&catalog, &wanted, rounds))
+}
+
 /// Finds the zone of a name; the number of rounds in which there was one.
 ///
 /// # Safety
@@ -221,16 +231,5 @@ pub unsafe extern "C" fn peer_find_zone(
     len: usize,
     rounds: u64,
 ) -> u64 {
-    let Some(zones) = names(bytes_at(zones, zones_len)) else {
-        return WRONG;
-    };
-    let Some(wanted) = name(&mut BinDecoder::new(bytes_at(wanted, len))) else {
-        return WRONG;
-    };
-    let mut catalog = Catalog::new();
-    for zone in zones {
-        let authority = InMemoryAuthority::empty(Name::from(&zone), ZoneType::Primary, false);
-        catalog.upsert(zone, Box::new(Arc::new(authority)));
-    }
-    measured_find_zone(&catalog, &wanted, rounds)
+    found(bytes_at(zones, zones_len), bytes_at(wanted, len), rounds).unwrap_or(WRONG)
 }
