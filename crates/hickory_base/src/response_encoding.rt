@@ -1,6 +1,6 @@
 //! Bytes of replies whose records are given by references of any kind, as a sink is handed them.
 
-ghost use Rattle.std.specs.Prelude.{◌≡◌, IfOk, OnErr};
+ghost use Rattle.std.specs.Prelude.{◌≡◌, IfOk, OnErr, map};
 ghost use Rattle.std.specs.Iterator.{IsFinite};
 ghost use Rattle.hickory_wire.specs.Reply.{Reply, size_limit};
 ghost use Rattle.hickory_wire.specs.ReplyParts.{ReplyEncoded};
@@ -8,27 +8,26 @@ ghost use Rattle.hickory_base.specs.Responses.{GivesBy, IsReplyOf, header_of};
 
 use crate::message_response::{MessageResponse, ResponseInfo, borrowed, size_limit};
 use crate::response_handler::RecordRef;
-use hickory_wire::{Items, ProtoError, Protocol, Record, ReplyParts, encode_message_parts};
+use hickory_wire::{ProtoError, Protocol, ReplyParts, encode_message_parts};
 use std::alloc::{AllocError, Global};
 
-/// Copies of the records that an iterator gives.
-pub(crate) fn copies<I>(alloc: Global, records: I) -> Result<Items<Record>, AllocError>
+/// The items of an iterator, which lend its records.
+fn lenders<I>(alloc: Global, records: I) -> Result<Vec<I::Item>, AllocError>
 where
     I: Iterator + Drop,
     I::Item: RecordRef,
     requires can { I.can_next records }
     requires ends { IsFinite (I.remaining records) }
-    ensures { IfOk result (λ copies. GivesBy I.next_gives I.Item.record_of records copies) }
+    ensures { IfOk result (λ lenders. GivesBy I.next_gives I.Item.record_of records (map I.Item.record_of lenders.items)) }
 {
-    let mut copies = Items::new(alloc);
+    let mut lenders = Vec::new(alloc);
     'records: for item in records {
-        copies.push(item.record().clone()?)?;
+        lenders.push(item)?;
     }
-    Ok(copies)
+    Ok(lenders)
 }
 
-/// The bytes of a reply over a transport, and what is told of it, as `MessageResponse::encode` has them. The records
-/// are copied first.
+/// The bytes of a reply over a transport, and what is told of it, as `MessageResponse::encode` has them.
 pub fn encode_response<'q, 'a, A, N, S, D>(
     alloc: Global,
     response: MessageResponse<'q, 'a, A, N, S, D>,
@@ -52,19 +51,19 @@ where
         ReplyEncoded (size_limit protocol reply.edns) reply made.1.items (header_of made.0)) }
     ensures err { OnErr result (result ≡ Err ProtoError.Memory) }
 {
-    let answers = copies(alloc, response.answers)?;
-    let authorities = copies(alloc, response.authorities)?;
-    let soa = copies(alloc, response.soa)?;
-    let additionals = copies(alloc, response.additionals)?;
+    let answers = lenders(alloc, response.answers)?;
+    let authorities = lenders(alloc, response.authorities)?;
+    let soa = lenders(alloc, response.soa)?;
+    let additionals = lenders(alloc, response.additionals)?;
     let parts = ReplyParts {
         metadata: response.metadata,
         question: response.queries.as_bytes(),
         question_count: response.queries.count(),
         edns: response.edns,
-        answers: answers.as_slice().iter(),
-        authorities: authorities.as_slice().iter(),
-        soa: soa.as_slice().iter(),
-        additionals: additionals.as_slice().iter(),
+        answers: answers.iter().map(|item| item.record()),
+        authorities: authorities.iter().map(|item| item.record()),
+        soa: soa.iter().map(|item| item.record()),
+        additionals: additionals.iter().map(|item| item.record()),
         signature: borrowed(&response.signature),
     };
     let limit = size_limit(protocol, response.edns);

@@ -11,7 +11,7 @@ ghost use Rattle.hickory_base.specs.Responses.{GivesBy, IsReplyOf};
 use crate::errors::CatalogError;
 use crate::message_request::Queries;
 use crate::message_response::{MessageResponse, MessageResponseBuilder, ResponseInfo};
-use crate::response_encoding::{copies, encode_response};
+use crate::response_encoding::encode_response;
 use crate::response_handler::{RecordRef, RequestHandler, ResponseHandler};
 use crate::server::Request;
 use hickory_wire::{
@@ -23,6 +23,22 @@ use std::marker::Model;
 use std::net::{IpAddr, Ipv4Addr, SocketAddr};
 use std::test::Fail;
 use std::{io, iter};
+
+/// Copies of the records that an iterator gives.
+fn copies<I>(alloc: Global, records: I) -> Result<Items<Record>, AllocError>
+where
+    I: Iterator + Drop,
+    I::Item: RecordRef,
+    requires can { I.can_next records }
+    requires ends { IsFinite (I.remaining records) }
+    ensures { IfOk result (λ copies. GivesBy I.next_gives I.Item.record_of records copies) }
+{
+    let mut copies = Items::new(alloc);
+    'records: for item in records {
+        copies.push(item.record().clone()?)?;
+    }
+    Ok(copies)
+}
 
 /// What an OPT record said.
 #[derive(Drop)]

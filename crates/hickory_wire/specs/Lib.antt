@@ -13,6 +13,7 @@ pub mod MessageFaults
 pub mod MessageLayout
 pub mod MessageReading
 pub mod Metadata
+pub mod NameBytes
 pub mod NameHash
 pub mod NameLayout
 pub mod NameOrder

@@ -14,6 +14,10 @@ const MAX_LABELS: usize = 128;
 fn compare_labels(a: &[u8], b: &[u8]) -> Ordering
     ensures { result ≡ label_cmp a.now b.now }
 {
+    // Labels mostly differ in no letter case, and bytes are compared faster than letters.
+    if a == b {
+        return Ordering::Equal;
+    }
     a.iter()
         .map(|x| x.to_ascii_lowercase())
         .cmp(b.iter().map(|x| x.to_ascii_lowercase()))

@@ -41,6 +41,7 @@ mod record_sameness;
 mod record_type;
 mod response_code;
 mod tsig;
+mod wire;
 pub mod worked;
 
 pub use additionals::Additionals;

@@ -37,10 +37,10 @@ impl Model for LowerName {
 
 impl LowerName {
     /// A copy of a name with its labels in lower case; it is fully qualified where the name is.
-    pub fn new(alloc: Global, name: &Name) -> Result<LowerName, AllocError>
+    pub fn new(_alloc: Global, name: &Name) -> Result<LowerName, AllocError>
         ensures { IfOk result (λ lower. lower ≡ lower_name name.now) }
     {
-        let name = name.to_lowercase(alloc)?;
+        let name = name.to_lowercase()?;
         Ok(LowerName { name })
     }
 

@@ -12,6 +12,7 @@ ghost use Rattle.hickory_wire.specs.NameHash.{name_hash_input, name_hash_alike};
 
 use crate::compare::compare_from_last;
 use crate::labels::MAX_NAME_LEN;
+use crate::wire::{ShortBytes, Wire};
 use std::alloc::{AllocError, Global};
 use std::cmp::Ordering;
 use std::hash::{Hash, Hasher};
@@ -25,43 +26,20 @@ use std::marker::Model;
 /// last one on, a name that runs out first being less; then the one that isn't fully qualified is less.
 #[derive(Drop)]
 pub struct Name {
-    // The labels in wire form, without the end byte. The root has none, and so takes no memory.
-    wire: Option<Vec<u8>>,
+    // The labels in wire form, without the end byte.
+    wire: Wire,
     is_fqdn: bool,
 }
 
-/// A copy of bytes with ASCII letters in lower case.
-fn lowered(alloc: Global, bytes: &[u8]) -> Result<Vec<u8>, AllocError>
-    ensures { IfOk result (λ copy. copy.items ≡ map to_ascii_lowercase bytes.now) }
-{
-    let mut copy = Vec::from_slice(alloc, bytes)?;
-    copy.make_ascii_lowercase();
-    Ok(copy)
-}
-
-/// Takes the first label, if there is one, off labels in wire form.
-fn remove_label(bytes: &mut Vec<u8>)
-    requires { IsWire bytes.old.items }
-    ensures is_wire { IsWire bytes.new.items }
-    ensures labels { cut bytes.new.items ≡ drop 1 (cut bytes.old.items) }
-{
-    if bytes.is_empty() {
-        return;
-    }
-    let label = 1 + usize::from(bytes[0]);
-    bytes.rotate_left(label);
-    let rest = bytes.len() - label;
-    bytes.truncate(rest);
-}
-
 impl Model for Name {
-    ghost use Rattle.hickory_wire.specs.DomainName.{DomainName, IsWire, cut, held};
+    ghost use Rattle.hickory_wire.specs.DomainName.{DomainName, IsWire, cut};
+    ghost use Rattle.hickory_wire.specs.NameBytes.{wire_bytes};
 
     ghost Value = { DomainName };
 
-    ghost view = { λ name. record { labels = cut (held (λ v. v.items) name.wire); is_fqdn = name.is_fqdn } };
+    ghost view = { λ name. record { labels = cut (wire_bytes name.wire); is_fqdn = name.is_fqdn } };
 
-    ghost invariant = { λ name. IsWire (held (λ v. v.items) name.wire) };
+    ghost invariant = { λ name. IsWire (wire_bytes name.wire) };
 }
 
 impl Name {
@@ -70,7 +48,7 @@ impl Name {
         ensures { result ≡ record { labels = []; is_fqdn = true } }
     {
         Name {
-            wire: None,
+            wire: Wire::Short(ShortBytes::new()),
             is_fqdn: true,
         }
     }
@@ -80,10 +58,7 @@ impl Name {
         ensures labels { result.now ≡ wire_form self.now.labels }
         ensures is_wire { IsWire result.now }
     {
-        match &self.wire {
-            None => &[],
-            Some(bytes) => bytes.as_slice(),
-        }
+        self.wire.as_slice()
     }
 
     /// The name of the labels in these bytes.
@@ -91,11 +66,7 @@ impl Name {
         requires { IsWire bytes.now }
         ensures { IfOk result (λ name. name ≡ record { labels = cut bytes.now; is_fqdn = is_fqdn }) }
     {
-        let wire = if bytes.is_empty() {
-            None
-        } else {
-            Some(Vec::from_slice(alloc, bytes)?)
-        };
+        let wire = Wire::from_slice(alloc, bytes)?;
         Ok(Name { wire, is_fqdn })
     }
 
@@ -124,9 +95,12 @@ impl Name {
     pub(crate) fn remove_first_label(&mut self)
         ensures { self.new ≡ record self.old { labels = drop 1 self.old.labels } }
     {
-        if let Some(bytes) = &mut self.wire {
-            remove_label(bytes);
+        let bytes = self.wire.as_slice();
+        if bytes.is_empty() {
+            return;
         }
+        let label = 1 + usize::from(bytes[0]);
+        self.wire.remove_front(label);
     }
 
     fn label_count(&self) -> usize
@@ -179,15 +153,11 @@ impl Name {
     }
 
     /// A copy with its labels in lower case.
-    pub(crate) fn to_lowercase(&self, alloc: Global) -> Result<Name, AllocError>
+    pub(crate) fn to_lowercase(&self) -> Result<Name, AllocError>
         ensures { IfOk result (λ name. name ≡ lower_name self.now) }
     {
-        let wire = match &self.wire {
-            None => None,
-            Some(bytes) => Some(lowered(alloc, bytes)?),
-        };
         Ok(Name {
-            wire,
+            wire: self.wire.lowered()?,
             is_fqdn: self.is_fqdn,
         })
     }
@@ -197,12 +167,8 @@ impl Clone for Name {
     ghost is_clone = { λ source copy. copy ≡ source };
 
     fn clone(&self) -> Result<Name, AllocError> {
-        let wire = match &self.wire {
-            None => None,
-            Some(bytes) => Some(bytes.clone()?),
-        };
         Ok(Name {
-            wire,
+            wire: self.wire.copied()?,
             is_fqdn: self.is_fqdn,
         })
     }

@@ -1,10 +1,10 @@
-use Rattle.std.proofs.Common.{[], List, ℕ, ap, true}
-use Rattle.hickory_wire.specs.DomainName.{DomainName}
+use Rattle.std.proofs.Common.{[], List, ℕ, ap, sym, subst, ◌∙◌, true}
+use Rattle.hickory_wire.specs.DomainName.{DomainName, IsWire, cut}
 use Rattle.hickory_wire.proofs.WireForm.{is_wire, cut-wire, no_labels}
 use Rattle.hickory_wire.proofs.name.Name.root.Goals as goal
 
 pub invariant_of-result : goal.invariant_of-result
-invariant_of-result c = is_wire [] no_labels
+invariant_of-result c = subst IsWire (sym c.new.ensures) (is_wire [] no_labels)
 
 pub returns : goal.returns
-returns c = ap (λ (ls : List (List ℕ)). let d : DomainName = record { labels = ls; is_fqdn = true } in d) (cut-wire [])
+returns c = ap (λ (ls : List (List ℕ)). let d : DomainName = record { labels = ls; is_fqdn = true } in d) (ap cut c.new.ensures ∙ cut-wire [])

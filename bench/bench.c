@@ -1,0 +1,329 @@
+// The cases, each run on all sides that have the call.
+//
+//   bench instructions [WORD]   under callgrind, which counts within the functions named measured* alone, and writes one
+//                               file for each measurement; what is printed is of how many rounds it is
+//   bench times [WORD]          nanoseconds for one round
+//   bench allocations [WORD]    how often one round asks for memory; only in a build with COUNT_ALLOCATIONS
+//
+// WORD stands in the names of the cases that are run. A line of the output: case, size, side, what one round came to,
+// and the figures of the mode.
+#include "bench.h"
+#include "inputs.h"
+
+#include <inttypes.h>
+#include <stdio.h>
+#include <stdlib.h>
+#include <string.h>
+#include <time.h>
+#include <valgrind/callgrind.h>
+
+enum call { READ_REQUEST, READ_MESSAGE, WRITE_MESSAGE, ANSWER_REQUEST, FIND_ZONE, ALLOW };
+
+struct side {
+    const char *name;
+    uint64_t (*read_request)(const uint8_t *, size_t, uint64_t);
+    uint64_t (*read_message)(const uint8_t *, size_t, uint64_t);
+    uint64_t (*write_message)(const uint8_t *, size_t, uint16_t, uint64_t);
+    uint64_t (*answer_request)(const uint8_t *, size_t, const uint8_t *, size_t, uint64_t);
+    uint64_t (*find_zone)(const uint8_t *, size_t, const uint8_t *, size_t, uint64_t);
+    uint64_t (*allow)(const uint8_t *, size_t, uint32_t, uint64_t);
+};
+
+static const struct side sides[] = {
+    {"ours", bench_calls_read_request, bench_calls_read_message, bench_calls_write_message,
+     bench_calls_answer_request, bench_calls_find_zone, bench_calls_allow},
+    {"peer", peer_read_request, peer_read_message, peer_write_message, peer_answer_request, peer_find_zone, NULL},
+    {"ldns", NULL, ldns_read_message, ldns_write_message, NULL, NULL, NULL},
+};
+
+#define SIDES (sizeof sides / sizeof sides[0])
+
+struct job {
+    char name[64];
+    uint32_t size;
+    enum call call;
+    // The message, zone, names or networks; then the request or the name, where there is one.
+    struct bytes input;
+    struct bytes second;
+    // The limit or the address.
+    uint32_t number;
+};
+
+static int has_call(const struct side *side, const struct job *job)
+{
+    switch (job->call) {
+    case READ_REQUEST:
+        return side->read_request != NULL;
+    case READ_MESSAGE:
+        return side->read_message != NULL;
+    case WRITE_MESSAGE:
+        // ldns has no limit.
+        return side->write_message != NULL && (job->number == UINT16_MAX || strcmp(side->name, "ldns") != 0);
+    case ANSWER_REQUEST:
+        return side->answer_request != NULL;
+    case FIND_ZONE:
+        return side->find_zone != NULL;
+    case ALLOW:
+        return side->allow != NULL;
+    }
+    return 0;
+}
+
+static uint64_t run(const struct side *side, const struct job *job, uint64_t rounds)
+{
+    const struct bytes *in = &job->input, *second = &job->second;
+    uint64_t answer = WRONG;
+    switch (job->call) {
+    case READ_REQUEST:
+        answer = side->read_request(in->at, in->len, rounds);
+        break;
+    case READ_MESSAGE:
+        answer = side->read_message(in->at, in->len, rounds);
+        break;
+    case WRITE_MESSAGE:
+        answer = side->write_message(in->at, in->len, (uint16_t)job->number, rounds);
+        break;
+    case ANSWER_REQUEST:
+        answer = side->answer_request(in->at, in->len, second->at, second->len, rounds);
+        break;
+    case FIND_ZONE:
+        answer = side->find_zone(in->at, in->len, second->at, second->len, rounds);
+        break;
+    case ALLOW:
+        answer = side->allow(in->at, in->len, job->number, rounds);
+        break;
+    }
+    if (answer == WRONG) {
+        fprintf(stderr, "bench: %s cannot do %s at %u\n", side->name, job->name, job->size);
+        exit(1);
+    }
+    return answer;
+}
+
+static void print_front(const struct side *side, const struct job *job, uint64_t answer)
+{
+    printf("%s\t%u\t%s\t%" PRIu64 "\t", job->name, job->size, side->name, answer);
+}
+
+// What one round comes to.
+static uint64_t answer_of_round(const struct side *side, const struct job *job)
+{
+    return run(side, job, 2) - run(side, job, 1);
+}
+
+// How many rounds are counted.
+static uint64_t rounds_to_count(const struct job *job) { return job->size < 100 ? 100 : job->size < 1000 ? 20 : 5; }
+
+static void count_instructions(const struct side *side, const struct job *job)
+{
+    char label[128];
+    snprintf(label, sizeof label, "%s|%u|%s", job->name, job->size, side->name);
+    // The first round may meet an allocator that has nothing at hand yet.
+    run(side, job, 1);
+    CALLGRIND_ZERO_STATS;
+    run(side, job, rounds_to_count(job));
+    CALLGRIND_DUMP_STATS_AT(label);
+    print_front(side, job, answer_of_round(side, job));
+    printf("%" PRIu64 "\n", rounds_to_count(job));
+}
+
+static double seconds(void)
+{
+    struct timespec now;
+    clock_gettime(CLOCK_MONOTONIC, &now);
+    return (double)now.tv_sec + 1e-9 * (double)now.tv_nsec;
+}
+
+static double time_of(const struct side *side, const struct job *job, uint64_t rounds)
+{
+    double start = seconds();
+    run(side, job, rounds);
+    return seconds() - start;
+}
+
+// So many rounds that they take 20 ms at least, and three times as long as making the input.
+static uint64_t rounds_to_time(const struct side *side, const struct job *job)
+{
+    double setup = time_of(side, job, 1);
+    uint64_t rounds = 2;
+    while (rounds < 1u << 28) {
+        double spent = time_of(side, job, rounds);
+        if (spent > 0.02 && spent > 3 * setup)
+            break;
+        rounds *= 2;
+    }
+    return rounds;
+}
+
+#define REPEATS 7
+
+// The sides take turns, so that what else the machine does meets all of them; the least of each counts.
+static void measure_times(const struct job *job)
+{
+    uint64_t rounds[SIDES] = {0};
+    double one[SIDES], all[SIDES];
+    for (size_t s = 0; s < SIDES; s++) {
+        one[s] = all[s] = 1e9;
+        if (has_call(&sides[s], job))
+            rounds[s] = rounds_to_time(&sides[s], job);
+    }
+    for (int i = 0; i < REPEATS; i++) {
+        for (size_t s = 0; s < SIDES; s++) {
+            if (rounds[s] == 0)
+                continue;
+            double first = time_of(&sides[s], job, 1), whole = time_of(&sides[s], job, rounds[s]);
+            one[s] = first < one[s] ? first : one[s];
+            all[s] = whole < all[s] ? whole : all[s];
+        }
+    }
+    for (size_t s = 0; s < SIDES; s++) {
+        if (rounds[s] == 0)
+            continue;
+        print_front(&sides[s], job, answer_of_round(&sides[s], job));
+        printf("%.1f\n", 1e9 * (all[s] - one[s]) / (double)(rounds[s] - 1));
+    }
+}
+
+#ifdef COUNT_ALLOCATIONS
+static uint64_t allocations;
+
+// The allocator of all sides, which counts each call that asks for memory.
+extern void *__libc_malloc(size_t), *__libc_calloc(size_t, size_t), *__libc_realloc(void *, size_t);
+extern void *__libc_memalign(size_t, size_t);
+
+void *malloc(size_t size)
+{
+    allocations++;
+    return __libc_malloc(size);
+}
+
+void *calloc(size_t count, size_t size)
+{
+    allocations++;
+    return __libc_calloc(count, size);
+}
+
+void *realloc(void *at, size_t size)
+{
+    allocations++;
+    return __libc_realloc(at, size);
+}
+
+int posix_memalign(void **at, size_t alignment, size_t size)
+{
+    allocations++;
+    *at = __libc_memalign(alignment, size);
+    return *at == NULL;
+}
+
+static uint64_t allocations_in(const struct side *side, const struct job *job, uint64_t rounds)
+{
+    uint64_t before = allocations;
+    run(side, job, rounds);
+    return allocations - before;
+}
+
+static void count_allocations(const struct side *side, const struct job *job)
+{
+    uint64_t rounds = rounds_to_count(job);
+    uint64_t one = allocations_in(side, job, 1), all = allocations_in(side, job, 1 + rounds);
+    print_front(side, job, answer_of_round(side, job));
+    printf("%.1f\n", (double)(all - one) / (double)rounds);
+}
+#else
+static void count_allocations(const struct side *side, const struct job *job)
+{
+    (void)side;
+    (void)job;
+    fprintf(stderr, "bench: built without COUNT_ALLOCATIONS\n");
+    exit(2);
+}
+#endif
+
+static const char *mode, *word;
+
+static void measure(const char *name, uint32_t size, enum call call, struct bytes input, struct bytes second, uint32_t number)
+{
+    struct job job = {.size = size, .call = call, .input = input, .second = second, .number = number};
+    snprintf(job.name, sizeof job.name, "%s", name);
+    if (strstr(name, word) != NULL) {
+        if (strcmp(mode, "times") == 0)
+            measure_times(&job);
+        for (size_t s = 0; s < SIDES; s++) {
+            if (!has_call(&sides[s], &job))
+                continue;
+            if (strcmp(mode, "instructions") == 0)
+                count_instructions(&sides[s], &job);
+            else if (strcmp(mode, "allocations") == 0)
+                count_allocations(&sides[s], &job);
+        }
+        fflush(stdout);
+    }
+    free(input.at);
+    free(second.at);
+}
+
+static const struct bytes none;
+
+// Each number of records in a message.
+static const uint32_t counts[] = {1, 13, 100, 1000};
+// Each number of entries of a map or a list.
+static const uint32_t entries[] = {1, 1000, 100000};
+
+#define EACH(i, list) for (size_t i = 0; i < sizeof list / sizeof list[0]; i++)
+
+static void measure_messages(void)
+{
+    measure("decode a query with EDNS, as a request", 1, READ_REQUEST, edns_query(), none, 0);
+    measure("decode a query with EDNS, as a message", 1, READ_MESSAGE, edns_query(), none, 0);
+    EACH(i, counts)
+        measure("decode A records of one owner", counts[i], READ_MESSAGE, addresses(counts[i]), none, 0);
+    EACH(i, counts)
+        measure("decode MX records of nested names", counts[i], READ_MESSAGE, exchanges(counts[i]), none, 0);
+    EACH(i, counts)
+        measure("encode A records of one owner", counts[i], WRITE_MESSAGE, addresses(counts[i]), none, UINT16_MAX);
+    EACH(i, counts)
+        measure("encode MX records of nested names", counts[i], WRITE_MESSAGE, exchanges(counts[i]), none, UINT16_MAX);
+    EACH(i, counts)
+        measure("encode A records within 512 bytes", counts[i], WRITE_MESSAGE, addresses(counts[i]), none, 512);
+    EACH(i, counts)
+        measure("encode MX records within 512 bytes", counts[i], WRITE_MESSAGE, exchanges(counts[i]), none, 512);
+}
+
+static void measure_replies(void)
+{
+    EACH(i, counts)
+        measure("whole reply, a hit", counts[i], ANSWER_REQUEST, zone(counts[i]), address_query("www.example.com."), 0);
+    measure("whole reply, NXDomain", 1, ANSWER_REQUEST, zone(1), address_query("none.example.com."), 0);
+    measure("whole reply, Refused", 1, ANSWER_REQUEST, zone(1), address_query("www.example.net."), 0);
+}
+
+static void measure_maps(void)
+{
+    EACH(i, entries) {
+        char name[64];
+        snprintf(name, sizeof name, "www.z%u.example.", entries[i] / 2);
+        measure("zone lookup, one label below", entries[i], FIND_ZONE, zone_names(entries[i]), one_name(name), 0);
+    }
+    EACH(i, entries) {
+        char name[64];
+        snprintf(name, sizeof name, "a.b.c.d.e.f.g.h.z%u.example.", entries[i] / 2);
+        measure("zone lookup, eight labels below", entries[i], FIND_ZONE, zone_names(entries[i]), one_name(name), 0);
+    }
+    EACH(i, entries)
+        measure("access by networks", entries[i], ALLOW, networks(entries[i]), none, (10u << 24) + (entries[i] / 2 << 8) + 1);
+}
+
+int main(int argc, char **argv)
+{
+    if (argc < 2 || argc > 3) {
+        fprintf(stderr, "usage: bench instructions|times|allocations [WORD]\n");
+        return 2;
+    }
+    mode = argv[1];
+    word = argc == 3 ? argv[2] : "";
+    measure_messages();
+    measure_replies();
+    measure_maps();
+    return 0;
+}

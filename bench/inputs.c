@@ -1,0 +1,203 @@
+// The bytes that the cases are run on (RFC 1035 section 4).
+#include "inputs.h"
+
+#include <stdio.h>
+#include <stdlib.h>
+#include <string.h>
+
+enum { TYPE_A = 1, TYPE_NS = 2, TYPE_SOA = 6, TYPE_MX = 15, TYPE_OPT = 41, CLASS_IN = 1 };
+
+// Where the name of the first question stands.
+#define QUESTION 12
+// A place from here on has no pointer.
+#define POINTER_END 0x4000
+
+static void put(struct bytes *to, const void *from, size_t len)
+{
+    if (to->len + len > to->room) {
+        to->room = 2 * (to->len + len);
+        to->at = realloc(to->at, to->room);
+        if (to->at == NULL)
+            abort();
+    }
+    memcpy(to->at + to->len, from, len);
+    to->len += len;
+}
+
+static void put8(struct bytes *to, uint8_t n) { put(to, &n, 1); }
+
+static void put16(struct bytes *to, uint16_t n)
+{
+    put8(to, n >> 8);
+    put8(to, n & 0xff);
+}
+
+static void put32(struct bytes *to, uint32_t n)
+{
+    put16(to, n >> 16);
+    put16(to, n & 0xffff);
+}
+
+static void put_label(struct bytes *to, const char *label, size_t len)
+{
+    put8(to, (uint8_t)len);
+    put(to, label, len);
+}
+
+// A name whose text ends in a dot.
+static void put_name(struct bytes *to, const char *name)
+{
+    while (*name != '\0') {
+        size_t len = strcspn(name, ".");
+        put_label(to, name, len);
+        name += len + 1;
+    }
+    put8(to, 0);
+}
+
+static void put_pointer(struct bytes *to, size_t place) { put16(to, 0xc000 | (uint16_t)place); }
+
+// Id, flags, and how many questions, answers and additional records.
+static void put_header(struct bytes *to, uint16_t flags, uint16_t answers, uint16_t additionals)
+{
+    put16(to, 0x1234);
+    put16(to, flags);
+    put16(to, 1);
+    put16(to, answers);
+    put16(to, 0);
+    put16(to, additionals);
+}
+
+static void put_question(struct bytes *to, const char *name, uint16_t type)
+{
+    put_name(to, name);
+    put16(to, type);
+    put16(to, CLASS_IN);
+}
+
+// What stands between owner and data. The length is of the data.
+static void put_fields(struct bytes *to, uint16_t type, uint16_t len)
+{
+    put16(to, type);
+    put16(to, CLASS_IN);
+    put32(to, 3600);
+    put16(to, len);
+}
+
+struct bytes edns_query(void)
+{
+    struct bytes made = {0};
+    put_header(&made, 0x0100, 0, 1);
+    put_question(&made, "www.example.com.", TYPE_A);
+    put8(&made, 0);
+    put16(&made, TYPE_OPT);
+    put16(&made, 1232);
+    put32(&made, 0);
+    put16(&made, 0);
+    return made;
+}
+
+struct bytes address_query(const char *name)
+{
+    struct bytes made = {0};
+    put_header(&made, 0x0100, 0, 0);
+    put_question(&made, name, TYPE_A);
+    return made;
+}
+
+// 192.0.0.0 and so on.
+static void put_address(struct bytes *to, uint32_t i) { put32(to, 0xc0000000u + i); }
+
+struct bytes addresses(uint32_t count)
+{
+    struct bytes made = {0};
+    put_header(&made, 0x8500, (uint16_t)count, 0);
+    put_question(&made, "www.example.com.", TYPE_A);
+    for (uint32_t i = 0; i < count; i++) {
+        put_pointer(&made, QUESTION);
+        put_fields(&made, TYPE_A, 4);
+        put_address(&made, i);
+    }
+    return made;
+}
+
+struct bytes exchanges(uint32_t count)
+{
+    struct bytes made = {0};
+    put_header(&made, 0x8500, (uint16_t)count, 0);
+    put_question(&made, "example.com.", TYPE_MX);
+    for (uint32_t i = 0; i < count; i++) {
+        char label[16];
+        size_t len = (size_t)snprintf(label, sizeof label, "n%u", i);
+        size_t owner = made.len;
+        int has_pointer = owner < POINTER_END;
+        put_label(&made, label, len);
+        put_pointer(&made, QUESTION);
+        put_fields(&made, TYPE_MX, (uint16_t)(2 + 3 + 2 + (has_pointer ? 0 : 1 + len)));
+        put16(&made, (uint16_t)i);
+        put_label(&made, "mx", 2);
+        if (!has_pointer)
+            put_label(&made, label, len);
+        put_pointer(&made, has_pointer ? owner : QUESTION);
+    }
+    return made;
+}
+
+struct bytes zone(uint32_t count)
+{
+    struct bytes made = {0};
+    put_header(&made, 0x8500, (uint16_t)(3 + count), 0);
+    put_question(&made, "example.com.", TYPE_SOA);
+    put_pointer(&made, QUESTION);
+    put_fields(&made, TYPE_SOA, 5 + 8 + 20);
+    put_label(&made, "ns", 2);
+    put_pointer(&made, QUESTION);
+    put_label(&made, "admin", 5);
+    put_pointer(&made, QUESTION);
+    uint32_t numbers[] = {7, 3600, 1800, 604800, 86400};
+    for (size_t i = 0; i < 5; i++)
+        put32(&made, numbers[i]);
+    put_pointer(&made, QUESTION);
+    put_fields(&made, TYPE_NS, 5);
+    size_t server = made.len;
+    put_label(&made, "ns", 2);
+    put_pointer(&made, QUESTION);
+    put_pointer(&made, server);
+    put_fields(&made, TYPE_A, 4);
+    put32(&made, 0xc0000202);
+    for (uint32_t i = 0; i < count; i++) {
+        put_label(&made, "www", 3);
+        put_pointer(&made, QUESTION);
+        put_fields(&made, TYPE_A, 4);
+        put_address(&made, i);
+    }
+    return made;
+}
+
+struct bytes zone_names(uint32_t count)
+{
+    struct bytes made = {0};
+    for (uint32_t i = 0; i < count; i++) {
+        char name[32];
+        snprintf(name, sizeof name, "z%u.example.", i);
+        put_name(&made, name);
+    }
+    return made;
+}
+
+struct bytes one_name(const char *name)
+{
+    struct bytes made = {0};
+    put_name(&made, name);
+    return made;
+}
+
+struct bytes networks(uint32_t count)
+{
+    struct bytes made = {0};
+    for (uint32_t i = 0; i < count; i++) {
+        put32(&made, (10u << 24) + (i << 8));
+        put8(&made, 24);
+    }
+    return made;
+}

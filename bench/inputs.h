@@ -1,0 +1,32 @@
+// The bytes that the cases are run on.
+#ifndef INPUTS_H
+#define INPUTS_H
+
+#include <stddef.h>
+#include <stdint.h>
+
+struct bytes {
+    uint8_t *at;
+    size_t len;
+    size_t room;
+};
+
+// A query for the address of www.example.com. with EDNS (RFC 6891), a payload of 1232 bytes.
+struct bytes edns_query(void);
+// A query for the address of a name, without EDNS.
+struct bytes address_query(const char *name);
+// A response with `count` addresses of www.example.com., each owner a pointer to the question.
+struct bytes addresses(uint32_t count);
+// A response with `count` MX records: the owners n0.example.com., n1.example.com. and so on, the exchange of each
+// mx below its owner. Names are compressed (RFC 1035 section 4.1.4).
+struct bytes exchanges(uint32_t count);
+// The zone example.com. as the answers of a message: SOA, NS, the server's address, and `count` addresses of www.
+struct bytes zone(uint32_t count);
+// `count` names, z0.example., z1.example. and so on, one behind the other.
+struct bytes zone_names(uint32_t count);
+// One name.
+struct bytes one_name(const char *name);
+// `count` networks of 256 IPv4 addresses, from 10.0.0.0/24 on: four bytes and the length of the prefix each.
+struct bytes networks(uint32_t count);
+
+#endif

@@ -1,0 +1,91 @@
+//! Whole replies: a request is read, its zone found and searched, and the reply made and written.
+
+ghost use Rattle.std.specs.Prelude.{None};
+
+use crate::WRONG;
+use crate::messages::request;
+use crate::reply_sizes::ReplySizes;
+use crate::zone::zone;
+use hickory_base::server::RequestHandler;
+use hickory_base::zone_store::ZoneHandler;
+use hickory_catalog::catalog::Catalog;
+use hickory_catalog::signer::{ReplySigner, SignError};
+use hickory_wire::{Boxed, LowerName, Record, TSIG, TSigResponseContext};
+use std::alloc::Global;
+
+/// A signer without a key.
+#[derive(Drop)]
+pub(crate) struct NoSigner;
+
+impl ReplySigner for NoSigner {
+    ghost signature_for = { λ _ _ _. None };
+
+    fn sign(
+        &self,
+        _alloc: Global,
+        _context: &TSigResponseContext,
+        _bytes: &[u8],
+    ) -> Result<Boxed<Record<TSIG>>, SignError> {
+        Err(SignError::Failed)
+    }
+}
+
+/// The catalog with one zone, which this handler answers for.
+fn catalog<H: ZoneHandler>(
+    alloc: Global,
+    origin: LowerName,
+    handler: H,
+) -> Option<Catalog<NoSigner, H>> {
+    let mut chain = Vec::new(alloc);
+    chain.push(handler).ok()?;
+    let mut catalog = Catalog::new(alloc, NoSigner);
+    catalog.upsert(origin, chain).ok()?;
+    Some(catalog)
+}
+
+#[inline(never)]
+fn measured_answer_request<H: ZoneHandler>(
+    alloc: Global,
+    catalog: &mut Catalog<NoSigner, H>,
+    sizes: &mut ReplySizes,
+    bytes: &[u8],
+    rounds: u64,
+) -> Option<()> {
+    for _ in 0..rounds {
+        let request = request(alloc, bytes)?;
+        catalog.handle_request(alloc, &request, 0, sizes).ok()?;
+    }
+    Some(())
+}
+
+/// Answers the request that bytes begin with, in each round anew, by this handler.
+fn answer<H: ZoneHandler>(
+    alloc: Global,
+    origin: LowerName,
+    handler: H,
+    bytes: &[u8],
+    rounds: u64,
+) -> Option<u64> {
+    let mut catalog = catalog(alloc, origin, handler)?;
+    let mut sizes = ReplySizes::new(alloc);
+    measured_answer_request(alloc, &mut catalog, &mut sizes, bytes, rounds)?;
+    Some(sizes.total())
+}
+
+/// The same, by a zone in memory in a box, as handlers of several types are.
+fn answer_boxed(alloc: Global, zone_bytes: &[u8], bytes: &[u8], rounds: u64) -> Option<u64> {
+    let (origin, handler) = zone(alloc, zone_bytes)?;
+    let handler: Box<dyn ZoneHandler> = Box::new(alloc, handler).ok()?;
+    answer(alloc, origin, handler, bytes, rounds)
+}
+
+/// Answers a request from a zone, whose records are the answers of a message; answers how many bytes all replies had.
+#[unsafe(no_mangle)]
+pub extern "C" fn bench_calls_answer_request(
+    alloc: Global,
+    zone: &[u8],
+    bytes: &[u8],
+    rounds: u64,
+) -> u64 {
+    answer_boxed(alloc, zone, bytes, rounds).unwrap_or(WRONG)
+}

@@ -1,0 +1,63 @@
+//! The zone of a name.
+
+use crate::WRONG;
+use crate::answers::NoSigner;
+use hickory_base::zone_store::InMemoryZoneHandler;
+use hickory_catalog::catalog::Catalog;
+use hickory_wire::{BinDecoder, LowerName};
+use std::alloc::Global;
+
+/// The name at the decoder's place, in lower case.
+fn lower_name(alloc: Global, decoder: &mut BinDecoder<'_>) -> Option<LowerName> {
+    let name = decoder.read_name(alloc).ok()?;
+    LowerName::new(alloc, &name).ok()
+}
+
+/// A catalog with a zone for each of the names that stand in bytes one behind the other. No zone has a handler.
+fn catalog(alloc: Global, names: &[u8]) -> Option<Catalog<NoSigner, InMemoryZoneHandler>> {
+    let mut catalog = Catalog::new(alloc, NoSigner);
+    let mut decoder = BinDecoder::new(names);
+    for _ in 0..names.len() {
+        if decoder.index() >= names.len() {
+            break;
+        }
+        let name = lower_name(alloc, &mut decoder)?;
+        catalog.upsert(name, Vec::new(alloc)).ok()?;
+    }
+    Some(catalog)
+}
+
+#[inline(never)]
+fn measured_find_zone(
+    alloc: Global,
+    catalog: &Catalog<NoSigner, InMemoryZoneHandler>,
+    wanted: &LowerName,
+    rounds: u64,
+) -> Option<u64> {
+    let mut found = 0u64;
+    for _ in 0..rounds {
+        if catalog.find(alloc, wanted).ok()?.is_some() {
+            found = found.wrapping_add(1);
+        }
+    }
+    Some(found)
+}
+
+/// In how many rounds there was a zone for the name.
+fn found(alloc: Global, names: &[u8], wanted: &[u8], rounds: u64) -> Option<u64> {
+    let catalog = catalog(alloc, names)?;
+    let wanted = lower_name(alloc, &mut BinDecoder::new(wanted))?;
+    measured_find_zone(alloc, &catalog, &wanted, rounds)
+}
+
+/// Finds the zone of a name among zones whose names stand in bytes one behind the other; answers in how many rounds
+/// there was one.
+#[unsafe(no_mangle)]
+pub extern "C" fn bench_calls_find_zone(
+    alloc: Global,
+    zones: &[u8],
+    wanted: &[u8],
+    rounds: u64,
+) -> u64 {
+    found(alloc, zones, wanted, rounds).unwrap_or(WRONG)
+}
