@@ -2,7 +2,7 @@
 //
 //   bench instructions [WORD]   under callgrind, which counts within the functions named measured* alone, and writes one
 //                               file for each measurement; what is printed is of how many rounds it is
-//   bench times [WORD]          nanoseconds for one round
+//   bench times [WORD]          nanoseconds of processor time for one round
 //   bench allocations [WORD]    how often one round asks for memory; only in a build with COUNT_ALLOCATIONS
 //
 // WORD stands in the names of the cases that are run. A line of the output: case, size, side, what one round came to,
@@ -127,10 +127,11 @@ static void count_instructions(const struct side *side, const struct job *job)
     printf("%" PRIu64 "\n", rounds_to_count(job));
 }
 
+// Of processor time, so that what else the machine runs counts little.
 static double seconds(void)
 {
     struct timespec now;
-    clock_gettime(CLOCK_MONOTONIC, &now);
+    clock_gettime(CLOCK_PROCESS_CPUTIME_ID, &now);
     return (double)now.tv_sec + 1e-9 * (double)now.tv_nsec;
 }
 

@@ -14,8 +14,9 @@ OUT = f"{HERE}/out"
 
 HEAD = """\
 Ours beside trust-dns 0.22 (peer) and ldns, all built and measured on one machine in one run.
-Instructions of one call, counted by callgrind; nanoseconds of one call, the least of seven; how often one call asks for
-memory (malloc, calloc, realloc); and what it came to: bytes written, records read, 1 for found or allowed.
+Instructions of one call, counted by callgrind; nanoseconds of processor time of one call, the least of seven; how often
+one call asks for memory (malloc, calloc, realloc); and what it came to: bytes written, records read, 1 for found or
+allowed.
 A ratio is ours / peer: below 1 ours needs less. '-': the side has no such call, or does not answer the case yet.
 """
 
