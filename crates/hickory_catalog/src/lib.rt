@@ -7,6 +7,8 @@ mod chains;
 mod denying;
 mod edns;
 mod forwarded;
+#[cfg(test)]
+mod lookup_tests;
 mod queries;
 mod requests;
 mod sending;
