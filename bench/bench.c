@@ -17,7 +17,7 @@
 #include <time.h>
 #include <valgrind/callgrind.h>
 
-enum call { READ_REQUEST, READ_MESSAGE, WRITE_MESSAGE, ANSWER_REQUEST, FIND_ZONE, ALLOW };
+enum call { READ_REQUEST, READ_MESSAGE, WRITE_MESSAGE, ANSWER_REQUEST, FIND_ZONE, ALLOW, READ_BLOCKLIST, IS_BLOCKED };
 
 struct side {
     const char *name;
@@ -27,13 +27,17 @@ struct side {
     uint64_t (*answer_request)(const uint8_t *, size_t, const uint8_t *, size_t, uint64_t);
     uint64_t (*find_zone)(const uint8_t *, size_t, const uint8_t *, size_t, uint64_t);
     uint64_t (*allow)(const uint8_t *, size_t, uint32_t, uint64_t);
+    uint64_t (*read_blocklist)(const uint8_t *, size_t, uint64_t);
+    uint64_t (*is_blocked)(const uint8_t *, size_t, const uint8_t *, size_t, uint64_t);
 };
 
 static const struct side sides[] = {
     {"ours", bench_calls_read_request, bench_calls_read_message, bench_calls_write_message,
-     bench_calls_answer_request, bench_calls_find_zone, bench_calls_allow},
-    {"peer", peer_read_request, peer_read_message, peer_write_message, peer_answer_request, peer_find_zone, NULL},
-    {"ldns", NULL, ldns_read_message, ldns_write_message, NULL, NULL, NULL},
+     bench_calls_answer_request, bench_calls_find_zone, bench_calls_allow, bench_calls_read_blocklist,
+     bench_calls_is_blocked},
+    {"peer", peer_read_request, peer_read_message, peer_write_message, peer_answer_request, peer_find_zone, NULL, NULL,
+     peer_is_blocked},
+    {"ldns", NULL, ldns_read_message, ldns_write_message, NULL, NULL, NULL, NULL, NULL},
 };
 
 #define SIDES (sizeof sides / sizeof sides[0])
@@ -42,7 +46,7 @@ struct job {
     char name[64];
     uint32_t size;
     enum call call;
-    // The message, zone, names or networks; then the request or the name, where there is one.
+    // The message, zone, names, networks or list; then the request or the name, where there is one.
     struct bytes input;
     struct bytes second;
     // The limit or the address.
@@ -65,6 +69,10 @@ static int has_call(const struct side *side, const struct job *job)
         return side->find_zone != NULL;
     case ALLOW:
         return side->allow != NULL;
+    case READ_BLOCKLIST:
+        return side->read_blocklist != NULL;
+    case IS_BLOCKED:
+        return side->is_blocked != NULL;
     }
     return 0;
 }
@@ -91,6 +99,12 @@ static uint64_t run(const struct side *side, const struct job *job, uint64_t rou
         break;
     case ALLOW:
         answer = side->allow(in->at, in->len, job->number, rounds);
+        break;
+    case READ_BLOCKLIST:
+        answer = side->read_blocklist(in->at, in->len, rounds);
+        break;
+    case IS_BLOCKED:
+        answer = side->is_blocked(in->at, in->len, second->at, second->len, rounds);
         break;
     }
     if (answer == WRONG) {
@@ -315,6 +329,27 @@ static void measure_maps(void)
         measure("access by networks", entries[i], ALLOW, networks(entries[i]), none, (10u << 24) + (entries[i] / 2 << 8) + 1);
 }
 
+// The names asked for are beside each other in the list: the name in its middle, and names below that one, which no
+// wildcard is above.
+static void measure_blocklist(void)
+{
+    char name[64];
+    EACH(i, entries)
+        measure("read a list of blocked names", entries[i], READ_BLOCKLIST, blocked_names(entries[i]), none, 0);
+    EACH(i, entries) {
+        snprintf(name, sizeof name, "z%u.example.", entries[i] / 2);
+        measure("blocklist, a hit", entries[i], IS_BLOCKED, blocked_names(entries[i]), one_name(name), 0);
+    }
+    EACH(i, entries) {
+        snprintf(name, sizeof name, "www.z%u.example.", entries[i] / 2);
+        measure("blocklist, a miss of three labels", entries[i], IS_BLOCKED, blocked_names(entries[i]), one_name(name), 0);
+    }
+    EACH(i, entries) {
+        snprintf(name, sizeof name, "a.b.c.d.e.f.g.z%u.example.", entries[i] / 2);
+        measure("blocklist, a miss of nine labels", entries[i], IS_BLOCKED, blocked_names(entries[i]), one_name(name), 0);
+    }
+}
+
 int main(int argc, char **argv)
 {
     if (argc < 2 || argc > 3) {
@@ -326,5 +361,6 @@ int main(int argc, char **argv)
     measure_messages();
     measure_replies();
     measure_maps();
+    measure_blocklist();
     return 0;
 }

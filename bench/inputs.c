@@ -185,6 +185,17 @@ struct bytes zone_names(uint32_t count)
     return made;
 }
 
+struct bytes blocked_names(uint32_t count)
+{
+    struct bytes made = {0};
+    for (uint32_t i = 0; i < count; i++) {
+        char line[32];
+        int len = snprintf(line, sizeof line, "%sz%u.example.\n", i % 2 == 0 ? "" : "*.", i);
+        put(&made, line, (size_t)len);
+    }
+    return made;
+}
+
 struct bytes one_name(const char *name)
 {
     struct bytes made = {0};

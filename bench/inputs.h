@@ -24,6 +24,9 @@ struct bytes exchanges(uint32_t count);
 struct bytes zone(uint32_t count);
 // `count` names, z0.example., z1.example. and so on, one behind the other.
 struct bytes zone_names(uint32_t count);
+// `count` lines of a list of blocked names: z0.example., *.z1.example., z2.example. and so on, each other line a
+// wildcard.
+struct bytes blocked_names(uint32_t count);
 // One name.
 struct bytes one_name(const char *name);
 // `count` networks of 256 IPv4 addresses, from 10.0.0.0/24 on: four bytes and the length of the prefix each.

@@ -15,9 +15,9 @@ OUT = f"{HERE}/out"
 HEAD = """\
 Ours beside trust-dns 0.22 (peer) and ldns, all built and measured on one machine in one run.
 Instructions of one call, counted by callgrind; nanoseconds of processor time of one call, the least of seven; how often
-one call asks for memory (malloc, calloc, realloc); and what it came to: bytes written, records read, 1 for found or
-allowed.
-A ratio is ours / peer: below 1 ours needs less. '-': the side has no such call, or does not answer the case yet.
+one call asks for memory (malloc, calloc, realloc); and what it came to: bytes written, records or entries read, 1 for
+found, allowed or blocked, 0 for not.
+A ratio is ours / peer: below 1 ours needs less. '-': the side has no such call.
 """
 
 
@@ -41,11 +41,6 @@ class Row:
         self.instructions = {s: found[1] for s in measurements.SIDES if (found := of(instructions, s))}
         self.times = {s: of(times, s) for s in self.instructions}
         self.allocations = {s: of(allocations, s) for s in self.instructions}
-        # A reply without records where the peer's has an SOA record: such errors are answered ServFail for now.
-        self.is_pending = "NXDomain" in case and self.answers["ours"] < 40
-        if self.is_pending:
-            for figures in (self.answers, self.instructions, self.times, self.allocations):
-                del figures["ours"]
 
     def ratio(self):
         ours, peer = self.instructions.get("ours"), self.instructions.get("peer")
@@ -65,6 +60,13 @@ class Row:
         ]
 
 
+def load_line(loads):
+    """How busy the machine was, which weakens times and leaves instructions as they are."""
+    load, processors = max(loads), os.cpu_count()
+    advice = ", so busy that the times are weak" if load > processors else ""
+    return f"Load while the times were taken: up to {load:.1f} on {processors} processors{advice}.\n"
+
+
 COLUMNS = ["size", "ours", "peer", "ldns", "ratio", "ours", "peer", "ldns", "ratio", "ours", "peer", "ours", "peer"]
 GROUPS = [("", 1), ("instructions", 4), ("nanoseconds", 4), ("allocations", 2), ("came to", 2)]
 
@@ -82,7 +84,7 @@ def growth(rows):
     return f"  from {low.size:,} to {high.size:,} (times {times:.0f}): " + ", ".join(parts)
 
 
-def table(rows):
+def table(rows, loads):
     cells = [COLUMNS] + [row.cells() for row in rows]
     widths = [max(len(line[i]) for line in cells) for i in range(len(COLUMNS))]
 
@@ -93,7 +95,7 @@ def table(rows):
     for title, count in GROUPS:
         titles.append(title.center(sum(widths[at : at + count]) + 2 * (count - 1)))
         at += count
-    lines = [HEAD, "  ".join(titles).rstrip(), line_of(COLUMNS)]
+    lines = [HEAD + load_line(loads), "  ".join(titles).rstrip(), line_of(COLUMNS)]
     for case in dict.fromkeys(row.case for row in rows):
         of_case = [row for row in rows if row.case == case]
         lines += ["", case + growth(of_case)] + [line_of(row.cells()) for row in of_case]
@@ -103,9 +105,11 @@ def table(rows):
 def measured_rows():
     instructions = measurements.instructions(f"{OUT}/bench", OUT)
     allocations = measurements.figures(f"{OUT}/bench-allocations", "allocations")
+    before = os.getloadavg()[0]
     times = measurements.figures(f"{OUT}/bench", "times")
+    loads = before, os.getloadavg()[0]
     places = dict.fromkeys((case, size) for case, size, _ in instructions)
-    return [Row(case, size, instructions, times, allocations) for case, size in places]
+    return [Row(case, size, instructions, times, allocations) for case, size in places], loads
 
 
 def print_shares(case, size):
@@ -123,8 +127,8 @@ def main(words):
     if len(words) == 3 and words[0] == "shares":
         print_shares(words[1], int(words[2].replace(",", "")))
     elif not words:
-        rows = measured_rows()
-        text = table(rows)
+        rows, loads = measured_rows()
+        text = table(rows, loads)
         with open(f"{HERE}/table.txt", "w", encoding="utf-8") as file:
             file.write(text)
         with open(f"{HERE}/chart.svg", "w", encoding="utf-8") as file:

@@ -1,16 +1,19 @@
 //! The calls of trust-dns 0.22 that are measured: one C function for each, as in `bench.h`. The calls alone stand in a
 //! function whose name begins with `measured`, so that a tool that counts by functions sees them apart.
 
+use std::collections::HashSet;
+use std::hint::black_box;
 use std::io;
 use std::net::{IpAddr, Ipv4Addr, SocketAddr};
 use std::slice;
+use std::str;
 use std::sync::atomic::{AtomicU64, Ordering};
 use std::sync::Arc;
 
 use futures_executor::block_on;
 use trust_dns_client::rr::LowerName;
-use trust_dns_proto::op::Message;
-use trust_dns_proto::rr::{Name, Record};
+use trust_dns_proto::op::{Message, Query};
+use trust_dns_proto::rr::{Name, RData, Record, RecordType};
 use trust_dns_proto::serialize::binary::{BinDecodable, BinDecoder, BinEncodable, BinEncoder};
 use trust_dns_server::authority::{Catalog, MessageRequest, MessageResponse, ZoneType};
 use trust_dns_server::server::{Protocol, Request, RequestHandler, ResponseHandler, ResponseInfo};
@@ -232,4 +235,78 @@ pub unsafe extern "C" fn peer_find_zone(
     rounds: u64,
 ) -> u64 {
     found(bytes_at(zones, zones_len), bytes_at(wanted, len), rounds).unwrap_or(WRONG)
+}
+
+/// A list of blocked names as the crates after trust-dns keep one, which has none itself: names in a hash set.
+struct Blocklist(HashSet<LowerName>);
+
+/// How many labels must stand behind the `*` of a wildcard.
+const WILDCARD_DEPTH: u8 = 2;
+
+impl Blocklist {
+    /// The names that the lines of a text list.
+    fn from_text(text: &[u8]) -> Option<Self> {
+        let mut names = HashSet::new();
+        for line in str::from_utf8(text).ok()?.lines() {
+            names.insert(LowerName::new(&Name::from_ascii(line).ok()?));
+        }
+        Some(Blocklist(names))
+    }
+
+    /// Whether the list has the name, or a wildcard above it.
+    fn blocks(&self, name: &LowerName) -> bool {
+        if self.0.contains(name) {
+            return true;
+        }
+        let mut below = name.clone();
+        while below.num_labels() > WILDCARD_DEPTH {
+            // The first label is what the `*` takes the place of.
+            if self.0.contains(&below.clone().into_wildcard()) {
+                return true;
+            }
+            below = below.base_name();
+        }
+        false
+    }
+
+    /// The question and the records that answer it, where the name is blocked.
+    fn lookup(&self, name: &LowerName, record_type: RecordType) -> Option<(Query, Vec<Record>)> {
+        if !self.blocks(name) {
+            return None;
+        }
+        let query = Query::query(Name::from(name), record_type);
+        let address = RData::A(Ipv4Addr::UNSPECIFIED);
+        let record = Record::from_rdata(Name::from(name), 86_400, address);
+        Some((query, vec![record]))
+    }
+}
+
+#[inline(never)]
+fn measured_is_blocked(list: &Blocklist, name: &LowerName, rounds: u64) -> u64 {
+    let mut blocked = 0;
+    for _ in 0..rounds {
+        blocked += u64::from(black_box(list.lookup(name, RecordType::A)).is_some());
+    }
+    blocked
+}
+
+fn blocked(list: &[u8], name_bytes: &[u8], rounds: u64) -> Option<u64> {
+    let list = Blocklist::from_text(list)?;
+    let name = name(&mut BinDecoder::new(name_bytes))?;
+    Some(measured_is_blocked(&list, &name, rounds))
+}
+
+/// Asks a list of blocked names for the address of a name; the number of rounds in which it was blocked.
+///
+/// # Safety
+/// `list` points to `list_len` bytes, `name` to `len` bytes.
+#[no_mangle]
+pub unsafe extern "C" fn peer_is_blocked(
+    list: *const u8,
+    list_len: usize,
+    name: *const u8,
+    len: usize,
+    rounds: u64,
+) -> u64 {
+    blocked(bytes_at(list, list_len), bytes_at(name, len), rounds).unwrap_or(WRONG)
 }

@@ -7,6 +7,7 @@
 
 mod access;
 mod answers;
+mod blocklist;
 mod messages;
 mod reply_sizes;
 mod zone;

@@ -8,7 +8,7 @@ use hickory_wire::{BinDecoder, LowerName};
 use std::alloc::Global;
 
 /// The name at the decoder's place, in lower case.
-fn lower_name(alloc: Global, decoder: &mut BinDecoder<'_>) -> Option<LowerName> {
+pub(crate) fn lower_name(alloc: Global, decoder: &mut BinDecoder<'_>) -> Option<LowerName> {
     let name = decoder.read_name(alloc).ok()?;
     LowerName::new(alloc, &name).ok()
 }
