@@ -11,7 +11,7 @@ use crate::sending::{Sections, send_records};
 use hickory_base::errors::{DnsError, LookupError};
 use hickory_base::message_request::MessageRequest;
 use hickory_base::server::{ResponseHandler, ResponseInfo};
-use hickory_base::zone_store::AuthLookup;
+use hickory_base::zone_store::{AuthLookup, LookupOptions};
 use hickory_wire::{
     Boxed, Edns, Items, LowerQuery, Metadata, Name, Proof, Record, RecordType, ResponseCode,
 };
@@ -244,10 +244,7 @@ fn validated(alloc: Global, validates: bool, request: &Metadata, found: Findings
 fn asks_for_dnssec(request: &MessageRequest) -> bool
     ensures { result ≡ asks_for_dnssec request.now.edns }
 {
-    match &request.edns {
-        None => false,
-        Some(edns) => edns.dnssec_ok(),
-    }
+    LookupOptions::from_edns(request.edns.as_ref()).dnssec_ok
 }
 
 /// Whether the reply has AD.
