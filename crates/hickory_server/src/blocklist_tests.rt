@@ -204,16 +204,24 @@ fn a_message_stands_beside_the_address(rt: HostRuntime) -> Result<(), Fail> {
 /// What says ServFail where a reply has no form in bytes.
 const NO_FORM: &[u8] = b"\x00\x07\x80\x02\x00\x00\x00\x00\x00\x00\x00\x00";
 
-#[test]
-fn a_message_of_256_bytes_has_no_form(rt: HostRuntime) -> Result<(), Fail> {
-    let alloc = rt.alloc();
+/// Settings with a message of 256 bytes, one more than a string of a TXT record can have.
+fn long_message(alloc: Global) -> Result<BlocklistConfig, Fail> {
     let mut message = String::new(alloc);
     for _ in 0..256u32 {
         message.push_str("m")?;
     }
     let mut config = BlocklistConfig::default();
     config.block_message = Some(message);
-    assert_eq!(rt; reply_of_list(alloc, config, QUERY)?.as_slice(), NO_FORM);
+    Ok(config)
+}
+
+#[test]
+fn a_message_of_256_bytes_has_no_form(rt: HostRuntime) -> Result<(), Fail> {
+    let alloc = rt.alloc();
+    assert_eq!(rt;
+        reply_of_list(alloc, long_message(alloc)?, QUERY)?.as_slice(),
+        NO_FORM
+    );
     Ok(())
 }
 
@@ -221,7 +229,7 @@ fn a_message_of_256_bytes_has_no_form(rt: HostRuntime) -> Result<(), Fail> {
 fn without_recursion_a_list_refuses(rt: HostRuntime) -> Result<(), Fail> {
     let alloc = rt.alloc();
     assert_eq!(rt;
-        reply_of_list(alloc, BlocklistConfig::default(), NOT_RECURSIVE)?.as_slice(),
+        reply_of_list(alloc, long_message(alloc)?, NOT_RECURSIVE)?.as_slice(),
         b"\x00\x07\x80\x85\x00\x01\x00\x00\x00\x00\x00\x00\
             \x03foo\x03com\x00\x00\x01\x00\x01"
             .as_slice()

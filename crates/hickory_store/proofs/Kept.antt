@@ -1,19 +1,17 @@
 -- The names on a list, and beside them the bases of the wildcards among them, as names are put in.
 use Rattle.std.proofs.Common.{◌≡◌, ℕ, Bool, true, false, cond, List, [], ◌∷◌, drop, inl, inr, refl, sym, ap, subst, ◌∙◌}
 use Rattle.std.specs.Prelude.{◌↔◌, ◌⊎◌, IsTrue}
-use Rattle.std.specs.List.{All, AllByRecursion, list_any}
-use Rattle.std.specs.List.Sorted.{IsStrictlySortedBy}
+use Rattle.std.specs.Bool.{MatchBool}
+use Rattle.std.specs.List.{All, list_any, IsDistinct}
+use Rattle.std.specs.List.Sorted.{IsPermutation}
 use Rattle.std.specs.Cmp.{IsEquivalence, eq_by_cmp_equiv}
-use Rattle.std.specs.BTreeSet.{insert_key}
-use Rattle.std.specs.Ordering.{match_ordering}
-use Rattle.std.specs.declared.cmp.Ordering.{Ordering}
-use Rattle.std.specs.declared.cmp.Ordering.TheVariants.{Less, Equal, Greater}
 use Rattle.std.proofs.lemmas.Bool.{false≢true}
 use Rattle.std.proofs.lemmas.List.Elements.{All-from_recursion, recursion_from_All}
+use Rattle.std.proofs.lemmas.List.Sorted.{All-permutation}
 use Rattle.std.proofs.lemmas.List.Folds.{Any-from_list_any, list_any-from_Any}
 use Rattle.std.proofs.lemmas.Map.Steps.{list_any_congr}
 use Rattle.hickory_wire.specs.DomainName.{DomainName}
-use Rattle.hickory_wire.specs.NameOrder.{SameName, lower_labels, name_cmp, name_cmp_total, name_eq, is_wildcard}
+use Rattle.hickory_wire.specs.NameOrder.{SameName, lower_labels, name_cmp_total, name_eq, is_wildcard}
 use Rattle.hickory_wire.specs.NameHash.{same_from_eq}
 use Rattle.hickory_wire.proofs.SameNames.{eq_from_same, eq_is, both_ways, is_false}
 use Rattle.hickory_store.specs.Entries.{HasEntry, IsEntry, AreEntries, AddsEntry, wildcard_over}
@@ -68,23 +66,15 @@ module _ (old : List DomainName) (entry : DomainName) (new : List DomainName) (p
     λ either. has_entry new q (elim either [ inl a ↦ put_old q (name_eq entry q) refl (entry_has old q a) | inr s ↦ put_new q s ]),
   )
 
--- ---- the entries stay in order, in lower case and fully qualified
+-- ---- the entries stay in lower case and fully qualified, each of them once
 
-put_step : (entry x : DomainName) (xs : List DomainName) (o : Ordering) → IsEntry entry → IsEntry x → AllByRecursion IsEntry xs → AllByRecursion IsEntry (insert_key name_cmp xs entry)
-    → AllByRecursion IsEntry (match_ordering o (entry ∷ x ∷ xs) (x ∷ xs) (x ∷ insert_key name_cmp xs entry))
-put_step entry x xs Less e h hs more = (e, (h, hs))
-put_step entry x xs Equal e h hs more = (h, hs)
-put_step entry x xs Greater e h hs more = (h, more)
+each_put : (old : List DomainName) (entry : DomainName) (new : List DomainName) (added : Bool) → AreEntries old → IsEntry entry → MatchBool added (IsPermutation (entry ∷ old) new) (new ≡ old) → All IsEntry new
+each_put old entry new true are e puts =
+    All-permutation IsEntry (entry ∷ old) new puts (All-from_recursion IsEntry (entry ∷ old) (e, recursion_from_All IsEntry old are.each))
+each_put old entry new false are e puts = subst (All IsEntry) (sym puts) are.each
 
-put_each : (entry : DomainName) (xs : List DomainName) → IsEntry entry → AllByRecursion IsEntry xs → AllByRecursion IsEntry (insert_key name_cmp xs entry)
-put_each entry [] e h = (e, tt)
-put_each entry (x ∷ xs) e h = put_step entry x xs (name_cmp entry x) e h.0 h.1 (put_each entry xs e h.1)
-
-pub put_entries : (old : List DomainName) (entry : DomainName) (new : List DomainName) → AreEntries old → IsEntry entry → new ≡ insert_key name_cmp old entry → IsStrictlySortedBy name_cmp new → AreEntries new
-put_entries old entry new are e is once = record {
-  each = subst (All IsEntry) (sym is) (All-from_recursion IsEntry (insert_key name_cmp old entry) (put_each entry old e (recursion_from_All IsEntry old are.each)));
-  once = once;
-}
+pub put_entries : (old : List DomainName) (entry : DomainName) (new : List DomainName) (added : Bool) → AreEntries old → IsEntry entry → MatchBool added (IsPermutation (entry ∷ old) new) (new ≡ old) → IsDistinct name_eq new → AreEntries new
+put_entries old entry new added are e puts once = record { each = each_put old entry new added are e puts; once = once }
 
 -- ---- wildcards and their bases
 

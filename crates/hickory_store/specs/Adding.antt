@@ -8,7 +8,7 @@ use Rattle.hickory_store.specs.Readers.{ReadsToEnd}
 use Rattle.hickory_store.specs.declared.blocklist.handler.AddError.{AddError}
 use Rattle.hickory_store.specs.declared.blocklist.handler.AddError.TheVariants.{Io, NotUtf8, Memory}
 
--- the reader was read to its end, and gave these bytes, which are text
+-- the reader was read to its end, and gave these bytes, which are text; of a reader that does not tell what it has left, any bytes will do
 pub record ReadsText (left after : Option (List ℕ)) (bytes : List ℕ) : Type 0 where
   pub whole : ReadsToEnd left after bytes
   pub utf8 : IsUtf8 bytes

@@ -1,9 +1,8 @@
 -- The names on a list, as a list of names in which each stands once.
 use Rattle.std.specs.Prelude.{◌≡◌, ◌↔◌, ◌<◌, ◌⊎◌, ℕ, true, List, [], ◌∷◌, length, take, Option, Some, None}
-use Rattle.std.specs.List.{All, Any, list_any}
-use Rattle.std.specs.List.Sorted.{IsStrictlySortedBy}
+use Rattle.std.specs.List.{All, Any, list_any, IsDistinct}
 use Rattle.hickory_wire.specs.DomainName.{DomainName}
-use Rattle.hickory_wire.specs.NameOrder.{SameName, lower_labels, name_cmp, name_eq, is_wildcard}
+use Rattle.hickory_wire.specs.NameOrder.{SameName, lower_labels, name_eq, is_wildcard}
 use Rattle.hickory_store.specs.ListLines.{Lists}
 use Rattle.hickory_store.specs.declared.blocklist.lines.Listed.{Listed}
 
@@ -20,10 +19,10 @@ pub record IsEntry (name : DomainName) : Type 0 where
   pub lower : lower_labels name.labels ≡ name.labels
   pub full : name.is_fqdn ≡ true
 
--- The entries are fully qualified names in lower case, and each stands once: they ascend.
+-- The entries are fully qualified names in lower case, and each stands once.
 pub record AreEntries (entries : List DomainName) : Type 0 where
   pub each : All IsEntry entries
-  pub once : IsStrictlySortedBy name_cmp entries
+  pub once : IsDistinct name_eq entries
 
 -- the new entries are the old ones and this name
 abbrev pub AddsEntry : List DomainName → DomainName → List DomainName → Type 0

@@ -1,4 +1,5 @@
--- What the text of a list says: a name on a line, or the address 0.0.0.0, one blank and a name, as in a hosts file. A `#` begins a comment.
+-- What the text of a list says: a name on a line, or the address 0.0.0.0, one blank and a name, as in a hosts file; other white space than
+-- blanks does not matter around the address. A `#` begins a comment.
 use Rattle.std.specs.Prelude.{◌≡◌, ◌==◌, ℕ, Bool, true, if◌then◌else◌, List, Option, Some, None}
 use Rattle.std.specs.List.{list_any, before_first, after_first}
 use Rattle.std.specs.Str.{trim, bytes_eq}
@@ -7,11 +8,11 @@ use Rattle.hickory_wire.specs.DomainName.{DomainName}
 use Rattle.hickory_wire.specs.NameOrder.{SameName}
 use Rattle.hickory_wire.specs.NameText.{IsNameText}
 
--- `#`, which begins a comment
+-- the byte is `#`, which begins a comment
 abbrev pub is_comment : ℕ → Bool
 is_comment b = b == 35
 
--- a blank; no other white space parts an address from a name
+-- the byte is a blank; no other white space parts an address from a name
 abbrev pub is_blank : ℕ → Bool
 is_blank b = b == 32
 
@@ -19,7 +20,8 @@ is_blank b = b == 32
 abbrev pub entry_of : List ℕ → List ℕ
 entry_of line = if list_any is_comment line then trim (before_first is_comment line) else line
 
--- What stands where an entry has its name: behind the first blank, where 0.0.0.0 stands before it, or all of an entry without a blank.
+-- What stands where an entry has its name: behind the first blank, where 0.0.0.0 stands before it, other white space aside, or all of an
+-- entry without a blank.
 abbrev pub name_of : List ℕ → Option (List ℕ)
 name_of entry =
     if list_any is_blank entry

@@ -9,15 +9,15 @@ ghost use Rattle.hickory_store.specs.Blocked.{IsUnderWildcard};
 use crate::blocklist::lines::{Listed, read_line};
 use hickory_wire::LowerName;
 use std::alloc::{AllocError, AllocFailed, Global};
-use std::collections::BTreeSet;
+use std::collections::HashSet;
 use std::marker::Model;
 
 /// The names on a list, each of them once.
 #[derive(Drop)]
 pub(crate) struct Entries {
-    names: BTreeSet<LowerName>,
+    names: HashSet<LowerName>,
     // For each name `*.s` the name s, so that a name asked is only shortened to find a wildcard above it.
-    wildcard_bases: BTreeSet<LowerName>,
+    wildcard_bases: HashSet<LowerName>,
 }
 
 impl Model for Entries {
@@ -52,8 +52,8 @@ impl Entries {
         ensures { result ≡ [] }
     {
         Entries {
-            names: BTreeSet::new(alloc),
-            wildcard_bases: BTreeSet::new(alloc),
+            names: HashSet::new(alloc),
+            wildcard_bases: HashSet::new(alloc),
         }
     }
 

@@ -86,9 +86,9 @@ impl BlocklistZoneHandler {
 
     /// Adds the names that a list has, to those that are there. The reader is read to its end before anything is added.
     ///
-    /// Each line lists a name, or the address `0.0.0.0`, one blank and a name; a `#` begins a comment, before which
-    /// white space does not matter. The final dot of a name may be missing, letter case does not matter, and the first
-    /// label may be `*`. Any other line is skipped.
+    /// Each line lists a name, or the address `0.0.0.0`, one blank and a name. A `#` begins a comment; white space around
+    /// what stands before it does not matter. The final dot of a name may be missing, letter case does not matter, and
+    /// `*` may stand as a label; as the first one it makes a wildcard. Any other line is skipped.
     pub fn add<R: ListReader>(&mut self, reader: &mut R) -> Result<(), AddError>
         ensures added { Adds result (R.remaining reader.old) (R.remaining reader.new) self.old.entries self.new.entries }
         ensures kept { self.new ≡ record self.old { entries = self.new.entries } }

@@ -5,7 +5,7 @@ use Rattle.hickory_store.proofs.blocklist.entries.Entries.insert_wildcard.Goals 
 
 pub invariant_of-self-in-Ok : goal.invariant_of-self-in-Ok
 invariant_of-self-in-Ok c = record {
-  entries = put_entries c.self.inside.names.keys c.args.name c.insert-2.new.self.keys c.self.invariant.entries c.requires.entry c.in-Ok.ensures.keys c.in-Ok.ensures.ordered;
+  entries = put_entries c.self.inside.names.keys c.args.name c.insert-2.new.self.keys c.in-Ok.field-0 c.self.invariant.entries c.requires.entry c.in-Ok.ensures.keys c.in-Ok.ensures.unique;
   beside = beside_wildcard c.self.inside.names.keys c.self.inside.wildcard_bases.keys c.self.invariant.beside c.args.name c.requires.entry c.requires.wildcard
       c.remove_first_label.new.self c.insert-2.new.self.keys c.insert.new.self.keys
       (shortened c.args.name c.in_ok-base.base c.remove_first_label.new.self c.requires.entry c.in_ok-base.ensures.cases c.remove_first_label.ensures)
