@@ -1,5 +1,5 @@
 -- Domain names and their wire form (RFC 1035, sections 2.3.4 and 3.1).
-use Rattle.std.specs.Prelude.{◌≡◌, ℕ, zero, suc, ◌+◌, ◌<◌, ◌≤◌, Bool, List, [], ◌∷◌, ◌++◌, length, take, drop, All, Option, Some, None}
+use Rattle.std.specs.Prelude.{◌≡◌, ℕ, zero, suc, ◌+◌, ◌<◌, ◌≤◌, Bool, List, [], ◌∷◌, ◌++◌, length, take, drop, All}
 
 -- the labels, the leftmost first, and whether the name is fully qualified
 pub record DomainName : Type 0 where
@@ -38,11 +38,6 @@ cut bytes = cut_within (length bytes) bytes
 pub record IsWire (bytes : List ℕ) : Type 0 where
   pub whole : wire_form (cut bytes) ≡ bytes
   pub are : AreLabels (cut bytes)
-
--- the bytes that an option holds, if any
-abbrev pub held : {A : Type 0} → (A → List ℕ) → Option A → List ℕ
-held bytes_of None = []
-held bytes_of (Some a) = bytes_of a
 
 -- where the length byte of the i-th label stands in the wire form
 abbrev pub label_offset : List (List ℕ) → ℕ → ℕ

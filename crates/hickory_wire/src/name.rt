@@ -1,7 +1,6 @@
 //! Domain names.
 
-ghost use Rattle.std.specs.Prelude.{◌≡◌, ◌↔◌, [], length, map, drop, IfOk, true, IsTrue};
-ghost use Rattle.std.specs.Char.{to_ascii_lowercase};
+ghost use Rattle.std.specs.Prelude.{◌≡◌, ◌↔◌, [], length, drop, IfOk, true, IsTrue};
 ghost use Rattle.std.specs.Ordering.{eq_by_cmp, as_partial_cmp};
 ghost use Rattle.std.specs.Cmp.{eq_by_cmp_equiv, partial_equiv_from_equiv, partial_order_from_total};
 ghost use Rattle.std.specs.Cmp.Rules.{comparing};

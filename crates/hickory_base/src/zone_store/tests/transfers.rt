@@ -125,7 +125,7 @@ fn an_update_is_not_made(rt: HostRuntime) -> Result<(), Fail> {
 }
 
 #[test]
-fn a_zone_has_no_denials_and_no_say_in_others_answers(rt: HostRuntime) -> Result<(), Fail> {
+fn a_zone_has_no_nsec_records(rt: HostRuntime) -> Result<(), Fail> {
     let alloc = rt.alloc();
     let zone = zone(alloc, EXAMPLE, AxfrPolicy::Deny)?;
     let name = lower(alloc, "nx.example.com.")?;
@@ -135,6 +135,14 @@ fn a_zone_has_no_denials_and_no_say_in_others_answers(rt: HostRuntime) -> Result
             LookupControlFlow::Skip
         )
     );
+    Ok(())
+}
+
+#[test]
+fn a_zone_has_no_nsec3_records(rt: HostRuntime) -> Result<(), Fail> {
+    let alloc = rt.alloc();
+    let zone = zone(alloc, EXAMPLE, AxfrPolicy::Deny)?;
+    let name = lower(alloc, "nx.example.com.")?;
     let info = Nsec3QueryInfo {
         qname: &name,
         qtype: RecordType::A,
@@ -149,6 +157,14 @@ fn a_zone_has_no_denials_and_no_say_in_others_answers(rt: HostRuntime) -> Result
             LookupControlFlow::Skip
         )
     );
+    Ok(())
+}
+
+#[test]
+fn a_zone_has_no_say_in_others_answers(rt: HostRuntime) -> Result<(), Fail> {
+    let alloc = rt.alloc();
+    let zone = zone(alloc, EXAMPLE, AxfrPolicy::Deny)?;
+    let name = lower(alloc, "nx.example.com.")?;
     let last = LookupControlFlow::Break(Ok(AuthLookup::Empty));
     let (answer, context) = zone.consult(alloc, &name, RecordType::A, None, PLAIN, last);
     assert!(rt; context.is_none());
