@@ -1,6 +1,6 @@
 //! What the handler answers.
 
-ghost use Rattle.std.specs.Prelude.{◌≡◌, ◌↔◌, Err, None, IfOk, IsTrue, false};
+ghost use Rattle.std.specs.Prelude.{◌≡◌, ◌↔◌, ◌⊎◌, Ok, Err, None, IfOk, IfErr, IfSome, IfNone, IsTrue, false};
 ghost use Rattle.hickory_base.specs.declared.errors.LookupError.TheVariants as lookup_error;
 ghost use Rattle.hickory_base.specs.declared.errors.UpdateFault.TheVariants as update_fault;
 ghost use Rattle.hickory_base.specs.declared.zone_store.handler.AxfrPolicy.TheVariants as axfr_policy;
@@ -73,8 +73,9 @@ impl BlocklistConfig {
         alloc: Global,
         name: &Name,
         record_type: RecordType,
-    ) -> Result<AuthLookup, AllocError>
-        ensures { IfOk result (λ found. found ≡ found_for self.now name.now record_type) }
+    ) -> Result<AuthLookup, LookupError>
+        ensures answered { IfOk result (λ found. found ≡ found_for self.now name.now record_type) }
+        ensures refused { IfErr result (λ e. e ≡ lookup_error.Memory) }
     {
         let query = Query {
             name: name.clone()?,
@@ -108,6 +109,23 @@ impl BlocklistZoneHandler {
             .is_under_wildcard(name, self.config.min_wildcard_depth)
     }
 
+    /// What a blocked name is answered with, and nothing for any other name.
+    fn block(
+        &self,
+        alloc: Global,
+        name: &LowerName,
+        record_type: RecordType,
+    ) -> Option<Result<AuthLookup, LookupError>>
+        ensures blocked { IfSome result (λ found. (IsBlockedBy self.now name.now × (found ≡ Ok (found_for self.now.config name.now record_type))) ⊎ (found ≡ Err lookup_error.Memory)) }
+        ensures free { IfNone result (¬ (IsBlockedBy self.now name.now)) }
+    {
+        match self.is_blocked(name) {
+            Ok(false) => None,
+            Ok(true) => Some(self.config.resolve(alloc, name.as_name(), record_type)),
+            Err(AllocError) => Some(Err(LookupError::Memory)),
+        }
+    }
+
     /// The answer for a blocked name, and for any other `otherwise`.
     fn answer(
         &self,
@@ -118,13 +136,9 @@ impl BlocklistZoneHandler {
     ) -> LookupControlFlow<AuthLookup>
         ensures { Answers self.now name.now record_type otherwise result }
     {
-        match self.is_blocked(name) {
-            Ok(false) => otherwise,
-            Ok(true) => match self.config.resolve(alloc, name.as_name(), record_type) {
-                Ok(found) => LookupControlFlow::Break(Ok(found)),
-                Err(AllocError) => LookupControlFlow::Break(Err(LookupError::Memory)),
-            },
-            Err(AllocError) => LookupControlFlow::Break(Err(LookupError::Memory)),
+        match self.block(alloc, name, record_type) {
+            Some(found) => LookupControlFlow::Break(found),
+            None => otherwise,
         }
     }
 }

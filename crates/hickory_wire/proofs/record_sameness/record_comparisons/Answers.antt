@@ -1,5 +1,5 @@
 use Rattle.std.proofs.Common.{◌≡◌, ℕ, true, ◌&&◌, nat_eq, List, ap}
-use Rattle.std.proofs.lemmas.Bool.{eq-eqb, eqb-true}
+use Rattle.std.proofs.lemmas.Bool.{eq-eqb, eqb-true, false≢true}
 use Rattle.hickory_wire.specs.NameOrder.{name_eq, lower_name}
 use Rattle.hickory_wire.specs.NameHash.{same_from_eq}
 use Rattle.hickory_wire.specs.RecordSameness.{lower_mx, lower_soa, lower_tsig}
@@ -8,13 +8,31 @@ use Rattle.hickory_wire.specs.declared.rdata.SOA.{SOA}
 use Rattle.hickory_wire.specs.declared.tsig.TSIG.{TSIG}
 use Rattle.hickory_wire.proofs.SameNames.{eq_from_same}
 use Rattle.std.specs.Cmp.Lexicographic.{pointwise}
+use Rattle.hickory_wire.specs.declared.rdata.RData.{RData}
 use Rattle.hickory_wire.specs.declared.rdata.RData.TheVariants as rdata
 use Rattle.hickory_wire.proofs.RecordComparing.{both_hold, hold_both, lower_from_eq, eq_from_lower, octets_from_eq, octets_equal, texts_from_eq, texts_equal, options_from_eq, options_equal, number_from_eq, number_equal}
 use Rattle.std.specs.declared.net.ipv4_addr.Ipv4Addr.{Ipv4Addr}
 use Rattle.std.specs.declared.net.ipv6_addr.Ipv6Addr.{Ipv6Addr}
 use Rattle.hickory_wire.proofs.record_sameness.record_comparisons.Goals as goal
 
+-- a number for each form of data, so that two forms differ by computing
+form : RData → ℕ
+form (rdata.A _) = 0
+form (rdata.AAAA _) = 1
+form (rdata.NS _) = 2
+form (rdata.CNAME _) = 3
+form (rdata.PTR _) = 4
+form (rdata.MX _) = 5
+form (rdata.SOA _) = 6
+form (rdata.TXT _) = 7
+form (rdata.OPT _) = 8
+form (rdata.TSIG _) = 9
+form (rdata.NULL _) = 10
+form (rdata.Update0 _) = 11
+form (rdata.Unknown _ _) = 12
+
 pub returns-clause-rdata : goal.returns-clause-rdata
+unfolding form
 returns-clause-rdata c (rdata.A x) (rdata.A y) = (λ h. ap (λ (o : List ℕ). let a : Ipv4Addr = record { octets = o } in rdata.A a) (octets_from_eq _ _ h), λ e. let f : x ≡ y = cc in rw (← f) (octets_equal x.octets))
 returns-clause-rdata c (rdata.AAAA x) (rdata.AAAA y) = (λ h. ap (λ (o : List ℕ). let a : Ipv6Addr = record { segments = o } in rdata.AAAA a) (octets_from_eq _ _ h), λ e. let f : x ≡ y = cc in rw (← f) (octets_equal x.segments))
 returns-clause-rdata c (rdata.NS x) (rdata.NS y) = (λ h. ap rdata.NS (lower_from_eq x y h), λ e. eq_from_lower x y (cc))
@@ -90,7 +108,7 @@ returns-clause-rdata c (rdata.Unknown x xs) (rdata.Unknown y ys) = (
       let q : xs ≡ ys = octets_from_eq _ _ both.1 in cc,
   λ e. let p : x ≡ y = cc in let q : xs ≡ ys = cc in hold_both _ _ (number_equal _ _ p) (rw (← q) (octets_equal xs)),
 )
-returns-clause-rdata c x y = (λ h. absurd (cc), λ e. absurd (cc))
+returns-clause-rdata c x y = (λ h. absurd (false≢true h), λ e. absurd (false≢true (ap (λ (d : RData). nat_eq (form d) (form y)) e)))
 
 pub returns-clause-records : goal.returns-clause-records
 returns-clause-records c = λ a b. (
