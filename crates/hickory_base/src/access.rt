@@ -249,6 +249,3 @@ pub fn rule_laws()
     ensures mapped_form { MappedFormIsAllowedAlike }
     ensures members { OnlyMembersDecide }
 {}
-
-#[cfg(test)]
-mod tests;

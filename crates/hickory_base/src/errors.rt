@@ -160,6 +160,3 @@ impl From<AllocError> for CatalogError {
         CatalogError::Memory
     }
 }
-
-#[cfg(test)]
-mod tests;

@@ -6,18 +6,10 @@ pub mod errors;
 pub mod message_request;
 pub mod message_response;
 pub mod message_sameness;
-#[cfg(test)]
-mod reply_tests;
 mod request_encoding;
 mod request_reading;
-#[cfg(test)]
-mod request_reading_tests;
-#[cfg(test)]
-mod request_tests;
 mod response_encoding;
 mod response_handler;
 pub mod server;
-#[cfg(test)]
-mod sink_tests;
 pub mod update_request;
 pub mod zone_store;

@@ -13,6 +13,3 @@ pub use handler::{AxfrPolicy, Nsec3QueryInfo, NxProofKind, ZoneHandler, ZoneType
 pub use in_memory::InMemoryZoneHandler;
 pub use lookup::{AuthLookup, Lookup, LookupControlFlow, LookupOptions, ZoneTransfer};
 pub use record_set::{RecordSet, RrKey};
-
-#[cfg(test)]
-mod tests;

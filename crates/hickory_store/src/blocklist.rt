@@ -10,6 +10,3 @@ mod reader;
 pub use config::{BlocklistConfig, BlocklistConsultAction};
 pub use handler::{AddError, BlocklistZoneHandler};
 pub use reader::{CountedReader, ListReader};
-
-#[cfg(test)]
-mod tests;

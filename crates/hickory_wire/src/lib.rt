@@ -67,12 +67,3 @@ pub use record_sameness::record_comparisons;
 pub use record_type::RecordType;
 pub use response_code::ResponseCode;
 pub use tsig::{TSIG, TSigResponseContext, TSigResponseKind, TsigError};
-
-#[cfg(test)]
-mod decoder_tests;
-#[cfg(test)]
-mod encoder_tests;
-#[cfg(test)]
-mod name_tests;
-#[cfg(test)]
-mod value_tests;

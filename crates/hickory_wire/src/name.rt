@@ -52,8 +52,9 @@ impl Name {
         }
     }
 
-    /// The labels in wire form, without the end byte.
-    pub(crate) fn as_wire(&self) -> &[u8]
+    /// The labels in wire form, in the letter case that they were read or spelled in: each is a byte with its length, 1 to 63,
+    /// and so many bytes. At most 254 bytes. The byte 0 that ends a name in a message is left out (RFC 1035, section 3.1).
+    pub fn as_wire(&self) -> &[u8]
         ensures labels { result.now ≡ wire_form self.now.labels }
         ensures is_wire { IsWire result.now }
     {

@@ -1,0 +1,17 @@
+//! Tests of errors, access lists, requests, replies, sinks and zones.
+#![tactic(auto)]
+
+#[cfg(test)]
+mod access;
+#[cfg(test)]
+mod errors;
+#[cfg(test)]
+mod reading;
+#[cfg(test)]
+mod replies;
+#[cfg(test)]
+mod requests;
+#[cfg(test)]
+mod sinks;
+#[cfg(test)]
+mod zone_store;

@@ -1,0 +1,5 @@
+//! Tests of lists of blocked names.
+#![tactic(auto)]
+
+#[cfg(test)]
+mod blocklist;
