@@ -183,13 +183,16 @@ fn questions(alloc: Global, bytes: &[u8], count: u16) -> Result<Queries, DecodeE
     Queries::read(alloc, &mut decoder, count)
 }
 
-/// The type and the name of each question, where there are two.
-fn two(queries: &Queries) -> Option<[(u16, &[u8]); 2]> {
+/// The type and the name of a question.
+fn type_and_name(query: &LowerQuery) -> (u16, &[u8]) {
+    let name = query.original().name.as_wire();
+    (query.query_type().value(), name)
+}
+
+/// The same of each question, where there are two.
+fn two(queries: &Queries) -> Option<((u16, &[u8]), (u16, &[u8]))> {
     match queries.queries() {
-        [first, second] => Some([first, second].map(|query| {
-            let name = query.original().name.as_wire();
-            (query.query_type().value(), name)
-        })),
+        [first, second] => Some((type_and_name(first), type_and_name(second))),
         _ => None,
     }
 }
@@ -197,11 +200,9 @@ fn two(queries: &Queries) -> Option<[(u16, &[u8]); 2]> {
 #[test]
 fn two_questions_are_read(rt: HostRuntime) -> Result<(), Fail> {
     let queries = questions(rt.alloc(), &TWO_QUESTIONS, 2)?;
-    let expected = [
-        (1, b"\x03www\x07example\x03com".as_slice()),
-        (15, b"\x07example\x03com".as_slice()),
-    ];
-    assert_eq!(rt; two(&queries), Some(expected));
+    let first = (1, b"\x03www\x07example\x03com".as_slice());
+    let second = (15, b"\x07example\x03com".as_slice());
+    assert_eq!(rt; two(&queries), Some((first, second)));
     Ok(())
 }
 

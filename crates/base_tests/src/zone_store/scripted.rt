@@ -172,11 +172,6 @@ fn unasked(alloc: Global) -> Result<Scripted, Fail> {
     })
 }
 
-/// A handler in a box.
-fn boxed(alloc: Global) -> Result<Box<dyn ZoneHandler>, Fail> {
-    Ok(Box::new(alloc, unasked(alloc)?)?)
-}
-
 /// The word for an answer, with the number in it.
 fn told(answer: &LookupControlFlow<AuthLookup>) -> (&'static str, usize) {
     match answer {
@@ -206,7 +201,7 @@ fn check_state<H: ZoneHandler>(rt: &impl Abort, handler: &H, origin: &LowerName)
 #[test]
 fn a_box_tells_what_its_handler_is(rt: HostRuntime) -> Result<(), Fail> {
     let origin = lower(rt.alloc(), "example.com.")?;
-    let handler = boxed(rt.alloc())?;
+    let handler: Box<dyn ZoneHandler> = Box::new(rt.alloc(), unasked(rt.alloc())?)?;
     check_state(&rt, &handler, &origin);
     Ok(())
 }
@@ -233,7 +228,7 @@ fn check_search<H: ZoneHandler>(rt: &(impl Abort + AllocGlobal), handler: &H, re
 #[test]
 fn a_box_is_asked_as_its_handler(rt: HostRuntime) -> Result<(), Fail> {
     let request = request(rt.alloc(), WWW_QUERY)?;
-    let handler = boxed(rt.alloc())?;
+    let handler: Box<dyn ZoneHandler> = Box::new(rt.alloc(), unasked(rt.alloc())?)?;
     assert_eq!(rt;
         looked_up(rt.alloc(), &handler, &request)?,
         ("continue", 15)
@@ -252,7 +247,7 @@ fn check_consult<H: ZoneHandler>(rt: &(impl Abort + AllocGlobal), handler: &H) {
 
 #[test]
 fn a_box_is_consulted_as_its_handler(rt: HostRuntime) -> Result<(), Fail> {
-    let handler = boxed(rt.alloc())?;
+    let handler: Box<dyn ZoneHandler> = Box::new(rt.alloc(), unasked(rt.alloc())?)?;
     check_consult(&rt, &handler);
     Ok(())
 }
@@ -276,7 +271,7 @@ fn denials<H: ZoneHandler>(alloc: Global, handler: &H) -> [(&'static str, usize)
 
 #[test]
 fn a_box_denies_as_its_handler(rt: HostRuntime) -> Result<(), Fail> {
-    let handler = boxed(rt.alloc())?;
+    let handler: Box<dyn ZoneHandler> = Box::new(rt.alloc(), unasked(rt.alloc())?)?;
     assert_eq!(rt;
         denials(rt.alloc(), &handler),
         [("break", 2), ("break", 10)]
@@ -310,7 +305,7 @@ fn updated<H: ZoneHandler>(alloc: Global, handler: &mut H, request: &Request) ->
 #[test]
 fn a_box_is_updated_as_its_handler(rt: HostRuntime) -> Result<(), Fail> {
     let request = request(rt.alloc(), WWW_QUERY)?;
-    let mut handler = boxed(rt.alloc())?;
+    let mut handler: Box<dyn ZoneHandler> = Box::new(rt.alloc(), unasked(rt.alloc())?)?;
     assert_eq!(rt; transferred(rt.alloc(), &handler, &request), Some((0, 77)));
     assert_eq!(rt; updated(rt.alloc(), &mut handler, &request), [true; 4]);
     Ok(())

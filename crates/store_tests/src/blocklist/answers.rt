@@ -1,6 +1,6 @@
 //! What a list answers for blocked names.
 
-use super::fixtures::{FOO_QUERY, PLAIN, blocklist, lower, request, searched};
+use super::fixtures::{FOO_QUERY, PLAIN, blocklist, lower, request, searched, word};
 use hickory_base::zone_store::{AuthLookup, LookupControlFlow, ZoneHandler};
 use hickory_store::blocklist::{BlocklistConfig, BlocklistConsultAction, BlocklistZoneHandler};
 use hickory_wire::{
@@ -44,7 +44,7 @@ fn answered(alloc: Global, answer: &LookupControlFlow<AuthLookup>) -> Result<Vec
         LookupControlFlow::Continue(Ok(AuthLookup::Records { answers, .. })) => {
             written(alloc, answers.as_slice())
         }
-        _ => Err(Fail::new("no records")),
+        other => Err(Fail::new(word(other).0)),
     }
 }
 
@@ -132,11 +132,11 @@ fn last_string_len(answers: &[Record]) -> Option<usize> {
 }
 
 /// Whether an answer tells of the question for the address of this name, how many records it has beside answers, and how
-/// many bytes its last string has.
+/// many bytes its last string has; the word for an answer that does not stand.
 fn told(
     answer: &LookupControlFlow<AuthLookup>,
     name: &LowerName,
-) -> Option<(bool, usize, Option<usize>)> {
+) -> Result<(bool, usize, Option<usize>), &'static str> {
     match answer {
         LookupControlFlow::Break(Ok(AuthLookup::Resolved(found))) => {
             let query = &found.query;
@@ -147,9 +147,9 @@ fn told(
                 .len()
                 .saturating_add(found.additionals.len());
             let string = last_string_len(found.answers.as_slice());
-            Some((is_asked, others, string))
+            Ok((is_asked, others, string))
         }
-        _ => None,
+        other => Err(word(other).0),
     }
 }
 
@@ -157,7 +157,7 @@ fn told_of(
     alloc: Global,
     list: &BlocklistZoneHandler,
     name: &LowerName,
-) -> Option<(bool, usize, Option<usize>)> {
+) -> Result<(bool, usize, Option<usize>), &'static str> {
     told(&list.lookup(alloc, name, RecordType::A, None, PLAIN), name)
 }
 
@@ -166,10 +166,7 @@ fn told_of(
 fn the_question_is_told_and_a_long_message_is_one_string(rt: HostRuntime) -> Result<(), Fail> {
     let name = lower(rt.alloc(), "foo.com.")?;
     let list = blocklist(rt.alloc(), sinkhole(rt.alloc(), LONG_MESSAGE)?, "foo.com")?;
-    assert_eq!(rt;
-        told_of(rt.alloc(), &list, &name),
-        Some((true, 0, Some(256)))
-    );
+    assert_eq!(rt; told_of(rt.alloc(), &list, &name), Ok((true, 0, Some(256))));
     Ok(())
 }
 

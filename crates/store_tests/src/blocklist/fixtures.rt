@@ -40,7 +40,7 @@ pub(crate) fn blocklist(
 }
 
 /// The word for an answer, with its number of records or of questions.
-fn word(answer: &LookupControlFlow<AuthLookup>) -> (&'static str, usize) {
+pub(crate) fn word(answer: &LookupControlFlow<AuthLookup>) -> (&'static str, usize) {
     match answer {
         LookupControlFlow::Skip => ("skip", 0),
         LookupControlFlow::Break(Ok(found)) => ("blocked", found.iter().count()),

@@ -50,10 +50,6 @@ fn a_second_list_is_added_to_the_first(rt: HostRuntime) -> Result<(), Fail> {
     Ok(())
 }
 
-fn is_blocked(alloc: Global, list: &BlocklistZoneHandler, name: &LowerName) -> bool {
-    looked_up(alloc, list, name).0 == "blocked"
-}
-
 /// What wildcards do, the list, and what is expected of names: `+` and a name that is blocked, or `-` and one that is
 /// not.
 struct Case {
@@ -63,11 +59,20 @@ struct Case {
     names: &'static str,
 }
 
-/// Whether a name is blocked just where its sign says so.
-fn is_as_said(alloc: Global, list: &BlocklistZoneHandler, word: &str) -> Result<bool, Fail> {
+/// The words for a name with a sign: what it is found to be, and what it is to be.
+fn words(
+    alloc: Global,
+    list: &BlocklistZoneHandler,
+    word: &str,
+) -> Result<((&'static str, usize), (&'static str, usize)), Fail> {
     let (sign, text) = word.split_at_checked(1).ok_or("no name")?;
     let name = lower(alloc, text)?;
-    Ok(is_blocked(alloc, list, &name) == (sign == "+"))
+    let expected = if sign == "+" {
+        ("blocked", 1)
+    } else {
+        ("skip", 0)
+    };
+    Ok((looked_up(alloc, list, &name), expected))
 }
 
 fn follow(rt: &(impl Abort + AllocGlobal), case: &Case) -> Result<(), Fail> {
@@ -78,11 +83,8 @@ fn follow(rt: &(impl Abort + AllocGlobal), case: &Case) -> Result<(), Fail> {
     };
     let list = blocklist(rt.alloc(), config, case.list)?;
     for word in case.names.split(' ') {
-        assert!(rt;
-            is_as_said(rt.alloc(), &list, word)?,
-            "{word} at depth {}",
-            case.depth
-        );
+        let (found, expected) = words(rt.alloc(), &list, word)?;
+        assert_eq!(rt; found, expected, "{word} at depth {}", case.depth);
     }
     Ok(())
 }
@@ -147,20 +149,20 @@ fn names_are_blocked(rt: HostRuntime) -> Result<(), Fail> {
     Ok(())
 }
 
-/// Whether a list of all names blocks the root.
-fn is_root_blocked(alloc: Global) -> Result<bool, Fail> {
+/// The word for the root and a list of all names.
+fn root_looked_up(alloc: Global) -> Result<(&'static str, usize), Fail> {
     let config = BlocklistConfig {
         min_wildcard_depth: 0,
         ..BlocklistConfig::default()
     };
-    let list = blocklist(alloc, config, "*\n*.com")?;
     let root = LowerName::new(alloc, &Name::root())?;
-    Ok(is_blocked(alloc, &list, &root))
+    let list = blocklist(alloc, config, "*\n*.com")?;
+    Ok(looked_up(alloc, &list, &root))
 }
 
 #[test]
 fn the_root_is_not_blocked(rt: HostRuntime) -> Result<(), Fail> {
-    assert!(rt; !is_root_blocked(rt.alloc())?);
+    assert_eq!(rt; root_looked_up(rt.alloc())?, ("skip", 0));
     Ok(())
 }
 

@@ -50,15 +50,11 @@ fn there_is_no_zone_to_transfer_or_update(rt: HostRuntime) -> Result<(), Fail> {
     Ok(())
 }
 
-fn boxed(alloc: Global) -> Result<Box<dyn ZoneHandler>, Fail> {
-    let list = blocklist(alloc, BlocklistConfig::default(), "foo.com")?;
-    Ok(Box::new(alloc, list)?)
-}
-
 #[test]
 fn a_boxed_list_blocks(rt: HostRuntime) -> Result<(), Fail> {
     let name = lower(rt.alloc(), "foo.com.")?;
-    let list = boxed(rt.alloc())?;
+    let list = blocklist(rt.alloc(), BlocklistConfig::default(), "foo.com")?;
+    let list: Box<dyn ZoneHandler> = Box::new(rt.alloc(), list)?;
     assert_eq!(rt; looked_up(rt.alloc(), &list, &name), ("blocked", 1));
     Ok(())
 }
