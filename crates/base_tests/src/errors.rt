@@ -36,7 +36,7 @@ fn told(fault: &LookupError) -> [bool; 3] {
     ]
 }
 
-/// The same, of a fault that brings no SOA.
+/// The same of a fault; the third is whether authorities or an SOA came with it.
 fn told_alone(fault: LookupError) -> [bool; 3] {
     let told = told(&fault);
     [told[0], told[1], told[2] || fault.into_soa().is_some()]

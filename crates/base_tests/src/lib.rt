@@ -6,6 +6,8 @@ mod access;
 #[cfg(test)]
 mod errors;
 #[cfg(test)]
+mod fixtures;
+#[cfg(test)]
 mod reading;
 #[cfg(test)]
 mod replies;

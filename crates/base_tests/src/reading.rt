@@ -1,5 +1,6 @@
 //! Requests from outside, with what must be read of them.
 
+use crate::fixtures::{QUERY, read, source};
 use hickory_base::errors::LookupError;
 use hickory_base::message_request::{MessageRequest, Queries};
 use hickory_base::server::{Request, RequestInfo};
@@ -8,12 +9,8 @@ use hickory_wire::{
     Protocol, Query, RecordType,
 };
 use std::alloc::Global;
-use std::net::{IpAddr, Ipv4Addr, SocketAddr};
+use std::net::SocketAddr;
 use std::test::Fail;
-
-/// A query for the addresses of www.example.com.
-const QUERY: [u8; 33] =
-    *b"\x12\x34\x01\x00\x00\x01\x00\x00\x00\x00\x00\x00\x03www\x07example\x03com\x00\x00\x01\x00\x01";
 
 /// Two questions: the addresses of www.example.com, and the mail exchanges of example.com by a pointer to place 16.
 const TWO_QUESTIONS: [u8; 39] =
@@ -22,14 +19,6 @@ const TWO_QUESTIONS: [u8; 39] =
 /// A message with no question, whose OPT record asks for payloads of 100 bytes, version 2 and the high code 1.
 const SMALL_PAYLOAD: [u8; 23] =
     *b"\x00\x03\x00\x03\x00\x00\x00\x00\x00\x00\x00\x01\x00\x00\x29\x00\x64\x01\x02\x00\x00\x00\x00";
-
-fn source() -> SocketAddr {
-    SocketAddr::new(IpAddr::V4(Ipv4Addr::LOCALHOST), 3000)
-}
-
-fn read(alloc: Global, bytes: &[u8], protocol: Protocol) -> Result<Request, ProtoError> {
-    Request::from_bytes(alloc, Vec::from_slice(alloc, bytes)?, source(), protocol)
-}
 
 fn fault(alloc: Global, bytes: &[u8]) -> Option<ProtoError> {
     read(alloc, bytes, Protocol::Udp).err()

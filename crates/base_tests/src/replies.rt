@@ -1,29 +1,22 @@
 //! Replies, with the bytes that they must be written as.
 
+use crate::fixtures::{QUERY, request};
 use hickory_base::message_request::Queries;
 use hickory_base::message_response::{MessageResponseBuilder, ResponseInfo};
-use hickory_base::server::{Request, encode_response};
+use hickory_base::server::encode_response;
 use hickory_wire::{
     BinDecoder, BinEncoder, Boxed, DNSClass, DecodeError, Edns, EdnsOption, Header, HeaderCounts,
     MessageType, Metadata, NSIDPayload, Name, Octets, OpCode, Proof, ProtoError, Protocol, RData,
     Record, ResponseCode, TSIG,
 };
 use std::alloc::Global;
-use std::net::{IpAddr, Ipv4Addr, SocketAddr};
+use std::iter;
+use std::net::Ipv4Addr;
 use std::test::Fail;
-
-/// A query for the addresses of www.example.com, with RD.
-const QUERY: [u8; 33] =
-    *b"\x12\x34\x01\x00\x00\x01\x00\x00\x00\x00\x00\x00\x03www\x07example\x03com\x00\x00\x01\x00\x01";
 
 /// A question whose name is a pointer into the header, with zeros behind it.
 const INTO_THE_HEADER: [u8; 48] =
     *b"\x08\x00\x00\x00\x00\x01\x00\x00\x00\x00\x00\x00\xc0\x00\x00\x00\x00\x00\x00\x00\x00\x00\x00\x00\x00\x00\x00\x00\x00\x00\x00\x00\x00\x00\x00\x00\x00\x00\x00\x00\x00\x00\x00\x00\x00\x00\x00\x00";
-
-fn read(alloc: Global, bytes: &[u8]) -> Result<Request, ProtoError> {
-    let source = SocketAddr::new(IpAddr::V4(Ipv4Addr::LOCALHOST), 3000);
-    Request::from_bytes(alloc, Vec::from_slice(alloc, bytes)?, source, Protocol::Udp)
-}
 
 /// The bytes of an error reply to a message without EDNS, and what is told of it.
 fn refused(
@@ -31,7 +24,7 @@ fn refused(
     bytes: &[u8],
     protocol: Protocol,
 ) -> Result<(ResponseInfo, Vec<u8>), ProtoError> {
-    let request = read(alloc, bytes)?;
+    let request = request(alloc, bytes)?;
     let builder = MessageResponseBuilder::from_message_request(request.message());
     let reply = builder.error_msg(request.metadata(), ResponseCode::REFUSED);
     reply.encode(alloc, protocol)
@@ -54,7 +47,7 @@ fn a_refused_reply_repeats_the_question(rt: HostRuntime) -> Result<(), Fail> {
 
 /// The bytes of a reply without records.
 fn bare_reply(alloc: Global, bytes: &[u8]) -> Result<Vec<u8>, ProtoError> {
-    let request = read(alloc, bytes)?;
+    let request = request(alloc, bytes)?;
     let metadata = Metadata::response_from_request(request.metadata());
     let builder = MessageResponseBuilder::from_message_request(request.message());
     let (_, bytes) = builder
@@ -179,15 +172,16 @@ fn a_reply_names_its_server(rt: HostRuntime) -> Result<(), Fail> {
 }
 
 #[test]
-fn a_reply_has_the_edns_that_was_set(rt: HostRuntime) -> Result<(), Fail> {
+fn a_reply_has_the_edns_and_the_id_that_were_set(rt: HostRuntime) -> Result<(), Fail> {
     let queries = no_questions(rt.alloc())?;
     let mut edns = Edns::new(rt.alloc());
     edns.set_max_payload(1232);
     let mut reply = MessageResponseBuilder::new(&queries, None).build_no_records(response(9));
     assert!(rt; reply.edns().is_none());
+    reply.metadata_mut().id = 10;
     reply.set_edns(&edns);
     assert_eq!(rt; reply.edns().map(|edns| edns.max_payload()), Some(1232));
-    assert_eq!(rt; reply.metadata().id, 9);
+    assert_eq!(rt; reply.metadata().id, 10);
     Ok(())
 }
 
@@ -232,7 +226,7 @@ fn a_signature_stands_last(rt: HostRuntime) -> Result<(), Fail> {
 
 /// The fault of an error reply that is written under a limit, and how many bytes it left.
 fn emitted(alloc: Global, limit: u16) -> Result<(Option<ProtoError>, usize), Fail> {
-    let request = read(alloc, &QUERY)?;
+    let request = request(alloc, &QUERY)?;
     let builder = MessageResponseBuilder::from_message_request(request.message());
     let reply = builder.error_msg(request.metadata(), ResponseCode::REFUSED);
     let mut bytes = Vec::from_slice(alloc, b"old")?;
@@ -250,15 +244,15 @@ fn header_and_questions_have_to_fit(rt: HostRuntime) -> Result<(), Fail> {
     Ok(())
 }
 
-/// The bytes of a reply with these answers, and the first in the place of its SOA too, as a sink encodes them.
-fn encoded(alloc: Global, answers: &[Record]) -> Result<Vec<u8>, ProtoError> {
+/// The bytes of a reply with this record as its answer and in the place of its SOA, as a sink encodes them.
+fn encoded(alloc: Global, record: &Record) -> Result<Vec<u8>, ProtoError> {
     let queries = no_questions(alloc)?;
     let nothing: &[Record] = &[];
     let reply = MessageResponseBuilder::new(&queries, None).build(
         response(10),
-        answers,
+        iter::once(record),
         nothing,
-        answers.first(),
+        iter::once(record),
         nothing,
     );
     let (_, bytes) = encode_response(alloc, reply, Protocol::Udp)?;
@@ -267,8 +261,8 @@ fn encoded(alloc: Global, answers: &[Record]) -> Result<Vec<u8>, ProtoError> {
 
 #[test]
 fn records_that_are_lent_are_encoded(rt: HostRuntime) -> Result<(), Fail> {
-    let answers = addresses(rt.alloc(), 1)?;
-    let bytes = encoded(rt.alloc(), answers.as_slice())?;
+    let records = addresses(rt.alloc(), 1)?;
+    let bytes = encoded(rt.alloc(), records.first().ok_or("no record")?)?;
     assert_eq!(rt;
         bytes.as_slice(),
         b"\x00\x0a\x80\x00\x00\x00\x00\x01\x00\x01\x00\x00\x03www\x07example\x03com\x00\x00\x01\x00\xfe\x00\x00\x00\x00\x00\x04\x5d\xb8\xd7\x0e\x03www\x07example\x03com\x00\x00\x01\x00\xfe\x00\x00\x00\x00\x00\x04\x5d\xb8\xd7\x0e".as_slice()
@@ -283,7 +277,7 @@ fn refused_growth(rt: HostRuntime) -> Result<(), Fail> {
     let faults = [
         refused(rt.alloc(), &QUERY, Protocol::Udp).err(),
         answered(rt.alloc(), answers.as_slice(), Protocol::Tcp).err(),
-        encoded(rt.alloc(), answers.as_slice()).err(),
+        encoded(rt.alloc(), answers.first().ok_or("no record")?).err(),
     ];
     for fault in faults.into_iter().flatten() {
         assert_eq!(rt; fault, ProtoError::Memory);

@@ -1,11 +1,11 @@
 //! Requests that are written, and read as updates.
 
+use crate::fixtures::{request, source};
 use hickory_base::message_request::{MessageRequest, Queries};
 use hickory_base::server::Request;
 use hickory_base::update_request::UpdateRequest;
 use hickory_wire::{BinDecoder, BinEncoder, DNSClass, DecodeError, Items, ProtoError, Protocol};
 use std::alloc::Global;
-use std::net::{IpAddr, Ipv4Addr, SocketAddr};
 use std::test::Fail;
 
 /// A query for the addresses of www.example.com in mixed case, with EDNS: 1,232 bytes, DO, and four of the flags behind it.
@@ -25,19 +25,9 @@ const UPDATE: &[u8] = b"\x51\xd7\x28\x00\x00\x01\x00\x01\x00\x02\x00\x00\
     \xc0\x1d\x00\x01\x00\x01\x00\x00\x01\x2c\x00\x04\xc0\x00\x02\x07\
     \xc0\x1d\x00\x01\x00\x01\x00\x00\x01\x2c\x00\x04\xc0\x00\x02\x08";
 
-fn source() -> SocketAddr {
-    SocketAddr::new(IpAddr::V4(Ipv4Addr::new(192, 0, 2, 1)), 5300)
-}
-
-fn read(alloc: Global, bytes: &[u8]) -> Result<Request, Fail> {
-    let bytes = Vec::from_slice(alloc, bytes)?;
-    Ok(Request::from_bytes(alloc, bytes, source(), Protocol::Udp)?)
-}
-
 /// What the request of these bytes is written as under a limit.
 fn emitted(alloc: Global, bytes: &[u8], limit: u16) -> Result<Vec<u8>, ProtoError> {
-    let bytes = Vec::from_slice(alloc, bytes)?;
-    let request = Request::from_bytes(alloc, bytes, source(), Protocol::Udp)?;
+    let request = request(alloc, bytes)?;
     let mut bytes = Vec::new(alloc);
     let mut encoder = BinEncoder::new(alloc, &mut bytes);
     encoder.set_max_size(limit);
@@ -82,7 +72,7 @@ fn mixed(alloc: Global) -> Result<MessageRequest, DecodeError> {
 }
 
 #[test]
-fn a_request_of_a_message_reads_back(rt: HostRuntime) -> Result<(), Fail> {
+fn a_request_of_a_message_has_its_bytes_in_lower_case(rt: HostRuntime) -> Result<(), Fail> {
     let request = Request::from_message(rt.alloc(), mixed(rt.alloc())?, source(), Protocol::Tcp)?;
     let found = [request.as_slice(), request.message().queries.as_bytes()];
     assert_eq!(rt; found, [LOWER, &MIXED[12..33]]);
@@ -102,7 +92,7 @@ fn refused_growth(rt: HostRuntime) {
 }
 
 fn same(alloc: Global, first: &[u8], other: &[u8]) -> Result<bool, Fail> {
-    Ok(read(alloc, first)?.message() == read(alloc, other)?.message())
+    Ok(request(alloc, first)?.message() == request(alloc, other)?.message())
 }
 
 #[test]
@@ -131,7 +121,7 @@ fn zone_class<U: UpdateRequest>(update: &U) -> Option<DNSClass> {
 
 #[test]
 fn a_request_is_an_update(rt: HostRuntime) -> Result<(), Fail> {
-    let request = read(rt.alloc(), UPDATE)?;
+    let request = request(rt.alloc(), UPDATE)?;
     let update = request.message();
     assert_eq!(rt; sections(update), (0x51d7, 1, 2, 0));
     assert!(rt; zone_class(update) == Some(DNSClass::IN) && update.signature().is_none());

@@ -8,6 +8,7 @@ ghost use Rattle.hickory_wire.specs.ReplyParts.{ReplyEncoded};
 ghost use Rattle.hickory_wire.specs.declared.protocol.Protocol.TheVariants as protocol;
 ghost use Rattle.hickory_base.specs.Responses.{GivesBy, IsReplyOf};
 
+use crate::fixtures::{QUERY, request};
 use hickory_base::errors::CatalogError;
 use hickory_base::message_request::Queries;
 use hickory_base::message_response::{MessageResponse, MessageResponseBuilder, ResponseInfo};
@@ -19,7 +20,7 @@ use hickory_wire::{
 use std::alloc::{AllocError, Global};
 use std::io;
 use std::marker::Model;
-use std::net::{IpAddr, Ipv4Addr, SocketAddr};
+use std::net::Ipv4Addr;
 use std::test::Fail;
 
 /// Copies of the records that an iterator gives.
@@ -351,9 +352,7 @@ fn serve<H: RequestHandler, R: ResponseHandler>(
     sink: &mut R,
     bytes: &[u8],
 ) -> Result<ResponseCode, Fail> {
-    let source = SocketAddr::new(IpAddr::V4(Ipv4Addr::LOCALHOST), 3000);
-    let bytes = Vec::from_slice(alloc, bytes)?;
-    let request = Request::from_bytes(alloc, bytes, source, Protocol::Udp)?;
+    let request = request(alloc, bytes)?;
     let info = handler.handle_request(alloc, &request, 0, sink)?;
     Ok(info.metadata().response_code)
 }
@@ -385,10 +384,6 @@ fn address() -> Record {
         proof: Proof::Indeterminate,
     }
 }
-
-/// A query for the addresses of www.example.com, with RD.
-const QUERY: [u8; 33] =
-    *b"\x12\x34\x01\x00\x00\x01\x00\x00\x00\x00\x00\x00\x03www\x07example\x03com\x00\x00\x01\x00\x01";
 
 /// What a kept reply is: id and code, the question, and how many there are of it and of answers.
 fn told(reply: &KeptReply) -> (u16, ResponseCode, &[u8], u16, usize) {

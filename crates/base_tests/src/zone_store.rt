@@ -2,6 +2,7 @@
 
 mod answers;
 mod fixtures;
+mod flows;
 mod refusals;
 mod scripted;
 mod sets;

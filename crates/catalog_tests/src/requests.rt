@@ -105,7 +105,7 @@ fn zones_come_and_go(rt: HostRuntime) -> Result<(), Fail> {
     Ok(())
 }
 
-/// The identifier of a catalog, once it is set to these bytes.
+/// How many bytes the identifier of a catalog has, once it is set to these.
 fn identified(alloc: Global, bytes: &[u8]) -> Result<Option<usize>, Fail> {
     let mut catalog: Catalog<NoSigner> = Catalog::new(alloc, NoSigner);
     if catalog.nsid().is_some() {

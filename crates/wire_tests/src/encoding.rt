@@ -84,6 +84,25 @@ fn an_answer_is_written(rt: HostRuntime) -> Result<(), Fail> {
     Ok(())
 }
 
+/// A record as an update takes it away: class NONE and a TTL of 0 (RFC 2136 section 2.5.4).
+fn removal(alloc: Global) -> Result<Record, Fail> {
+    let mut record = address(alloc)?;
+    record.dns_class = DNSClass::NONE;
+    record.ttl = 0;
+    Ok(record)
+}
+
+#[test]
+fn a_record_of_class_none_is_written(rt: HostRuntime) -> Result<(), Fail> {
+    let answers = [removal(rt.alloc())?];
+    let (_, bytes) = written(rt.alloc(), 512, response(10), &[], &answers, &[])?;
+    assert_eq!(rt;
+        bytes.as_slice(),
+        b"\x00\x0a\x80\x00\x00\x00\x00\x01\x00\x00\x00\x00\x03www\x07example\x03com\x00\x00\x01\x00\xfe\x00\x00\x00\x00\x00\x04\x5d\xb8\xd7\x0e".as_slice()
+    );
+    Ok(())
+}
+
 #[test]
 fn lists_are_cut_at_the_limit(rt: HostRuntime) -> Result<(), Fail> {
     let alloc = rt.alloc();
@@ -96,6 +115,33 @@ fn lists_are_cut_at_the_limit(rt: HostRuntime) -> Result<(), Fail> {
     assert_eq!(rt; bytes.len(), 508);
     assert!(rt; header.metadata.truncation);
     assert_eq!(rt; (header.counts.answers, header.counts.authorities), (16, 0));
+    Ok(())
+}
+
+/// How many bytes an encoder has written over old ones, at first and behind a question.
+fn offsets(alloc: Global) -> Result<[usize; 2], Fail> {
+    let mut bytes = Vec::from_slice(alloc, b"old")?;
+    let mut encoder = BinEncoder::new(alloc, &mut bytes);
+    let first = encoder.offset();
+    let nothing: &[Record] = &[];
+    let parts = ReplyParts {
+        metadata: response(1),
+        question: &WWW,
+        question_count: 1,
+        edns: None,
+        answers: nothing.iter(),
+        authorities: nothing.iter(),
+        soa: nothing.iter(),
+        additionals: nothing.iter(),
+        signature: None,
+    };
+    emit_message_parts(&mut encoder, parts)?;
+    Ok([first, encoder.offset()])
+}
+
+#[test]
+fn an_encoder_tells_how_far_it_is(rt: HostRuntime) -> Result<(), Fail> {
+    assert_eq!(rt; offsets(rt.alloc())?, [0, 33]);
     Ok(())
 }
 

@@ -128,17 +128,19 @@ fn spelled(alloc: Global, text: &str) -> Result<(usize, bool), NameError> {
     Ok((name.num_labels(), name.is_fqdn()))
 }
 
-/// A label of 63 letters, the longest, and one of 64.
+/// A label of 63 letters, the longest.
 const LONG_LABEL: &str = "abcdefghijklmnopqrstuvwxyzabcdefghijklmnopqrstuvwxyzabcdefghijk";
 
+/// A label of 64 letters.
 const TOO_LONG_LABEL: &str = "abcdefghijklmnopqrstuvwxyzabcdefghijklmnopqrstuvwxyzabcdefghijkl";
 
-/// A name of 255 bytes in a message, the longest, and one of 256.
+/// A name of 255 bytes in a message, the longest.
 const LONG_NAME: &str = "abcdefghijklmnopqrstuvwxyzabcdefghijklmnopqrstuvwxyzabcdefghijk.\
     abcdefghijklmnopqrstuvwxyzabcdefghijklmnopqrstuvwxyzabcdefghijk.\
     abcdefghijklmnopqrstuvwxyzabcdefghijklmnopqrstuvwxyzabcdefghijk.\
     abcdefghijklmnopqrstuvwxyzabcdefghijklmnopqrstuvwxyzabcdefghi";
 
+/// A name of 256 bytes.
 const TOO_LONG_NAME: &str = "abcdefghijklmnopqrstuvwxyzabcdefghijklmnopqrstuvwxyzabcdefghijk.\
     abcdefghijklmnopqrstuvwxyzabcdefghijklmnopqrstuvwxyzabcdefghijk.\
     abcdefghijklmnopqrstuvwxyzabcdefghijklmnopqrstuvwxyzabcdefghijk.\

@@ -2,7 +2,7 @@
 
 use hickory_wire::{
     Boxed, DNSClass, Edns, EdnsOption, Items, LowerQuery, MessageType, Metadata, NSIDPayload, Name,
-    Octets, OpCode, Proof, ProtoError, Query, RData, Record, RecordType, ResponseCode, SOA,
+    Octets, OpCode, Proof, ProtoError, Query, RData, Record, RecordType, ResponseCode, SOA, TSIG,
 };
 use std::alloc::{AllocError, Global};
 use std::net::Ipv4Addr;
@@ -229,6 +229,40 @@ fn data_compare_with_names_in_any_case(rt: HostRuntime) -> Result<(), Fail> {
     Ok(())
 }
 
+/// The data of an OPT record with one option.
+fn options(alloc: Global) -> Result<Boxed<RData>, Fail> {
+    let mut options = Items::new(alloc);
+    options.push(EdnsOption {
+        code: 3,
+        bytes: Octets::from_slice(alloc, b"x")?,
+    })?;
+    Ok(Boxed::new(alloc, RData::OPT(options))?)
+}
+
+/// The data of a TSIG record.
+fn signature(alloc: Global) -> Result<Boxed<RData>, Fail> {
+    let data = TSIG {
+        algorithm: Name::root(),
+        time: 5,
+        fudge: 300,
+        mac: Octets::from_slice(alloc, b"mac")?,
+        oid: 1,
+        error: 18,
+        other: Octets::from_slice(alloc, b"")?,
+    };
+    Ok(Boxed::new(alloc, RData::TSIG(Boxed::new(alloc, data)?))?)
+}
+
+#[test]
+fn data_are_equal_to_their_copies_alone(rt: HostRuntime) -> Result<(), Fail> {
+    let options = options(rt.alloc())?;
+    let signature = signature(rt.alloc())?;
+    assert!(rt; options.clone()? == options);
+    assert!(rt; signature.clone()? == signature);
+    assert!(rt; options != signature);
+    Ok(())
+}
+
 #[test]
 fn a_list_gives_back_what_it_holds(rt: HostRuntime) -> Result<(), Fail> {
     let list = Items::from_vec(vec![in rt.alloc(); 1u16, 2]?);
@@ -263,6 +297,13 @@ fn question(alloc: Global) -> Result<LowerQuery, Fail> {
         query_class: DNSClass::IN,
     };
     Ok(LowerQuery::new(alloc, query)?)
+}
+
+#[test]
+fn a_question_is_equal_to_its_copy(rt: HostRuntime) -> Result<(), Fail> {
+    let question = question(rt.alloc())?;
+    assert!(rt; question.original().clone()? == *question.original());
+    Ok(())
 }
 
 #[test]

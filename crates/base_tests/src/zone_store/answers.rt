@@ -1,6 +1,7 @@
 //! What a zone in memory answers to lookups and requests.
 
-use super::fixtures::{EXAMPLE, PLAIN, WWW_QUERY, lower, records, request, told, zone};
+use super::fixtures::{EXAMPLE, PLAIN, lower, records, told, zone};
+use crate::fixtures::{QUERY, request};
 use hickory_base::errors::LookupError;
 use hickory_base::zone_store::{
     AuthLookup, AxfrPolicy, InMemoryZoneHandler, LookupControlFlow, ZoneHandler,
@@ -99,7 +100,7 @@ fn records_are_found_by_name_and_type(rt: HostRuntime) -> Result<(), Fail> {
 }
 
 /// The word for the answer to a lookup.
-fn looked_up(
+pub(super) fn looked_up(
     alloc: Global,
     zone: &InMemoryZoneHandler,
     name: &str,
@@ -190,7 +191,7 @@ fn searched(
 fn requests_are_answered(rt: HostRuntime) -> Result<(), Fail> {
     let zone = zone(rt.alloc(), EXAMPLE, AxfrPolicy::Deny)?;
     for (bytes, expected) in [
-        (WWW_QUERY, ("found", 2)),
+        (QUERY.as_slice(), ("found", 2)),
         (TWO_QUESTIONS, ("break", 2)),
         (NO_QUESTION, ("break", 0)),
     ] {

@@ -1,19 +1,16 @@
-//! Sets, zones and requests from text and bytes.
+//! Sets and zones from text.
 //!
 //! A line is a set: its owner name, its type, and a value for each of its records. That is the last octet of 192.0.2.0/24
 //! for an A, the name of a server for an NS, the serial for an SOA.
 
 use hickory_base::errors::{DnsError, LookupError};
-use hickory_base::server::Request;
 use hickory_base::zone_store::{
     AxfrPolicy, InMemoryZoneHandler, LookupOptions, RecordSet, RrKey, ZoneType,
 };
-use hickory_wire::{
-    Boxed, DNSClass, LowerName, Name, Proof, Protocol, RData, Record, RecordType, SOA,
-};
+use hickory_wire::{Boxed, DNSClass, LowerName, Name, Proof, RData, Record, RecordType, SOA};
 use std::alloc::Global;
 use std::collections::BTreeMap;
-use std::net::{IpAddr, Ipv4Addr, SocketAddr};
+use std::net::Ipv4Addr;
 use std::rc::Rc;
 use std::test::Fail;
 
@@ -25,10 +22,6 @@ example.com. SOA 7
 example.com. NS ns.example.com.
 example.com. A 1
 www.example.com. A 10 11";
-
-/// A query for the addresses of www.example.com.
-pub(crate) const WWW_QUERY: &[u8] = b"\x12\x34\x01\x00\x00\x01\x00\x00\x00\x00\x00\x00\
-    \x03www\x07example\x03com\x00\x00\x01\x00\x01";
 
 /// What asks for no DNSSEC records.
 pub(crate) const PLAIN: LookupOptions = LookupOptions { dnssec_ok: false };
@@ -149,13 +142,6 @@ pub(crate) fn zone(
     }
     let origin = lower(alloc, "example.com.")?;
     Ok(InMemoryZoneHandler::new(origin, sets, ZoneType::Primary, policy))
-}
-
-/// The request of these bytes, from 192.0.2.99 over UDP.
-pub(crate) fn request(alloc: Global, bytes: &[u8]) -> Result<Request, Fail> {
-    let source = SocketAddr::new(IpAddr::V4(Ipv4Addr::new(192, 0, 2, 99)), 5353);
-    let bytes = Vec::from_slice(alloc, bytes)?;
-    Ok(Request::from_bytes(alloc, bytes, source, Protocol::Udp)?)
 }
 
 /// The word for a fault, with its response code or its number of questions.

@@ -1,6 +1,7 @@
 //! Each growth refused in turn: the only other answer is want of memory, within the answer.
 
-use super::fixtures::{EXAMPLE, PLAIN, WWW_QUERY, lower, request, zone};
+use super::fixtures::{EXAMPLE, PLAIN, lower, zone};
+use crate::fixtures::{QUERY, request};
 use hickory_base::errors::LookupError;
 use hickory_base::zone_store::{
     AuthLookup, AxfrPolicy, LookupControlFlow, ZoneHandler, ZoneTransfer,
@@ -57,7 +58,7 @@ fn a_denial_tells_want_of_memory(rt: HostRuntime) -> Result<(), Fail> {
 fn a_search_tells_want_of_memory(rt: HostRuntime) -> Result<(), Fail> {
     let alloc = rt.alloc();
     let zone = zone(alloc, EXAMPLE, AxfrPolicy::Deny)?;
-    let request = request(alloc, WWW_QUERY)?;
+    let request = request(alloc, &QUERY)?;
     let (answer, _) = zone.search(alloc, &request, PLAIN);
     assert!(rt; is_found_or_memory(&answer, 2));
     Ok(())
@@ -72,7 +73,7 @@ fn is_whole_or_memory(outcome: &Result<ZoneTransfer, LookupError>) -> bool {
 
 #[test]
 fn a_transfer_tells_want_of_memory(rt: HostRuntime) -> Result<(), Fail> {
-    let request = request(rt.alloc(), WWW_QUERY)?;
+    let request = request(rt.alloc(), &QUERY)?;
     let zone = zone(rt.alloc(), EXAMPLE, AxfrPolicy::AllowAll)?;
     let answer = zone.zone_transfer(rt.alloc(), &request, PLAIN, 0);
     assert!(rt; matches!(&answer, Some((outcome, _)) if is_whole_or_memory(outcome)));

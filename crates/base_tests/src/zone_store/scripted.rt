@@ -4,7 +4,8 @@ ghost use Rattle.std.specs.Prelude.{Some};
 ghost use Rattle.hickory_base.specs.declared.zone_store.handler.AxfrPolicy.TheVariants.{AllowSigned};
 ghost use Rattle.hickory_base.specs.declared.zone_store.handler.ZoneType.TheVariants.{External};
 
-use super::fixtures::{PLAIN, WWW_QUERY, lower, request};
+use super::fixtures::{PLAIN, lower};
+use crate::fixtures::{QUERY, request};
 use hickory_base::errors::{LookupError, UpdateFault};
 use hickory_base::server::{Request, RequestInfo};
 use hickory_base::zone_store::{
@@ -206,7 +207,7 @@ fn a_box_tells_what_its_handler_is(rt: HostRuntime) -> Result<(), Fail> {
     Ok(())
 }
 
-/// What is said to a lookup with DO that tells of a request.
+/// What is answered to a lookup with DO that tells of a request.
 fn looked_up<H: ZoneHandler>(
     alloc: Global,
     handler: &H,
@@ -227,7 +228,7 @@ fn check_search<H: ZoneHandler>(rt: &(impl Abort + AllocGlobal), handler: &H, re
 
 #[test]
 fn a_box_is_asked_as_its_handler(rt: HostRuntime) -> Result<(), Fail> {
-    let request = request(rt.alloc(), WWW_QUERY)?;
+    let request = request(rt.alloc(), &QUERY)?;
     let handler: Box<dyn ZoneHandler> = Box::new(rt.alloc(), unasked(rt.alloc())?)?;
     assert_eq!(rt;
         looked_up(rt.alloc(), &handler, &request)?,
@@ -252,7 +253,7 @@ fn a_box_is_consulted_as_its_handler(rt: HostRuntime) -> Result<(), Fail> {
     Ok(())
 }
 
-/// What is said to both calls for denials.
+/// What is answered to both calls for denials.
 fn denials<H: ZoneHandler>(alloc: Global, handler: &H) -> [(&'static str, usize); 2] {
     let name = handler.origin();
     let info = Nsec3QueryInfo {
@@ -304,7 +305,7 @@ fn updated<H: ZoneHandler>(alloc: Global, handler: &mut H, request: &Request) ->
 
 #[test]
 fn a_box_is_updated_as_its_handler(rt: HostRuntime) -> Result<(), Fail> {
-    let request = request(rt.alloc(), WWW_QUERY)?;
+    let request = request(rt.alloc(), &QUERY)?;
     let mut handler: Box<dyn ZoneHandler> = Box::new(rt.alloc(), unasked(rt.alloc())?)?;
     assert_eq!(rt; transferred(rt.alloc(), &handler, &request), Some((0, 77)));
     assert_eq!(rt; updated(rt.alloc(), &mut handler, &request), [true; 4]);

@@ -21,7 +21,7 @@ const RISING: [(&str, u16); 5] = [
     ("example.net.", 1),
 ];
 
-/// The keys of two such names and types, in their order, and whether they are equal.
+/// How the keys of two such names and types compare, and whether they are equal.
 fn compared(alloc: Global, a: &(&str, u16), b: &(&str, u16)) -> Result<(Ordering, bool), Fail> {
     let a = key(alloc, a.0, RecordType::new(a.1))?;
     let b = key(alloc, b.0, RecordType::new(b.1))?;

@@ -1,6 +1,8 @@
 //! Whole zones, and what a zone in memory tells of itself.
 
-use super::fixtures::{EXAMPLE, PLAIN, WWW_QUERY, lower, records, request, sets, told, zone};
+use super::answers::looked_up;
+use super::fixtures::{EXAMPLE, PLAIN, lower, records, sets, told, zone};
+use crate::fixtures::{QUERY, request};
 use hickory_base::errors::UpdateFault;
 use hickory_base::server::Request;
 use hickory_base::zone_store::{
@@ -109,6 +111,8 @@ fn other_sets_take_the_place_of_all(rt: HostRuntime) -> Result<(), Fail> {
     assert!(rt; InMemoryZoneHandler::accepts(&others));
     zone.replace_records(others);
     assert_eq!(rt; (zone.serial(), zone.records().len()), (8, 1));
+    let found = looked_up(rt.alloc(), &zone, "www.example.com.", RecordType::A)?;
+    assert_eq!(rt; found, ("code", 3));
     Ok(())
 }
 
@@ -120,7 +124,7 @@ fn is_not_updated(alloc: Global, zone: &mut InMemoryZoneHandler, request: &Reque
 
 #[test]
 fn an_update_is_not_made(rt: HostRuntime) -> Result<(), Fail> {
-    let request = request(rt.alloc(), WWW_QUERY)?;
+    let request = request(rt.alloc(), &QUERY)?;
     let mut zone = zone(rt.alloc(), EXAMPLE, AxfrPolicy::Deny)?;
     assert!(rt; is_not_updated(rt.alloc(), &mut zone, &request));
     assert_eq!(rt; (zone.serial(), zone.records().len()), (7, 4));

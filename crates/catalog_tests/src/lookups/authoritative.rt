@@ -1,37 +1,11 @@
 //! Replies of a handler that holds the zone.
 
 use super::handler::{Call, Denials, Given, PRIMARY, Part, Script, Subject};
-use super::served::{Asked, Case, DNSSEC_QUERY, ID, PLAIN_QUERY, QUERY, check};
+use super::served::{
+    Asked, Case, DNSSEC_QUERY, PLAIN_QUERY, QUERY, at_origin, check, nsec, search,
+};
 use hickory_wire::{RecordType, ResponseCode};
 use std::test::Fail;
-
-fn search(dnssec_ok: bool) -> Call {
-    Call::Search {
-        place: 0,
-        id: ID,
-        dnssec_ok,
-    }
-}
-
-/// The lookup of a type at the handler's origin.
-fn at_origin(record_type: u16, dnssec_ok: bool) -> Call {
-    Call::Lookup {
-        place: 0,
-        name: Subject::Origin,
-        record_type,
-        id: None,
-        dnssec_ok,
-    }
-}
-
-/// The call for NSEC records of the name asked for.
-fn nsec(dnssec_ok: bool) -> Call {
-    Call::Nsec {
-        place: 0,
-        name: Subject::Asked,
-        dnssec_ok,
-    }
-}
 
 #[test]
 fn a_referral_is_in_the_authority_section(rt: HostRuntime) -> Result<(), Fail> {
@@ -50,7 +24,7 @@ fn a_referral_is_in_the_authority_section(rt: HostRuntime) -> Result<(), Fail> {
             flags: [0x84, 0x00],
             answers: &[],
             authorities: &[2],
-            calls: &[search(false)],
+            calls: &[search(0, false)],
         },
     )
 }
@@ -79,7 +53,7 @@ fn no_name_without_dnssec(rt: HostRuntime) -> Result<(), Fail> {
             flags: [0x85, 0x03],
             answers: &[],
             authorities: &[6],
-            calls: &[search(false), at_origin(6, false)],
+            calls: &[search(0, false), at_origin(6, false)],
         },
     )
 }
@@ -95,7 +69,7 @@ fn no_denial_unasked(rt: HostRuntime) -> Result<(), Fail> {
             flags: [0x85, 0x03],
             answers: &[],
             authorities: &[6],
-            calls: &[search(false), at_origin(6, false)],
+            calls: &[search(0, false), at_origin(6, false)],
         },
     )
 }
@@ -110,7 +84,7 @@ fn the_denial_comes_before_the_soa(rt: HostRuntime) -> Result<(), Fail> {
             flags: [0x85, 0x03],
             answers: &[],
             authorities: &[47, 6],
-            calls: &[search(true), nsec(true), at_origin(6, true)],
+            calls: &[search(0, true), nsec(true), at_origin(6, true)],
         },
     )
 }
@@ -129,7 +103,7 @@ fn the_denial_alone_where_the_soa_fails(rt: HostRuntime) -> Result<(), Fail> {
             flags: [0x85, 0x03],
             answers: &[],
             authorities: &[47],
-            calls: &[search(true), nsec(true), at_origin(6, true)],
+            calls: &[search(0, true), nsec(true), at_origin(6, true)],
         },
     )
 }
@@ -148,7 +122,7 @@ fn no_denial_where_the_soa_is_skipped(rt: HostRuntime) -> Result<(), Fail> {
             flags: [0x85, 0x03],
             answers: &[],
             authorities: &[],
-            calls: &[search(true), nsec(true), at_origin(6, true)],
+            calls: &[search(0, true), nsec(true), at_origin(6, true)],
         },
     )
 }
@@ -174,7 +148,7 @@ fn a_wildcard_needs_nsec_records(rt: HostRuntime) -> Result<(), Fail> {
             flags: [0x85, 0x00],
             answers: &[1, 46],
             authorities: &[47],
-            calls: &[search(false), nsec(false)],
+            calls: &[search(0, false), nsec(false)],
         },
     )
 }
@@ -189,7 +163,7 @@ fn a_name_that_exists_needs_no_nsec_records(rt: HostRuntime) -> Result<(), Fail>
             flags: [0x85, 0x00],
             answers: &[1, 46],
             authorities: &[],
-            calls: &[search(false)],
+            calls: &[search(0, false)],
         },
     )
 }
@@ -214,7 +188,7 @@ fn nsec3_records_are_told_of_the_wildcard(rt: HostRuntime) -> Result<(), Fail> {
                 flags: [0x85, 0x00],
                 answers: &[1, 46],
                 authorities: &[47],
-                calls: &[search(false), asked],
+                calls: &[search(0, false), asked],
             },
         )?;
     }
@@ -236,7 +210,7 @@ fn another_code_is_no_error(rt: HostRuntime) -> Result<(), Fail> {
             flags: [0x84, 0x00],
             answers: &[],
             authorities: &[6],
-            calls: &[search(false), at_origin(6, false)],
+            calls: &[search(0, false), at_origin(6, false)],
         },
     )
 }
@@ -255,7 +229,7 @@ fn a_refusal_has_no_records(rt: HostRuntime) -> Result<(), Fail> {
             flags: [0x84, 0x05],
             answers: &[],
             authorities: &[],
-            calls: &[search(false)],
+            calls: &[search(0, false)],
         },
     )
 }
@@ -279,7 +253,7 @@ fn name_servers_beside_the_soa(rt: HostRuntime) -> Result<(), Fail> {
             flags: [0x85, 0x00],
             answers: &[6],
             authorities: &[2],
-            calls: &[search(false), at_origin(2, false)],
+            calls: &[search(0, false), at_origin(2, false)],
         },
     )
 }

@@ -2,35 +2,14 @@
 
 use super::handler::{Call, EXTERNAL, Given, PRIMARY, Part, Script, Subject};
 use super::served::{
-    Case, ID, PLAIN_QUERY, QUERY, addresses, catalog_of, check, check_calls, new_log, only_reply,
-    reply_of, request_of,
+    Case, ID, PLAIN_QUERY, QUERY, addresses, catalog_of, check, check_calls, consult, new_log,
+    only_reply, replied, reply_of, request_of, search,
 };
 use super::sink::Sink;
 use hickory_wire::{Edns, Message, Protocol};
 use std::alloc::Global;
 use std::net::Ipv4Addr;
 use std::test::Fail;
-
-/// The search of the handler at a place for a query without DO.
-fn search(place: u8) -> Call {
-    Call::Search {
-        place,
-        id: ID,
-        dnssec_ok: false,
-    }
-}
-
-/// The consult of the handler at a place about so many answers, for a query without DO.
-fn consult(place: u8, answers: usize) -> Call {
-    Call::Consult {
-        place,
-        name: Subject::Asked,
-        record_type: 1,
-        id: Some(ID),
-        dnssec_ok: false,
-        answers,
-    }
-}
 
 const SIGNS: Part = Part {
     signs: true,
@@ -57,7 +36,7 @@ fn all_skip(rt: HostRuntime) -> Result<(), Fail> {
             flags: [0x81, 0x02],
             answers: &[],
             authorities: &[],
-            calls: &[search(0), search(1)],
+            calls: &[search(0, false), search(1, false)],
         },
     )
 }
@@ -77,7 +56,7 @@ fn an_answer_is_to_be_signed(rt: HostRuntime) -> Result<(), Fail> {
             flags: [0x81, 0x02],
             answers: &[],
             authorities: &[],
-            calls: &[search(0)],
+            calls: &[search(0, false)],
         },
     )
 }
@@ -96,7 +75,7 @@ fn a_consult_skips(rt: HostRuntime) -> Result<(), Fail> {
             flags: [0x81, 0x02],
             answers: &[],
             authorities: &[],
-            calls: &[search(0), consult(1, 1)],
+            calls: &[search(0, false), consult(1, 1)],
         },
     )
 }
@@ -116,7 +95,7 @@ fn a_break_stands(rt: HostRuntime) -> Result<(), Fail> {
             flags: [0x85, 0x00],
             answers: &[1],
             authorities: &[],
-            calls: &[search(0), search(1)],
+            calls: &[search(0, false), search(1, false)],
         },
     )
 }
@@ -133,7 +112,12 @@ fn the_others_are_consulted(rt: HostRuntime) -> Result<(), Fail> {
             flags: [0x85, 0x00],
             answers: &[1, 1, 1],
             authorities: &[],
-            calls: &[search(0), search(1), consult(0, 1), consult(2, 2)],
+            calls: &[
+                search(0, false),
+                search(1, false),
+                consult(0, 1),
+                consult(2, 2),
+            ],
         },
     )
 }
@@ -173,7 +157,7 @@ fn a_consult_answers_in_its_place(rt: HostRuntime) -> Result<(), Fail> {
             flags: [0x84, 0x00],
             answers: &[1],
             authorities: &[],
-            calls: &[search(0), consult(1, 1)],
+            calls: &[search(0, false), consult(1, 1)],
         },
     )
 }
@@ -205,5 +189,21 @@ fn options_of_search_and_consult(rt: HostRuntime) -> Result<(), Fail> {
         dnssec_ok: true,
         answers: 1,
     };
-    check_calls(&rt, &log, &[search(0), consulted])
+    check_calls(&rt, &log, &[search(0, false), consulted])
+}
+
+/// A handler is asked anew, just once, for each request.
+#[test]
+fn each_request_is_one_search(rt: HostRuntime) -> Result<(), Fail> {
+    let log = new_log(rt.alloc()).ok_or("no log")?;
+    let request = request_of(rt.alloc(), &QUERY).ok_or("no request")?;
+    let mut catalog = catalog_of(rt.alloc(), &log, &QUERY, &[CONTINUES]).ok_or("no catalog")?;
+    for _ in 0..3u8 {
+        let _ = replied(rt.alloc(), &mut catalog, &request)?;
+    }
+    check_calls(
+        &rt,
+        &log,
+        &[search(0, false), search(0, false), search(0, false)],
+    )
 }

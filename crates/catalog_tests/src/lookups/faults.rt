@@ -1,11 +1,11 @@
 //! Want of memory, a sink that fails, and requests that `lookup` does not look at whole.
 
-use super::handler::{Call, Denials, EXTERNAL, Given, PRIMARY, Part, Script, Subject};
+use super::handler::{Call, Denials, EXTERNAL, Given, PRIMARY, Part, Script};
 use super::served::{
-    Asked, DNSSEC_QUERY, ID, NoSigner, QUERY, catalog_of, check_calls, lower_name, new_log,
-    only_reply, received, request_of, scripted,
+    Asked, DNSSEC_QUERY, NoSigner, QUERY, at_origin, catalog_of, check_calls, consult, lower_name,
+    new_log, nsec, only_reply, received, request_of, scripted, search,
 };
-use super::sink::Sink;
+use super::sink::{Fails, Sink};
 use hickory_base::errors::CatalogError;
 use hickory_base::server::{Request, RequestHandler};
 use hickory_base::zone_store::ZoneHandler;
@@ -41,41 +41,6 @@ fn check_refused(
     check_calls(rt, &log, calls)
 }
 
-fn search(place: u8, dnssec_ok: bool) -> Call {
-    Call::Search {
-        place,
-        id: ID,
-        dnssec_ok,
-    }
-}
-
-fn consult(place: u8) -> Call {
-    Call::Consult {
-        place,
-        name: Subject::Asked,
-        record_type: 1,
-        id: Some(ID),
-        dnssec_ok: false,
-        answers: 1,
-    }
-}
-
-fn at_origin(record_type: u16, dnssec_ok: bool) -> Call {
-    Call::Lookup {
-        place: 0,
-        name: Subject::Origin,
-        record_type,
-        id: None,
-        dnssec_ok,
-    }
-}
-
-const NSEC: Call = Call::Nsec {
-    place: 0,
-    name: Subject::Asked,
-    dnssec_ok: true,
-};
-
 const CONTINUES: Part = Part {
     search: Script::Continue(Given::Address(9)),
     ..PRIMARY
@@ -105,7 +70,7 @@ fn a_consult_wants_memory(rt: HostRuntime) -> Result<(), Fail> {
         &rt,
         &QUERY,
         &[CONTINUES, refused, EXTERNAL],
-        &[search(0, false), consult(1)],
+        &[search(0, false), consult(1, 1)],
     )
 }
 
@@ -120,7 +85,12 @@ const NO_NAME: Part = Part {
 
 #[test]
 fn a_denial_wants_memory(rt: HostRuntime) -> Result<(), Fail> {
-    check_refused(&rt, &DNSSEC_QUERY, &[NO_NAME], &[search(0, true), NSEC])
+    check_refused(
+        &rt,
+        &DNSSEC_QUERY,
+        &[NO_NAME],
+        &[search(0, true), nsec(true)],
+    )
 }
 
 #[test]
@@ -130,7 +100,7 @@ fn the_lookup_of_the_soa_wants_memory(rt: HostRuntime) -> Result<(), Fail> {
         denial: Script::Break(Given::Denial),
         ..NO_NAME
     };
-    let calls = [search(0, true), NSEC, at_origin(6, true)];
+    let calls = [search(0, true), nsec(true), at_origin(6, true)];
     check_refused(&rt, &DNSSEC_QUERY, &[refused], &calls)
 }
 
@@ -221,12 +191,16 @@ fn the_identifier_over_tcp(rt: HostRuntime) -> Result<(), Fail> {
     Ok(())
 }
 
-/// What a catalog without zones tells where the sink fails once it has the reply: the response code, how much stands in
-/// the sections, and how many replies and failures the sink has.
-fn told(alloc: Global, request: &Request) -> Result<(ResponseCode, [u16; 4], usize, u64), Fail> {
+/// What a catalog without zones tells where the sink fails: the response code, RD, how much stands in the sections, and
+/// how many replies and failures the sink has.
+fn told(
+    alloc: Global,
+    request: &Request,
+    fails: Fails,
+) -> Result<(ResponseCode, bool, [u16; 4], usize, u64), Fail> {
     let mut catalog: Catalog<NoSigner> = Catalog::new(alloc, NoSigner);
     let mut sink = Sink::new(alloc, Protocol::Tcp);
-    sink.fails = true;
+    sink.fails = fails;
     let told = catalog.handle_request(alloc, request, 0, &mut sink)?;
     let counts = told.counts();
     let lens = [
@@ -235,16 +209,19 @@ fn told(alloc: Global, request: &Request) -> Result<(ResponseCode, [u16; 4], usi
         counts.authorities,
         counts.additionals,
     ];
-    let code = told.metadata().response_code;
-    Ok((code, lens, sink.replies.len(), sink.failures))
+    let metadata = told.metadata();
+    let (code, recursion) = (metadata.response_code, metadata.recursion_desired);
+    Ok((code, recursion, lens, sink.replies.len(), sink.failures))
 }
 
-/// The reply was handed over, and yet a failure is told.
+/// A failure is told, and no second reply is handed over, even where the first one was.
 #[test]
-fn a_sink_fails_behind_the_reply(rt: HostRuntime) -> Result<(), Fail> {
+fn a_sink_fails_once(rt: HostRuntime) -> Result<(), Fail> {
     let request = request_of(rt.alloc(), &QUERY).ok_or("no request")?;
-    let expected = (ResponseCode::SERV_FAIL, [0; 4], 1, 1);
-    assert_eq!(rt; told(rt.alloc(), &request)?, expected);
+    for (fails, replies) in [(Fails::Before, 0), (Fails::Behind, 1)] {
+        let expected = (ResponseCode::SERV_FAIL, false, [0; 4], replies, 1);
+        assert_eq!(rt; told(rt.alloc(), &request, fails)?, expected);
+    }
     Ok(())
 }
 

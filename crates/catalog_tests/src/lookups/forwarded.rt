@@ -1,17 +1,9 @@
 //! Replies of a handler that asks elsewhere. Only its search is called.
 
-use super::handler::{Call, EXTERNAL, Given, Part, Script};
-use super::served::{Asked, Case, DNSSEC_QUERY, ID, PLAIN_QUERY, QUERY, check};
+use super::handler::{EXTERNAL, Given, Part, Script};
+use super::served::{Asked, Case, DNSSEC_QUERY, PLAIN_QUERY, QUERY, check, search};
 use hickory_wire::Proof;
 use std::test::Fail;
-
-fn search(dnssec_ok: bool) -> Call {
-    Call::Search {
-        place: 0,
-        id: ID,
-        dnssec_ok,
-    }
-}
 
 const BOGUS: Part = Part {
     validates: true,
@@ -40,7 +32,7 @@ fn a_name_in_use_is_no_error(rt: HostRuntime) -> Result<(), Fail> {
             flags: [0x81, 0x80],
             answers: &[],
             authorities: &[],
-            calls: &[search(false)],
+            calls: &[search(0, false)],
         },
     )
 }
@@ -55,7 +47,7 @@ fn a_bogus_answer_is_left_out(rt: HostRuntime) -> Result<(), Fail> {
             flags: [0x81, 0x82],
             answers: &[],
             authorities: &[2],
-            calls: &[search(false)],
+            calls: &[search(0, false)],
         },
     )
 }
@@ -74,7 +66,7 @@ fn a_bogus_answer_with_checking_disabled(rt: HostRuntime) -> Result<(), Fail> {
             flags: [0x81, 0x90],
             answers: &[1],
             authorities: &[2],
-            calls: &[search(false)],
+            calls: &[search(0, false)],
         },
     )
 }
@@ -89,7 +81,7 @@ fn a_secure_answer_has_authentic_data(rt: HostRuntime) -> Result<(), Fail> {
             flags: [0x81, 0xa0],
             answers: &[1],
             authorities: &[2],
-            calls: &[search(true)],
+            calls: &[search(0, true)],
         },
     )
 }
@@ -105,7 +97,7 @@ fn a_secure_answer_unasked(rt: HostRuntime) -> Result<(), Fail> {
             flags: [0x81, 0x80],
             answers: &[1],
             authorities: &[2],
-            calls: &[search(false)],
+            calls: &[search(0, false)],
         },
     )
 }
@@ -120,7 +112,7 @@ fn no_recursion_is_refused(rt: HostRuntime) -> Result<(), Fail> {
             flags: [0x80, 0x85],
             answers: &[],
             authorities: &[],
-            calls: &[search(false)],
+            calls: &[search(0, false)],
         },
     )
 }

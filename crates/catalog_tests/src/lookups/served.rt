@@ -1,6 +1,6 @@
 //! Queries of one zone, and what is to come of them.
 
-use super::handler::{Call, Denials, Log, Part, Scripted};
+use super::handler::{Call, Denials, Log, Part, Scripted, Subject};
 use super::sink::Sink;
 use hickory_base::server::{Request, RequestHandler};
 use hickory_base::zone_store::{NxProofKind, ZoneHandler};
@@ -85,6 +85,47 @@ pub(crate) struct Case<'c> {
     /// The types of the authorities.
     pub authorities: &'c [u16],
     pub calls: &'c [Call],
+}
+
+/// The search of the handler at a place.
+pub(crate) fn search(place: u8, dnssec_ok: bool) -> Call {
+    Call::Search {
+        place,
+        id: ID,
+        dnssec_ok,
+    }
+}
+
+/// The consult of the handler at a place about so many answers, for a query without DO.
+pub(crate) fn consult(place: u8, answers: usize) -> Call {
+    Call::Consult {
+        place,
+        name: Subject::Asked,
+        record_type: 1,
+        id: Some(ID),
+        dnssec_ok: false,
+        answers,
+    }
+}
+
+/// The lookup of a type at the first handler's origin.
+pub(crate) fn at_origin(record_type: u16, dnssec_ok: bool) -> Call {
+    Call::Lookup {
+        place: 0,
+        name: Subject::Origin,
+        record_type,
+        id: None,
+        dnssec_ok,
+    }
+}
+
+/// The first handler's call for NSEC records of the name asked for.
+pub(crate) fn nsec(dnssec_ok: bool) -> Call {
+    Call::Nsec {
+        place: 0,
+        name: Subject::Asked,
+        dnssec_ok,
+    }
 }
 
 /// The name of a text, if there is memory for it.

@@ -8,11 +8,20 @@ use hickory_wire::Protocol;
 use std::alloc::Global;
 use std::io;
 
+/// When a sink fails.
+#[derive(Clone, Copy, PartialEq, Eq)]
+pub(crate) enum Fails {
+    No,
+    /// Before it looks at the reply.
+    Before,
+    /// Once it has the reply.
+    Behind,
+}
+
 #[derive(Drop)]
 pub(crate) struct Sink {
     pub transport: Protocol,
-    /// Whether it fails once it has the reply.
-    pub fails: bool,
+    pub fails: Fails,
     pub replies: Vec<Vec<u8>>,
     pub failures: u64,
 }
@@ -21,7 +30,7 @@ impl Sink {
     pub fn new(alloc: Global, transport: Protocol) -> Sink {
         Sink {
             transport,
-            fails: false,
+            fails: Fails::No,
             replies: Vec::new(alloc),
             failures: 0,
         }
@@ -66,6 +75,9 @@ impl ResponseHandler for Sink {
         D: Iterator + Drop,
         D::Item: RecordRef,
     {
+        if self.fails == Fails::Before {
+            return Err(self.fail());
+        }
         let Ok(encoded) = encode_response(alloc, response, self.transport) else {
             return Err(self.fail());
         };
@@ -73,7 +85,7 @@ impl ResponseHandler for Sink {
         if self.replies.push(bytes).is_err() {
             return Err(self.fail());
         }
-        if self.fails {
+        if self.fails == Fails::Behind {
             return Err(self.fail());
         }
         Ok(info)

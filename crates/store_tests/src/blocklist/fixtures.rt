@@ -1,4 +1,4 @@
-//! Lists and requests from text and bytes, and a reader that follows a script.
+//! Lists and requests from text and bytes, a reader that follows a script, and words for answers.
 
 use hickory_base::errors::LookupError;
 use hickory_base::server::Request;

@@ -6,7 +6,7 @@ returns-clause-ok g c =
     let w = c.in-Ok.ensures.encoded in
     (w.0, record { entry = c.in-Ok.encoded.1; is_handed = w.1; is_shown = tt; grew = search rules }, tt)
 
-pub returns-then-self-clause-err : goal.returns-then-self-clause-err
-returns-then-self-clause-err g c =
+pub returns-then-eq-2-clause-err : goal.returns-then-eq-2-clause-err
+returns-then-eq-2-clause-err g c =
     let w = c.in-Ok.ensures.encoded in
     inl (w.0, record { entry = c.in-Ok.encoded.1; is_handed = w.1; is_shown = tt; grew = search rules })
