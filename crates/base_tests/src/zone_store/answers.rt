@@ -1,8 +1,7 @@
 //! What a zone in memory answers to lookups and requests.
 
-use super::fixtures::{EXAMPLE, PLAIN, lower, records, told, zone};
-use crate::fixtures::{QUERY, request};
-use hickory_base::errors::LookupError;
+use super::fixtures::{EXAMPLE, PLAIN, looked_up, lower, records, searched, zone};
+use crate::fixtures::QUERY;
 use hickory_base::zone_store::{
     AuthLookup, AxfrPolicy, InMemoryZoneHandler, LookupControlFlow, ZoneHandler,
 };
@@ -34,16 +33,6 @@ fn is_answer(
         }
         _ => false,
     })
-}
-
-/// The word for an answer, with its number of records, of questions, or its code.
-fn word(answer: &LookupControlFlow<AuthLookup>) -> (&'static str, usize) {
-    match answer {
-        LookupControlFlow::Continue(Ok(found)) => ("found", found.iter().count()),
-        LookupControlFlow::Continue(Err(fault)) => told(fault),
-        LookupControlFlow::Break(Err(LookupError::BadQueryCount(count))) => ("break", *count),
-        _ => ("other", 0),
-    }
 }
 
 /// Whether a lookup finds just the records of these lines.
@@ -97,18 +86,6 @@ fn records_are_found_by_name_and_type(rt: HostRuntime) -> Result<(), Fail> {
         );
     }
     Ok(())
-}
-
-/// The word for the answer to a lookup.
-pub(super) fn looked_up(
-    alloc: Global,
-    zone: &InMemoryZoneHandler,
-    name: &str,
-    record_type: RecordType,
-) -> Result<(&'static str, usize), Fail> {
-    let name = lower(alloc, name)?;
-    let answer = zone.lookup(alloc, &name, record_type, None, PLAIN);
-    Ok(word(&answer))
 }
 
 const DENIED: [(&str, RecordType, (&str, usize)); 5] = [
@@ -174,17 +151,6 @@ const TWO_QUESTIONS: &[u8] = b"\x12\x34\x01\x00\x00\x02\x00\x00\x00\x00\x00\x00\
     \x07example\x03com\x00\x00\x01\x00\x01\xc0\x0c\x00\x02\x00\x01";
 
 const NO_QUESTION: &[u8] = b"\x12\x34\x01\x00\x00\x00\x00\x00\x00\x00\x00\x00";
-
-/// The word for the answer to a request.
-fn searched(
-    alloc: Global,
-    zone: &InMemoryZoneHandler,
-    bytes: &[u8],
-) -> Result<(&'static str, usize), Fail> {
-    let request = request(alloc, bytes)?;
-    let (answer, _) = zone.search(alloc, &request, PLAIN);
-    Ok(word(&answer))
-}
 
 /// The one question of a request is answered; other numbers of questions are told.
 #[test]

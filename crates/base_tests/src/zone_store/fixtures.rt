@@ -1,11 +1,13 @@
-//! Sets and zones from text.
+//! Sets and zones from text, and words for answers.
 //!
 //! A line is a set: its owner name, its type, and a value for each of its records. That is the last octet of 192.0.2.0/24
 //! for an A, the name of a server for an NS, the serial for an SOA.
 
+use crate::fixtures::request;
 use hickory_base::errors::{DnsError, LookupError};
 use hickory_base::zone_store::{
-    AxfrPolicy, InMemoryZoneHandler, LookupOptions, RecordSet, RrKey, ZoneType,
+    AuthLookup, AxfrPolicy, InMemoryZoneHandler, LookupControlFlow, LookupOptions, Nsec3QueryInfo,
+    RecordSet, RrKey, ZoneHandler, ZoneType,
 };
 use hickory_wire::{Boxed, DNSClass, LowerName, Name, Proof, RData, Record, RecordType, SOA};
 use std::alloc::Global;
@@ -152,6 +154,58 @@ pub(crate) fn told(fault: &LookupError) -> (&'static str, usize) {
             ("no records", usize::from(response_code.value()))
         }
         LookupError::BadQueryCount(count) => ("questions", *count),
+        LookupError::Memory => ("memory", 0),
         _ => ("other", 0),
     }
+}
+
+/// The word for an answer, with its number of records or of questions, or its code.
+pub(crate) fn word(answer: &LookupControlFlow<AuthLookup>) -> (&'static str, usize) {
+    match answer {
+        LookupControlFlow::Continue(Ok(found)) => ("found", found.iter().count()),
+        LookupControlFlow::Continue(Err(fault)) => told(fault),
+        LookupControlFlow::Break(Err(LookupError::BadQueryCount(count))) => ("break", *count),
+        LookupControlFlow::Skip => ("skip", 0),
+        _ => ("other", 0),
+    }
+}
+
+/// The word for the answer to a lookup.
+pub(crate) fn looked_up<H: ZoneHandler>(
+    alloc: Global,
+    handler: &H,
+    name: &str,
+    record_type: RecordType,
+) -> Result<(&'static str, usize), Fail> {
+    let name = lower(alloc, name)?;
+    Ok(word(&handler.lookup(alloc, &name, record_type, None, PLAIN)))
+}
+
+/// The word for the answer to a request.
+pub(crate) fn searched<H: ZoneHandler>(
+    alloc: Global,
+    handler: &H,
+    bytes: &[u8],
+) -> Result<(&'static str, usize), Fail> {
+    let request = request(alloc, bytes)?;
+    let (answer, _) = handler.search(alloc, &request, PLAIN);
+    Ok(word(&answer))
+}
+
+/// The words for the answers to both calls for denials; NSEC3 with 10 iterations.
+pub(crate) fn denials<H: ZoneHandler>(
+    alloc: Global,
+    handler: &H,
+    name: &LowerName,
+) -> [(&'static str, usize); 2] {
+    let info = Nsec3QueryInfo {
+        qname: name,
+        qtype: RecordType::A,
+        has_wildcard_match: false,
+        algorithm: 1,
+        salt: &[],
+        iterations: 10,
+    };
+    let nsec = word(&handler.nsec_records(alloc, name, PLAIN));
+    [nsec, word(&handler.nsec3_records(alloc, info, PLAIN))]
 }

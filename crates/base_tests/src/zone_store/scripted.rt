@@ -4,7 +4,7 @@ ghost use Rattle.std.specs.Prelude.{Some};
 ghost use Rattle.hickory_base.specs.declared.zone_store.handler.AxfrPolicy.TheVariants.{AllowSigned};
 ghost use Rattle.hickory_base.specs.declared.zone_store.handler.ZoneType.TheVariants.{External};
 
-use super::fixtures::{PLAIN, lower};
+use super::fixtures::{PLAIN, denials, lower, word};
 use crate::fixtures::{QUERY, request};
 use hickory_base::errors::{LookupError, UpdateFault};
 use hickory_base::server::{Request, RequestInfo};
@@ -173,16 +173,6 @@ fn unasked(alloc: Global) -> Result<Scripted, Fail> {
     })
 }
 
-/// The word for an answer, with the number in it.
-fn told(answer: &LookupControlFlow<AuthLookup>) -> (&'static str, usize) {
-    match answer {
-        LookupControlFlow::Continue(Err(LookupError::BadQueryCount(count))) => ("continue", *count),
-        LookupControlFlow::Break(Err(LookupError::BadQueryCount(count))) => ("break", *count),
-        LookupControlFlow::Skip => ("skip", 0),
-        _ => ("other", 0),
-    }
-}
-
 /// The id and the moment in a context.
 fn moment(context: Option<TSigResponseContext>) -> Option<(u16, u64)> {
     context.map(|context| (context.request_id, context.now))
@@ -217,66 +207,54 @@ fn looked_up<H: ZoneHandler>(
     let signed = LookupOptions { dnssec_ok: true };
     let name = handler.origin();
     let answer = handler.lookup(alloc, name, RecordType::MX, Some(&info), signed);
-    Ok(told(&answer))
+    Ok(word(&answer))
 }
 
-fn check_search<H: ZoneHandler>(rt: &(impl Abort + AllocGlobal), handler: &H, request: &Request) {
-    let (answer, context) = handler.search(rt.alloc(), request, PLAIN);
-    assert_eq!(rt; told(&answer), ("skip", 0));
-    assert_eq!(rt; moment(context), Some((0x1234, 0)));
+/// What is answered to a search, and the moment that is told with it.
+fn found<H: ZoneHandler>(
+    alloc: Global,
+    handler: &H,
+    request: &Request,
+) -> ((&'static str, usize), Option<(u16, u64)>) {
+    let (answer, context) = handler.search(alloc, request, PLAIN);
+    (word(&answer), moment(context))
 }
 
 #[test]
 fn a_box_is_asked_as_its_handler(rt: HostRuntime) -> Result<(), Fail> {
     let request = request(rt.alloc(), &QUERY)?;
     let handler: Box<dyn ZoneHandler> = Box::new(rt.alloc(), unasked(rt.alloc())?)?;
-    assert_eq!(rt;
-        looked_up(rt.alloc(), &handler, &request)?,
-        ("continue", 15)
-    );
-    check_search(&rt, &handler, &request);
+    let told = looked_up(rt.alloc(), &handler, &request)?;
+    assert_eq!(rt; told, ("questions", 15));
+    let expected = (("skip", 0), Some((0x1234, 0)));
+    assert_eq!(rt; found(rt.alloc(), &handler, &request), expected);
     Ok(())
 }
 
-fn check_consult<H: ZoneHandler>(rt: &(impl Abort + AllocGlobal), handler: &H) {
+/// What is answered to a consult, and the moment that is told with it.
+fn consulted<H: ZoneHandler>(
+    alloc: Global,
+    handler: &H,
+) -> ((&'static str, usize), Option<(u16, u64)>) {
     let name = handler.origin();
     let last = LookupControlFlow::Break(number(9));
-    let (answer, context) = handler.consult(rt.alloc(), name, RecordType::A, None, PLAIN, last);
-    assert_eq!(rt; told(&answer), ("break", 9));
-    assert_eq!(rt; moment(context), Some((1, 0)));
+    let (answer, context) = handler.consult(alloc, name, RecordType::A, None, PLAIN, last);
+    (word(&answer), moment(context))
 }
 
 #[test]
 fn a_box_is_consulted_as_its_handler(rt: HostRuntime) -> Result<(), Fail> {
     let handler: Box<dyn ZoneHandler> = Box::new(rt.alloc(), unasked(rt.alloc())?)?;
-    check_consult(&rt, &handler);
+    let expected = (("break", 9), Some((1, 0)));
+    assert_eq!(rt; consulted(rt.alloc(), &handler), expected);
     Ok(())
-}
-
-/// What is answered to both calls for denials.
-fn denials<H: ZoneHandler>(alloc: Global, handler: &H) -> [(&'static str, usize); 2] {
-    let name = handler.origin();
-    let info = Nsec3QueryInfo {
-        qname: name,
-        qtype: RecordType::A,
-        has_wildcard_match: false,
-        algorithm: 1,
-        salt: &[],
-        iterations: 10,
-    };
-    [
-        told(&handler.nsec_records(alloc, name, PLAIN)),
-        told(&handler.nsec3_records(alloc, info, PLAIN)),
-    ]
 }
 
 #[test]
 fn a_box_denies_as_its_handler(rt: HostRuntime) -> Result<(), Fail> {
     let handler: Box<dyn ZoneHandler> = Box::new(rt.alloc(), unasked(rt.alloc())?)?;
-    assert_eq!(rt;
-        denials(rt.alloc(), &handler),
-        [("break", 2), ("break", 10)]
-    );
+    let found = denials(rt.alloc(), &handler, handler.origin());
+    assert_eq!(rt; found, [("break", 2), ("break", 10)]);
     Ok(())
 }
 

@@ -1,13 +1,11 @@
 //! Whole zones, and what a zone in memory tells of itself.
 
-use super::answers::looked_up;
-use super::fixtures::{EXAMPLE, PLAIN, lower, records, sets, told, zone};
+use super::fixtures::{EXAMPLE, PLAIN, denials, looked_up, lower, records, sets, told, zone};
 use crate::fixtures::{QUERY, request};
 use hickory_base::errors::UpdateFault;
 use hickory_base::server::Request;
 use hickory_base::zone_store::{
-    AuthLookup, AxfrPolicy, InMemoryZoneHandler, LookupControlFlow, Nsec3QueryInfo, ZoneHandler,
-    ZoneType,
+    AuthLookup, AxfrPolicy, InMemoryZoneHandler, LookupControlFlow, ZoneHandler, ZoneType,
 };
 use hickory_wire::{DNSClass, LowerName, RecordType, ResponseCode};
 use std::alloc::Global;
@@ -131,33 +129,18 @@ fn an_update_is_not_made(rt: HostRuntime) -> Result<(), Fail> {
     Ok(())
 }
 
-fn is_skip(answer: &LookupControlFlow<AuthLookup>) -> bool {
-    matches!(answer, LookupControlFlow::Skip)
-}
-
-/// Whether a zone skips both calls for denials of a name, and gives back what it is consulted about.
-fn has_no_say(alloc: Global, zone: &InMemoryZoneHandler, name: &LowerName) -> [bool; 3] {
-    let info = Nsec3QueryInfo {
-        qname: name,
-        qtype: RecordType::A,
-        has_wildcard_match: false,
-        algorithm: 1,
-        salt: &[],
-        iterations: 0,
-    };
+/// Whether a zone gives back what it is consulted about.
+fn has_no_say(alloc: Global, zone: &InMemoryZoneHandler, name: &LowerName) -> bool {
     let last = LookupControlFlow::Break(Ok(AuthLookup::Empty));
     let (answer, _) = zone.consult(alloc, name, RecordType::A, None, PLAIN, last);
-    [
-        is_skip(&zone.nsec_records(alloc, name, PLAIN)),
-        is_skip(&zone.nsec3_records(alloc, info, PLAIN)),
-        matches!(&answer, LookupControlFlow::Break(Ok(AuthLookup::Empty))),
-    ]
+    matches!(&answer, LookupControlFlow::Break(Ok(AuthLookup::Empty)))
 }
 
 #[test]
 fn a_zone_has_no_denials_and_no_say_in_others_answers(rt: HostRuntime) -> Result<(), Fail> {
     let name = lower(rt.alloc(), "nx.example.com.")?;
     let zone = zone(rt.alloc(), EXAMPLE, AxfrPolicy::Deny)?;
-    assert_eq!(rt; has_no_say(rt.alloc(), &zone, &name), [true; 3]);
+    assert_eq!(rt; denials(rt.alloc(), &zone, &name), [("skip", 0); 2]);
+    assert!(rt; has_no_say(rt.alloc(), &zone, &name));
     Ok(())
 }
