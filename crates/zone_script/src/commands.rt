@@ -4,12 +4,14 @@
 //! to put behind the text that is printed; it tells whether the line is one of its commands.
 
 pub(crate) mod asking;
+pub(crate) mod calling;
 pub(crate) mod chains;
 pub(crate) mod encoding;
 pub(crate) mod lists;
 pub(crate) mod messages;
 pub(crate) mod names;
 pub(crate) mod networks;
+pub(crate) mod sections;
 pub(crate) mod setting;
 pub(crate) mod values;
 pub(crate) mod zones;
@@ -31,6 +33,7 @@ fn obey_server(
             || zones::obey(script, alloc, words, out)?
             || chains::obey(script, alloc, words, out)?
             || asking::obey(script, alloc, words, out)?
+            || calling::obey(script, alloc, words, out)?
             || lists::obey(script, alloc, words, line, out)?
             || networks::obey(script, alloc, words, out)?,
     )
