@@ -118,7 +118,11 @@ fn zone_of(alloc: Global, origin: LowerName, records: &[Record]) -> Result<OpenZ
 fn load(script: &mut Script, alloc: Global, origin: &str, digits: &[&str]) -> Result<(), Fault> {
     let bytes = octets(alloc, digits)?;
     let message = Message::read(alloc, &bytes)?;
-    let zone = zone_of(alloc, lower_name(alloc, origin)?, message.answers.as_slice())?;
+    let zone = zone_of(
+        alloc,
+        lower_name(alloc, origin)?,
+        message.answers.as_slice(),
+    )?;
     close(script, alloc)?;
     script.zone = Some(zone);
     script.place = Place::Zone;
@@ -203,7 +207,7 @@ fn print_zone_message(
 
 /// Tells of the zone last begun.
 fn tell(script: &Script, alloc: Global, what: &str, out: &mut String) -> Result<(), Fault> {
-    X
+    let begun = last_begun(script, alloc)?;
     let zone = zone_in(begun.handler())?;
     match what {
         "show" => Ok(print_zone(out, zone)?),
