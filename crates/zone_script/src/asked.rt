@@ -1,7 +1,6 @@
 //! A call of a scripted handler with its arguments, as it is printed.
 
 use crate::part::Part;
-use crate::text::name_text;
 use hickory_server::proto::{LowerName, RecordType};
 use hickory_server::zone_handler::{LookupError, LookupOptions, Nsec3QueryInfo};
 use std::alloc::{AllocError, Global};
@@ -120,10 +119,9 @@ impl<'a> Asked<'a> {
 
     /// The line of the call of the handler at this place of its chain.
     fn line(&self, alloc: Global, place: usize) -> Result<String, AllocError> {
-        let mut line = format!(in alloc; "  {place} {} ", self.call)?;
-        line.push_str(name_text(alloc, self.name.as_name())?.as_str())?;
+        let mut line = format!(in alloc; "  {place} {} {}", self.call, self.name)?;
         if let Some(record_type) = self.record_type {
-            write!(line, " {}", record_type.value())?;
+            write!(line, " {record_type}")?;
         }
         self.write_numbers(&mut line)?;
         self.write_flags(&mut line)?;

@@ -4,12 +4,14 @@
 //! to put behind the text that is printed; it tells whether the line is one of its commands.
 
 pub(crate) mod asking;
+pub(crate) mod calling;
 pub(crate) mod chains;
 pub(crate) mod encoding;
 pub(crate) mod lists;
 pub(crate) mod messages;
 pub(crate) mod names;
 pub(crate) mod networks;
+pub(crate) mod sections;
 pub(crate) mod setting;
 pub(crate) mod values;
 pub(crate) mod zones;
@@ -28,9 +30,11 @@ fn obey_server(
 ) -> Result<bool, Fault> {
     Ok(
         setting::obey(script, alloc, words)?
+            || sections::obey(script, alloc, words)?
             || zones::obey(script, alloc, words, out)?
             || chains::obey(script, alloc, words, out)?
             || asking::obey(script, alloc, words, out)?
+            || calling::obey(script, alloc, words, out)?
             || lists::obey(script, alloc, words, line, out)?
             || networks::obey(script, alloc, words, out)?,
     )

@@ -1,8 +1,9 @@
 //! Why a line is not obeyed, or the script ends.
 
-use hickory_server::proto::{DecodeError, NameError, ProtoError};
+use hickory_server::proto::{CodeTextError, DecodeError, NameError, ProtoError};
 use hickory_server::store::blocklist::AddError;
 use hickory_server::zone_handler::CatalogError;
+use hickory_server::zone_text::{TextError, TextFault};
 use std::alloc::{AllocError, AllocFailed};
 use std::io;
 use std::net::AddrParseError;
@@ -27,15 +28,23 @@ pub(crate) enum Fault {
     /// Bytes are wanted.
     #[error("not an even number of hex digits")]
     Hex,
-    /// A name is wanted.
-    #[error("not the text of a name")]
-    Name,
-    /// A record is wanted.
-    #[error("not the text of a record")]
-    Record,
+    /// A word is no name text of letters, digits, `-`, `_` and `*`.
+    #[error("{0}")]
+    Name(NameError),
+    /// A word is not the text of what is wanted there.
+    #[error("{0}")]
+    Text(TextFault),
+    /// A line is not the text of a record.
+    #[error("{fault}")]
+    At {
+        /// Where in the line, in characters from 1 on.
+        column: usize,
+        /// What is wrong there.
+        fault: TextFault,
+    },
     /// A mnemonic or a number of a type, a class, a kind of request or a response code is wanted.
-    #[error("neither a mnemonic nor a number")]
-    Code,
+    #[error("{0}")]
+    Code(CodeTextError),
     /// The line is not UTF-8.
     #[error("the line is not UTF-8")]
     NotText,
@@ -127,9 +136,24 @@ impl From<AddrParseError> for Fault {
 impl From<NameError> for Fault {
     fn from(e: NameError) -> Fault {
         match e {
-            NameError::Text => Fault::Name,
             NameError::Memory => Fault::Memory,
+            fault => Fault::Name(fault),
         }
+    }
+}
+
+impl From<TextError> for Fault {
+    fn from(e: TextError) -> Fault {
+        match e {
+            TextError::Memory => Fault::Memory,
+            TextError::At { fault, .. } => Fault::Text(fault),
+        }
+    }
+}
+
+impl From<CodeTextError> for Fault {
+    fn from(e: CodeTextError) -> Fault {
+        Fault::Code(e)
     }
 }
 

@@ -6,14 +6,15 @@
 #![tactic(auto)]
 
 mod asked;
+mod begun;
 mod calls;
 mod commands;
-mod encoded_replies;
 mod fault;
 mod handler;
 mod open_zone;
 mod part;
 mod printing;
+mod question;
 mod script;
 mod sections;
 mod settings;

@@ -100,7 +100,7 @@ impl Script {
     fn obey(&mut self, alloc: Global, line: &str, out: &mut String) -> Result<(), Fault> {
         let words: Vec<&str> = line.split_whitespace().collect(alloc)?;
         if is_record(&words) {
-            self.put(alloc, line.trim())
+            self.put(alloc, line)
         } else if commands::obey(self, alloc, &words, line.trim(), out)? {
             Ok(())
         } else {
@@ -122,7 +122,12 @@ impl Script {
     fn told(&mut self, alloc: Global, fault: &Fault) -> Result<String, AllocError> {
         self.is_obeyed = false;
         let number = self.line_number;
-        format!(in alloc; "line {number}: {fault}\n")
+        match fault {
+            Fault::At { column, fault } => {
+                format!(in alloc; "line {number}, column {column}: {fault}\n")
+            }
+            fault => format!(in alloc; "line {number}: {fault}\n"),
+        }
     }
 
     /// Obeys a line as it was read, and gives what is printed of it. A fault ends the script: any other is told in what

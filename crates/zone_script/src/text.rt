@@ -1,55 +1,26 @@
-//! Names, records and messages as text.
+//! What lines and words of a script stand for, as text of the field's own.
 
 use crate::fault::Fault;
-use hickory_server::proto::{DNSClass, Name, Proof, RData, Record, RecordType};
-use std::alloc::{AllocError, Global};
-use std::net::Ipv4Addr;
+use hickory_server::proto::{LowerName, Name, Record};
+use hickory_server::zone_text::{TextError, read_name, read_record};
+use std::alloc::Global;
 
-// Until the library has the text forms: the few that a first script needs.
-
-/// The text of a name.
-pub(crate) fn name_text(alloc: Global, name: &Name) -> Result<String, AllocError> {
-    hex::encode(alloc, name.as_wire())
+/// The record of a line. A fault tells the column.
+pub(crate) fn record(alloc: Global, line: &str) -> Result<Record, Fault> {
+    match read_record(alloc, line) {
+        Ok(record) => Ok(record),
+        Err(TextError::At { column, fault }) => Err(Fault::At { column, fault }),
+        Err(TextError::Memory) => Err(Fault::Memory),
+    }
 }
 
 /// The name of a word.
 pub(crate) fn name(alloc: Global, word: &str) -> Result<Name, Fault> {
-    if word == "." {
-        return Ok(Name::root());
-    }
-    Ok(Name::from_ascii(alloc, word)?)
+    Ok(read_name(alloc, word)?)
 }
 
-/// The type of a word.
-pub(crate) fn record_type(word: &str) -> Result<RecordType, Fault> {
-    match word {
-        "A" => Ok(RecordType::A),
-        "NS" => Ok(RecordType::NS),
-        "SOA" => Ok(RecordType::SOA),
-        _ => Ok(RecordType::new(word.parse::<u16>()?)),
-    }
-}
-
-/// The class of a word.
-pub(crate) fn dns_class(word: &str) -> Result<DNSClass, Fault> {
-    match word {
-        "IN" => Ok(DNSClass::IN),
-        "CH" => Ok(DNSClass::CH),
-        _ => Err(Fault::Code),
-    }
-}
-
-/// The record of a line.
-pub(crate) fn record(alloc: Global, line: &str) -> Result<Record, Fault> {
-    let words: Vec<&str> = line.split_whitespace().collect(alloc)?;
-    match words.as_slice() {
-        [owner, ttl, "IN", "A", address] => Ok(Record {
-            name: name(alloc, owner)?,
-            dns_class: DNSClass::IN,
-            ttl: ttl.parse::<u32>()?,
-            rdata: RData::A(address.parse::<Ipv4Addr>()?),
-            proof: Proof::Indeterminate,
-        }),
-        _ => Err(Fault::Record),
-    }
+/// The name of a word in lower case.
+pub(crate) fn lower_name(alloc: Global, word: &str) -> Result<LowerName, Fault> {
+    let name = name(alloc, word)?;
+    Ok(LowerName::new(alloc, &name)?)
 }
