@@ -15,7 +15,8 @@ use std::alloc::{AllocError, Global};
 use std::fmt::Write;
 use std::net::{Ipv4Addr, Ipv6Addr};
 
-const BLOCKLIST_USAGE: &str = "blocklist ORIGIN [wildcard_match=true|false] [min_wildcard_depth=LABELS] [sinkhole_ipv4=ADDRESS] [sinkhole_ipv6=ADDRESS] [ttl=SECONDS] [consult_action=disabled|enforce|log] [log_clients=true|false] [block_message=TEXT]";
+const BLOCKLIST_USAGE: &str =
+    "blocklist ORIGIN [wildcard_match=true|false] [min_wildcard_depth=LABELS] [sinkhole_ipv4=ADDRESS] [sinkhole_ipv6=ADDRESS] [ttl=SECONDS] [consult_action=disabled|enforce|log] [log_clients=true|false] [block_message=TEXT]";
 
 /// What a list does when it is consulted, by a word.
 fn consult_action(word: &str) -> Result<BlocklistConsultAction, Fault> {
@@ -120,24 +121,24 @@ fn text_bytes(alloc: Global, text: &str) -> Result<Vec<u8>, Fault> {
 /// Adds a text to the list that stands last in the chain.
 fn block(script: &mut Script, alloc: Global, text: &str) -> Result<(), Fault> {
     let bytes = text_bytes(alloc, text)?;
-    match script.chain.last_mut() {
-        Some(Handler {
-            source: Source::Blocklist(list),
-            ..
-        }) => Ok(list.add(&mut CountedReader::new(bytes.as_slice()))?),
-        _ => Err(Fault::NoBlocklist),
-    }
+    let Some(handler) = script.chain.last_mut() else {
+        return Err(Fault::NoBlocklist);
+    };
+    let Source::Blocklist(list) = &mut handler.source else {
+        return Err(Fault::NoBlocklist);
+    };
+    Ok(list.add(&mut CountedReader::new(bytes.as_slice()))?)
 }
 
 /// The list that stands last in the chain.
 fn open_list(script: &Script) -> Result<&BlocklistZoneHandler, Fault> {
-    match script.chain.last() {
-        Some(Handler {
-            source: Source::Blocklist(list),
-            ..
-        }) => Ok(list),
-        _ => Err(Fault::NoBlocklist),
-    }
+    let Some(handler) = script.chain.last() else {
+        return Err(Fault::NoBlocklist);
+    };
+    let Source::Blocklist(list) = &handler.source else {
+        return Err(Fault::NoBlocklist);
+    };
+    Ok(list)
 }
 
 /// Prints how many names a list has.
