@@ -78,10 +78,10 @@ fn string(alloc: Global, word: &Word<'_>) -> Result<Octets, TextError> {
 /// Character strings to the end of the line, at least one.
 fn strings(alloc: Global, words: &mut Words<'_>) -> Result<RData, TextError> {
     let mut strings = Items::new(alloc);
-    let mut next = Some(words.field()?);
-    'strings: while let Some(word) = next {
+    let first = words.field()?;
+    strings.push(string(alloc, &first)?)?;
+    'strings: while let Some(word) = words.next()? {
         strings.push(string(alloc, &word)?)?;
-        next = words.next()?;
     }
     Ok(RData::TXT(strings))
 }

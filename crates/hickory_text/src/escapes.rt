@@ -1,5 +1,7 @@
 //! Bytes that are spelled in text.
 
+ghost use Rattle.std.specs.Prelude.{◌≤◌, ◌<◌, length, IfOk, IfSome};
+
 use crate::error::{TextError, TextFault};
 use crate::words::Word;
 

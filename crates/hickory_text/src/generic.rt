@@ -8,7 +8,7 @@ use std::alloc::{AllocError, Global};
 
 /// How many bytes a name takes without compression.
 fn name_len(name: &Name) -> usize {
-    name.as_wire().len() + 1
+    name.as_wire().len().saturating_add(1)
 }
 
 /// How many bytes character strings take. A sum past 64 bits is cut there.
@@ -35,16 +35,19 @@ fn data_len(rdata: &RData) -> usize {
         RData::A(_) => 4,
         RData::AAAA(_) => 16,
         RData::NS(name) | RData::CNAME(name) | RData::PTR(name) => name_len(name),
-        RData::MX(exchange) => 2 + name_len(&exchange.exchange),
+        RData::MX(exchange) => name_len(&exchange.exchange).saturating_add(2),
         RData::SOA(soa) => {
             let soa = soa.get();
-            20 + name_len(&soa.mname) + name_len(&soa.rname)
+            name_len(&soa.mname)
+                .saturating_add(name_len(&soa.rname))
+                .saturating_add(20)
         }
         RData::TXT(strings) => strings_len(strings.as_slice()),
         RData::OPT(options) => options_len(options.as_slice()),
         RData::TSIG(signature) => {
             let signature = signature.get();
-            (16 + name_len(&signature.algorithm))
+            name_len(&signature.algorithm)
+                .saturating_add(16)
                 .saturating_add(signature.mac.len())
                 .saturating_add(signature.other.len())
         }

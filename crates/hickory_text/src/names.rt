@@ -1,5 +1,7 @@
 //! Names in text.
 
+ghost use Rattle.std.specs.Prelude.{◌≤◌, length, IfOk};
+
 use crate::error::{TextError, TextFault};
 use crate::escapes::first_byte;
 use crate::words::{Word, Words};

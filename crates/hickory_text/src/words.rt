@@ -1,5 +1,7 @@
 //! The fields of a line.
 
+ghost use Rattle.std.specs.Prelude.{◌≡◌, ◌≤◌, ◌<◌, ◌-◌, length, IfOk, IfSome};
+
 use crate::error::{TextError, TextFault};
 use std::str;
 
@@ -67,20 +69,22 @@ fn is_blank(byte: u8) -> bool {
     matches!(byte, b' ' | b'\t' | b'\r' | b'\n')
 }
 
-/// The length of a field in no quotes: up to a blank or a comment, neither of them behind a backslash.
+/// The length of a field in no quotes, of which the first byte is one: up to a blank or a comment, neither of them behind a backslash.
 fn plain_len(text: &[u8]) -> usize
-    ensures { result ≤ length text.now }
+    requires { 0 < length text.now }
+    ensures some { 0 < result }
+    ensures within { result ≤ length text.now }
 {
     let mut place = 0;
-    while place < text.len() {
-        if text[place] == b'\\' {
-            place += 1;
-        } else if is_blank(text[place]) || text[place] == b';' {
-            break;
+    'bytes: loop {
+        place += if text[place] == b'\\' { 2 } else { 1 };
+        if place >= text.len() {
+            return text.len();
         }
-        place += 1;
+        if is_blank(text[place]) || text[place] == b';' {
+            return place;
+        }
     }
-    place.min(text.len())
 }
 
 /// Where the quote stands that ends a field, one not behind a backslash.
@@ -88,7 +92,7 @@ fn quote_place(text: &[u8]) -> Option<usize>
     ensures { IfSome result (λ place. place < length text.now) }
 {
     let mut place = 0;
-    while place < text.len() {
+    'bytes: while place < text.len() {
         match text[place] {
             b'"' => return Some(place),
             b'\\' => place += 2,
@@ -108,7 +112,10 @@ impl<'a> Words<'a> {
     }
 
     /// Goes on to the next field, or to the end where a comment stands there (RFC 1035 section 5.1).
-    fn skip_blanks(&mut self) {
+    fn skip_blanks(&mut self)
+        ensures text { self.new.text ≡ self.old.text }
+        ensures on { self.old.place ≤ self.new.place }
+    {
         let rest = &self.text[self.place..];
         let blanks = rest.iter().position(|byte| !is_blank(*byte));
         let place = self.place + blanks.unwrap_or(rest.len());
@@ -120,7 +127,9 @@ impl<'a> Words<'a> {
     }
 
     /// The next field, if there is one.
-    pub(crate) fn next(&mut self) -> Result<Option<Word<'a>>, TextError> {
+    pub(crate) fn next(&mut self) -> Result<Option<Word<'a>>, TextError>
+        ensures { IfOk result (λ found. IfSome found (λ _. length self.new.text.now - self.new.place < length self.old.text.now - self.old.place)) }
+    {
         self.skip_blanks();
         let start = self.place;
         let rest = &self.text[start..];

@@ -1,5 +1,9 @@
 //! Types, classes, kinds of requests and response codes as text: mnemonics where there are some, and else numbers.
 
+ghost use Rattle.std.specs.Prelude.{◌≡◌, ◌==◌, find, map, MatchOption, All, Any};
+ghost use Rattle.std.specs.Option.{option_copied, option_map};
+ghost use Rattle.std.specs.Char.{to_ascii_lowercase};
+
 use crate::dns_class::DNSClass;
 use crate::op_code::OpCode;
 use crate::record_type::RecordType;
@@ -99,13 +103,19 @@ fn number_behind(prefix: &[u8], text: &[u8]) -> Option<u16> {
 }
 
 /// The mnemonic of a number.
-fn text_of(mnemonics: &[(u16, &'static str)], number: u16) -> Option<&'static str> {
+fn text_of(mnemonics: &[(u16, &'static str)], number: u16) -> Option<&'static str>
+    ensures { option_copied result ≡ option_map (λ e. e.1.now) (find (λ e. e.0 == number) mnemonics.now) }
+{
     let (_, text) = mnemonics.iter().find(|entry| entry.0 == number)?;
     Some(*text)
 }
 
 /// The number of a mnemonic, the letters of which may have any case.
-fn number_of(mnemonics: &[(u16, &'static str)], text: &str) -> Option<u16> {
+fn number_of(mnemonics: &[(u16, &'static str)], text: &str) -> Option<u16>
+    ensures { MatchOption result
+        (All (λ e. ¬ (map to_ascii_lowercase e.1.now ≡ map to_ascii_lowercase text.now)) mnemonics.now)
+        (λ number. Any (λ e. (e.0 ≡ number) × (map to_ascii_lowercase e.1.now ≡ map to_ascii_lowercase text.now)) mnemonics.now) }
+{
     let (number, _) = mnemonics
         .iter()
         .find(|entry| entry.1.eq_ignore_ascii_case(text))?;

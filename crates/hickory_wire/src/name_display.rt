@@ -1,5 +1,10 @@
 //! Names and strings as text (RFC 1035 section 5.1).
 
+ghost use Rattle.std.specs.Prelude.{◌≡◌, Some};
+ghost use Rattle.std.specs.Fmt.{WritesOnOk};
+ghost use Rattle.std.specs.Str.{IsAscii};
+ghost use Rattle.hickory_wire.specs.TextForm.{is_special, is_plain, byte_text, bytes_text, spelled_name};
+
 use crate::lower_name::LowerName;
 use crate::name::Name;
 use std::{fmt, str};
@@ -15,7 +20,9 @@ pub(crate) struct TextByte {
 
 impl TextByte {
     /// Whether it has a meaning of its own, so that a backslash stands before it.
-    fn is_special(self) -> bool {
+    fn is_special(self) -> bool
+        ensures { result ≡ is_special self.quoted self.byte }
+    {
         match self.byte {
             b'"' | b'\\' => true,
             b'$' | b'(' | b')' | b'.' | b';' | b'@' => !self.quoted,
@@ -24,12 +31,19 @@ impl TextByte {
     }
 
     /// Whether it is printed as it is, behind a backslash or not.
-    fn is_plain(self) -> bool {
-        (0x21..0x7f).contains(&self.byte) || (self.quoted && self.byte == b' ')
+    fn is_plain(self) -> bool
+        ensures { result ≡ is_plain self.quoted self.byte }
+    {
+        match self.byte {
+            b' ' => self.quoted,
+            byte => b' ' < byte && byte < 0x7f,
+        }
     }
 }
 
 impl fmt::Display for TextByte {
+    ghost output = { λ t. Some (byte_text t.quoted t.byte) };
+
     fn fmt<W: fmt::Write>(&self, f: &mut fmt::Formatter<W>) -> fmt::Result {
         let byte = self.byte;
         if self.is_special() {
@@ -48,7 +62,10 @@ impl fmt::Display for TextByte {
     }
 }
 
-fn write_ascii<W: fmt::Write>(f: &mut fmt::Formatter<W>, text: &[u8]) -> fmt::Result {
+/// Writes ASCII text.
+fn write_ascii<W: fmt::Write>(f: &mut fmt::Formatter<W>, text: &[u8]) -> fmt::Result
+    ensures { WritesOnOk W.Write.write_str_gives f.old result text.now f.new }
+{
     f.write_str(str::from_utf8(text).map_err(|_| fmt::Error)?)
 }
 
@@ -60,6 +77,8 @@ pub(crate) struct TextBytes<'a> {
 }
 
 impl fmt::Display for TextBytes<'_> {
+    ghost output = { λ t. Some (bytes_text t.quoted t.bytes.now) };
+
     fn fmt<W: fmt::Write>(&self, f: &mut fmt::Formatter<W>) -> fmt::Result {
         for byte in self.bytes {
             f.write(TextByte {
@@ -77,33 +96,34 @@ impl fmt::Display for TextBytes<'_> {
 /// The letter case is kept. In a label `"`, `$`, `(`, `)`, `.`, `;`, `@` and `\` stand behind a backslash, and each byte that is no
 /// printable ASCII character, or a space, is a backslash and three decimal digits.
 impl fmt::Display for Name {
+    ghost output = { λ name. Some (spelled_name name) };
+
     fn fmt<W: fmt::Write>(&self, f: &mut fmt::Formatter<W>) -> fmt::Result {
-        let mut rest = self.as_wire();
-        if rest.is_empty() {
+        let wire = self.as_wire();
+        if wire.is_empty() {
             return f.write_str(if self.is_fqdn() { "." } else { "@" });
         }
-        'labels: loop {
-            let (label, behind) = rest[1..].split_at(usize::from(rest[0]));
-            f.write(TextBytes {
-                bytes: label,
+        let mut count = 0usize;
+        let mut place = 0;
+        while place < wire.len() {
+            let end = place + 1 + usize::from(wire[place]);
+            let dot = if count == 0 { "" } else { "." };
+            let label = TextBytes {
+                bytes: &wire[place + 1..end],
                 quoted: false,
-            })?;
-            if behind.is_empty() {
-                break 'labels;
-            }
-            f.write_str(".")?;
-            rest = behind;
+            };
+            write!(f, "{dot}{label}")?;
+            count += 1;
+            place = end;
         }
-        if self.is_fqdn() {
-            f.write_str(".")
-        } else {
-            Ok(())
-        }
+        f.write_str(if self.is_fqdn() { "." } else { "" })
     }
 }
 
 /// The same text as of the name that it holds.
 impl fmt::Display for LowerName {
+    ghost output = { λ lower. Some (spelled_name lower) };
+
     fn fmt<W: fmt::Write>(&self, f: &mut fmt::Formatter<W>) -> fmt::Result {
         self.as_name().fmt(f)
     }
