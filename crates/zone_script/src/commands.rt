@@ -32,6 +32,7 @@ fn obey_server(
 ) -> Result<bool, Fault> {
     Ok(
         setting::obey(script, alloc, words)?
+            || sections::obey(script, alloc, words)?
             || zones::obey(script, alloc, words, out)?
             || chains::obey(script, alloc, words, out)?
             || asking::obey(script, alloc, words, out)?

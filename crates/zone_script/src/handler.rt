@@ -267,6 +267,10 @@ impl ZoneHandler for Handler {
         info: Nsec3QueryInfo<'_>,
         options: LookupOptions,
     ) -> LookupControlFlow<AuthLookup> {
+        let info = Nsec3QueryInfo {
+            qtype: info.qtype,
+            ..info
+        };
         match &self.source {
             Source::Zone(zone) => zone.nsec3_records(alloc, info, options),
             Source::Blocklist(list) => list.nsec3_records(alloc, info, options),

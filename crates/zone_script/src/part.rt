@@ -57,8 +57,6 @@ pub(crate) enum Outcome {
     Failed,
     /// That the records could not be read.
     Unreadable,
-    /// That a request has so many questions.
-    Questions(usize),
     /// Want of memory.
     Memory,
 }
@@ -249,7 +247,6 @@ fn fault(outcome: Outcome) -> LookupError {
         Outcome::Code(code) | Outcome::NoRecords(code) => LookupError::ResponseCode(code),
         Outcome::Bogus => LookupError::Net(DnsError::DnssecBogus),
         Outcome::Unreadable => LookupError::Io,
-        Outcome::Questions(count) => LookupError::BadQueryCount(count),
         Outcome::Memory => LookupError::Memory,
         Outcome::Failed | Outcome::Found | Outcome::Resolved(_) | Outcome::Empty => {
             LookupError::Net(DnsError::Other)

@@ -12,23 +12,25 @@ pub(crate) fn print_hex(alloc: Global, out: &mut String, bytes: &[u8]) -> Result
     out.push('\n')
 }
 
-/// Puts the text of a message of so many bytes behind a text.
+/// Puts the text of a message behind a text, and its size where that is given.
 pub(crate) fn print_message(
     out: &mut String,
     message: &Message,
-    size: usize,
+    size: Option<usize>,
 ) -> Result<(), AllocError> {
-    let text = MessageText {
-        message,
-        size: Some(size),
-    };
+    let text = MessageText { message, size };
     write!(out, "{text}")
 }
 
 /// Puts the text of the message that bytes begin with behind a text, or what is wrong with them.
-pub(crate) fn print_text(alloc: Global, out: &mut String, bytes: &[u8]) -> Result<(), AllocError> {
+pub(crate) fn print_text(
+    alloc: Global,
+    out: &mut String,
+    bytes: &[u8],
+    size: Option<usize>,
+) -> Result<(), AllocError> {
     match Message::read(alloc, bytes) {
-        Ok(message) => print_message(out, &message, bytes.len()),
+        Ok(message) => print_message(out, &message, size),
         Err(DecodeError::Memory) => Err(AllocError),
         Err(fault) => writeln!(out, "{fault}"),
     }
@@ -41,13 +43,15 @@ pub(crate) fn print_reply(
     printed: Printed,
     bytes: &[u8],
 ) -> Result<(), AllocError> {
-    if printed != Printed::Hex {
-        print_text(alloc, out, bytes)?;
+    match printed {
+        Printed::Dig => print_text(alloc, out, bytes, Some(bytes.len())),
+        Printed::Text => print_text(alloc, out, bytes, None),
+        Printed::Hex => print_hex(alloc, out, bytes),
+        Printed::Both => {
+            print_text(alloc, out, bytes, Some(bytes.len()))?;
+            print_hex(alloc, out, bytes)
+        }
     }
-    if printed != Printed::Text {
-        print_hex(alloc, out, bytes)?;
-    }
-    Ok(())
 }
 
 /// Puts the lines of some records behind a text.

@@ -34,16 +34,6 @@ pub(crate) struct Question {
 pub(crate) const QUESTION_USAGE: &str =
     "NAME TYPE [CLASS] [rd] [cd] [ad] [do] [edns[=SIZE]] [nsid] [version=N] [id=N] [opcode=N] [qr]";
 
-/// The kind of request of this number.
-fn op_code(number: &str) -> Result<OpCode, Fault> {
-    let number = number.parse::<u8>()?;
-    if number < 16 {
-        Ok(OpCode::new(number))
-    } else {
-        Err(Fault::Number)
-    }
-}
-
 impl Question {
     /// A query of this type: class IN, id 1, no flag, no EDNS.
     pub(crate) fn new(record_type: RecordType) -> Question {
@@ -97,11 +87,22 @@ impl Question {
         true
     }
 
+    /// Sets the kind of request by its number.
+    fn set_op_code(&mut self, number: &str) -> Result<(), Fault> {
+        let number = number.parse::<u8>()?;
+        if number < 16 {
+            self.metadata.op_code = OpCode::new(number);
+            Ok(())
+        } else {
+            Err(Fault::Number)
+        }
+    }
+
     /// Sets what another word says.
     fn set_other(&mut self, key: &str, value: Option<&str>) -> Result<(), Fault> {
         match (key, value) {
             ("id", Some(number)) => self.metadata.id = number.parse::<u16>()?,
-            ("opcode", Some(number)) => self.metadata.op_code = op_code(number)?,
+            ("opcode", Some(number)) => self.set_op_code(number)?,
             ("reply-do", None) => self.replies_dnssec_ok = true,
             (class, None) => self.class = class.parse::<DNSClass>()?,
             _ => return Err(Fault::Usage(QUESTION_USAGE)),
@@ -109,17 +110,16 @@ impl Question {
         Ok(())
     }
 
-    /// The query of this type that further words describe.
-    pub(crate) fn read(record_type: &str, words: &[&str]) -> Result<Question, Fault> {
-        let mut question = Question::new(record_type.parse::<RecordType>()?);
+    /// Sets what the words behind name and type say.
+    pub(crate) fn read(&mut self, words: &[&str]) -> Result<(), Fault> {
         for word in words {
             let (key, value) = setting(word);
-            let is_flag = value.is_none() && question.set_flag(key);
-            if !is_flag && !question.set_wish(key, value)? {
-                question.set_other(key, value)?;
+            let is_flag = value.is_none() && self.set_flag(key);
+            if !is_flag && !self.set_wish(key, value)? {
+                self.set_other(key, value)?;
             }
         }
-        Ok(question)
+        Ok(())
     }
 
     /// The bytes of the question (RFC 1035 section 4.1.2). Its name is given by its labels in wire form.
@@ -164,11 +164,11 @@ fn edns(alloc: Global, wish: Wish) -> Result<Edns, Fault> {
 }
 
 /// The message of one question and an OPT record.
-fn written(
+fn written<'q>(
     alloc: Global,
     metadata: Metadata,
-    question: &[u8],
-    edns: Option<&Edns>,
+    question: &'q [u8],
+    edns: Option<&'q Edns>,
 ) -> Result<Vec<u8>, Fault> {
     let nothing: &[Record] = &[];
     let parts = ReplyParts {

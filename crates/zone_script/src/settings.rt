@@ -6,11 +6,13 @@ use std::net::{IpAddr, Ipv4Addr, SocketAddr};
 /// How replies are printed.
 #[derive(Clone, Copy, PartialEq, Eq)]
 pub(crate) enum Printed {
-    /// As text, as `dig` prints them.
+    /// As `dig` prints them.
+    Dig,
+    /// The same without the size, which does not depend on how names are written.
     Text,
     /// In hex digits.
     Hex,
-    /// As text, and in hex digits below.
+    /// As `dig` prints them, and in hex digits below.
     Both,
 }
 
@@ -28,13 +30,13 @@ pub(crate) struct Settings {
 }
 
 impl Settings {
-    /// Over UDP from 127.0.0.1, port 53, at the moment 0, replies as text.
+    /// Over UDP from 127.0.0.1, port 53, at the moment 0, replies as `dig` prints them.
     pub(crate) fn new() -> Settings {
         Settings {
             protocol: Protocol::Udp,
             source: SocketAddr::new(IpAddr::V4(Ipv4Addr::LOCALHOST), 53),
             now: 0,
-            printed: Printed::Text,
+            printed: Printed::Dig,
         }
     }
 }

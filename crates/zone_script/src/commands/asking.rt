@@ -8,7 +8,7 @@ use crate::script::Script;
 use crate::text::lower_name;
 use crate::words::octets;
 use hickory_base::encoding_sink::EncodingSink;
-use hickory_server::proto::Edns;
+use hickory_server::proto::{Edns, RecordType};
 use hickory_server::server::{Request, RequestHandler};
 use hickory_server::zone_handler::{CatalogError, ZoneHandler};
 use std::alloc::Global;
@@ -133,12 +133,14 @@ pub(crate) fn obey(
     match words {
         ["ask", digits] => ask(script, alloc, octets(alloc, &[digits])?, out)?,
         ["ask", name, record_type, words @ ..] => {
-            let question = Question::read(record_type, words)?;
+            let mut question = Question::new(record_type.parse::<RecordType>()?);
+            question.read(words)?;
             ask(script, alloc, question.bytes(alloc, name)?, out)?;
         }
         ["lookup", digits] => look_up(script, alloc, octets(alloc, &[digits])?, None, out)?,
         ["lookup", name, record_type, words @ ..] => {
-            let question = Question::read(record_type, words)?;
+            let mut question = Question::new(record_type.parse::<RecordType>()?);
+            question.read(words)?;
             look_up_question(script, alloc, name, &question, out)?;
         }
         ["ask" | "lookup"] => return Err(Fault::Usage(QUESTION_USAGE)),

@@ -202,6 +202,19 @@ fn transfer(
     Ok(print_context(out, &context)?)
 }
 
+/// The message that a call of `search` is about, by its words: hex digits, or a query.
+fn searched(alloc: Global, words: &[&str]) -> Result<Vec<u8>, Fault> {
+    match words {
+        [digits] => octets(alloc, &[digits]),
+        [name, record_type, words @ ..] => {
+            let mut question = Question::new(record_type.parse::<RecordType>()?);
+            question.read(words)?;
+            question.bytes(alloc, name)
+        }
+        [] => Err(Fault::Usage(CALL_USAGE)),
+    }
+}
+
 /// Makes a call that is about a request.
 fn call_with_request(
     script: &Script,
@@ -210,19 +223,17 @@ fn call_with_request(
     words: &[&str],
     out: &mut String,
 ) -> Result<bool, Fault> {
-    let bytes = match words {
-        ["search", digits] => octets(alloc, &[digits])?,
-        ["search", name, record_type, words @ ..] => {
-            Question::read(record_type, words)?.bytes(alloc, name)?
+    match words {
+        ["search", words @ ..] => {
+            let request = received(script, alloc, searched(alloc, words)?)?;
+            search(handler, alloc, &request, out)?;
         }
-        ["transfer", name] => Question::new(RecordType::AXFR).bytes(alloc, name)?,
+        ["transfer", name] => {
+            let bytes = Question::new(RecordType::AXFR).bytes(alloc, name)?;
+            let request = received(script, alloc, bytes)?;
+            transfer(handler, alloc, &request, script.settings.now, out)?;
+        }
         _ => return Ok(false),
-    };
-    let request = received(script, alloc, bytes)?;
-    if words.len() == 2 && words[0] == "transfer" {
-        transfer(handler, alloc, &request, script.settings.now, out)?;
-    } else {
-        search(handler, alloc, &request, out)?;
     }
     Ok(true)
 }

@@ -8,7 +8,7 @@ use crate::script::{Place, Script};
 use crate::sections::Section;
 use crate::text::lower_name;
 use crate::words::setting;
-use hickory_server::proto::{LowerName, Octets, Proof, Record, ResponseCode};
+use hickory_server::proto::{CodeTextError, LowerName, Octets, Proof, Record, ResponseCode};
 use hickory_server::zone_handler::{AxfrPolicy, NxProofKind, ZoneType};
 use std::alloc::Global;
 use std::fmt::Write;
@@ -103,7 +103,7 @@ fn begin(script: &mut Script, alloc: Global, origin: &str, words: &[&str]) -> Re
 }
 
 const ANSWER_USAGE: &str =
-    "on search|consult|lookup|denial|transfer skip|continue|break|add [CODE|resolved [PROOF]|empty|no-records CODE|bogus|failed|unreadable|questions N|memory]";
+    "on search|consult|lookup|denial|transfer skip|continue|break|add [CODE|resolved [secure|insecure|bogus]|empty|no-records CODE|bogus|failed|unreadable|memory]";
 
 /// The call of a word.
 fn call(word: &str) -> Result<Call, Fault> {
@@ -128,33 +128,22 @@ fn flow(word: &str) -> Result<Flow, Fault> {
     }
 }
 
-/// The proof of a word.
-fn proof(word: &str) -> Result<Proof, Fault> {
-    match word {
-        "secure" => Ok(Proof::Secure),
-        "insecure" => Ok(Proof::Insecure),
-        "bogus" => Ok(Proof::Bogus),
-        "indeterminate" => Ok(Proof::Indeterminate),
-        _ => Err(Fault::Usage(ANSWER_USAGE)),
-    }
-}
-
-/// What an answer is, by the words behind its flow.
-fn outcome(words: &[&str]) -> Result<Outcome, Fault> {
-    match words {
-        [] => Ok(Outcome::Found),
-        ["resolved"] => Ok(Outcome::Resolved(Proof::Indeterminate)),
-        ["resolved", word] => Ok(Outcome::Resolved(proof(word)?)),
-        ["empty"] => Ok(Outcome::Empty),
-        ["no-records", code] => Ok(Outcome::NoRecords(code.parse::<ResponseCode>()?)),
-        ["bogus"] => Ok(Outcome::Bogus),
-        ["failed"] => Ok(Outcome::Failed),
-        ["unreadable"] => Ok(Outcome::Unreadable),
-        ["questions", count] => Ok(Outcome::Questions(count.parse::<usize>()?)),
-        ["memory"] => Ok(Outcome::Memory),
-        [code] => Ok(Outcome::Code(code.parse::<ResponseCode>()?)),
-        _ => Err(Fault::Usage(ANSWER_USAGE)),
-    }
+/// What an answer is, by the words behind its flow. The last form is a response code.
+fn outcome(words: &[&str]) -> Result<Outcome, CodeTextError> {
+    Ok(match words {
+        [] => Outcome::Found,
+        ["resolved"] => Outcome::Resolved(Proof::Indeterminate),
+        ["resolved", "secure"] => Outcome::Resolved(Proof::Secure),
+        ["resolved", "insecure"] => Outcome::Resolved(Proof::Insecure),
+        ["resolved", "bogus"] => Outcome::Resolved(Proof::Bogus),
+        ["empty"] => Outcome::Empty,
+        ["no-records", code] => Outcome::NoRecords(code.parse::<ResponseCode>()?),
+        ["bogus"] => Outcome::Bogus,
+        ["failed"] => Outcome::Failed,
+        ["unreadable"] => Outcome::Unreadable,
+        ["memory"] => Outcome::Memory,
+        [code, ..] => Outcome::Code(code.parse::<ResponseCode>()?),
+    })
 }
 
 /// The part last begun.

@@ -24,7 +24,8 @@ fn transport(word: &str) -> Option<Protocol> {
 /// How replies are printed, by a word.
 fn printed(word: &str) -> Option<Printed> {
     match word {
-        "dig" => Some(Printed::Text),
+        "dig" => Some(Printed::Dig),
+        "text" => Some(Printed::Text),
         "hex" => Some(Printed::Hex),
         "both" => Some(Printed::Both),
         _ => None,
