@@ -32,7 +32,7 @@ fn obey_server(
 ) -> Result<bool, Fault> {
     Ok(
         setting::obey(script, alloc, words)?
-            || sections::obey(script, alloc, words)?
+            || sections::obey(script, words)?
             || zones::obey(script, alloc, words, out)?
             || chains::obey(script, alloc, words, out)?
             || asking::obey(script, alloc, words, out)?
@@ -55,7 +55,6 @@ fn obey_values(
             || messages::obey(alloc, words, out)?
             || records::obey(alloc, words, line, out)?
             || requests::obey(script, alloc, words, out)?
-            || sections::obey(script, words)?
             || encoding::obey(script, alloc, words, line, out)?
             || values::obey(script, alloc, words, out)?,
     )

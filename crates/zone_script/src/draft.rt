@@ -1,22 +1,17 @@
 //! The reply that is to be encoded, and how headers and bytes are told.
 
-use crate::fault::Fault;
-use crate::sections::Sections;
 use hickory_server::proto::{
-    BinDecoder, BinEncoder, Boxed, DNSClass, Edns, Header, HeaderCounts, MessageType, Metadata,
-    Name, OpCode, ProtoError, Protocol, Record, RecordType, ReplyParts, TSIG,
-    encode_message_parts,
+    Boxed, Edns, HeaderCounts, MessageType, Metadata, OpCode, Record, TSIG,
 };
-use hickory_server::server::ResponseInfo;
-use hickory_server::zone_handler::{MessageResponseBuilder, Queries};
 use std::alloc::{AllocError, Global};
+use std::fmt::Write;
 
 /// The reply that is to be encoded, but for the records of its sections.
 #[derive(Drop)]
 pub(crate) struct Draft {
     /// The header but for the counts.
     pub(crate) metadata: Metadata,
-    /// Twelve bytes in place of a header, and the questions.
+    /// The questions, one behind the other.
     pub(crate) questions: Vec<u8>,
     /// How many questions these bytes hold.
     pub(crate) question_count: u16,
@@ -47,7 +42,11 @@ fn put_flags(metadata: &Metadata, out: &mut String) -> Result<(), AllocError> {
 
 /// Puts a header without its counts behind a text.
 pub(crate) fn put_metadata(metadata: &Metadata, out: &mut String) -> Result<(), AllocError> {
-    write!(out, "opcode {}, status {}", metadata.op_code, metadata.response_code)?;
+    write!(
+        out,
+        "opcode {}, status {}",
+        metadata.op_code, metadata.response_code
+    )?;
     write!(out, ", id {}, flags", metadata.id)?;
     put_flags(metadata, out)?;
     out.push('\n')
@@ -60,8 +59,16 @@ pub(crate) fn put_header(
     out: &mut String,
 ) -> Result<(), AllocError> {
     put_metadata(metadata, out)?;
-    write!(out, "queries {}, answers {}", counts.queries, counts.answers)?;
-    writeln!(out, ", authorities {}, additionals {}", counts.authorities, counts.additionals)
+    write!(
+        out,
+        "queries {}, answers {}",
+        counts.queries, counts.answers
+    )?;
+    writeln!(
+        out,
+        ", authorities {}, additionals {}",
+        counts.authorities, counts.additionals
+    )
 }
 
 /// Puts bytes behind a text: how many, and in hex digits.

@@ -3,7 +3,7 @@
 use crate::fault::Fault;
 use hickory_server::proto::{BinDecoder, DecodeError, Name, ProtoError, Query, Record};
 use std::alloc::Global;
-use std::fmt;
+use std::fmt::{self, Write};
 
 /// Where the parts of a message end.
 #[derive(Clone, Copy)]
@@ -17,8 +17,16 @@ pub(crate) struct Ends {
 
 impl fmt::Display for Ends {
     fn fmt<W: fmt::Write>(&self, f: &mut fmt::Formatter<W>) -> fmt::Result {
-        write!(f, "header ends at {}, questions at {}", self.header, self.questions)?;
-        write!(f, ", answers at {}, authorities at {}", self.answers, self.authorities)?;
+        write!(
+            f,
+            "header ends at {}, questions at {}",
+            self.header, self.questions
+        )?;
+        write!(
+            f,
+            ", answers at {}, authorities at {}",
+            self.answers, self.authorities
+        )?;
         write!(f, ", additionals at {}", self.additionals)
     }
 }

@@ -79,11 +79,7 @@ fn emit_reply(
 }
 
 /// Encodes a reply of these questions for a transport.
-fn encode_reply(
-    alloc: Global,
-    script: &Script,
-    queries: &Queries,
-) -> Result<Written, ProtoError> {
+fn encode_reply(alloc: Global, script: &Script, queries: &Queries) -> Result<Written, ProtoError> {
     let draft = &script.draft;
     let records = &script.reply;
     let builder = MessageResponseBuilder::new(queries, draft.edns.as_ref());

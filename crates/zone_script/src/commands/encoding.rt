@@ -12,8 +12,10 @@ use hickory_server::proto::{
     RecordType, ResponseCode, TSIG,
 };
 use std::alloc::{AllocError, Global};
+use std::fmt::Write;
 
-const REPLY_USAGE: &str = "reply [id=N] [opcode=OPCODE] [status=CODE] [query] [aa] [tc] [rd] [ra] [ad] [cd]";
+const REPLY_USAGE: &str =
+    "reply [id=N] [opcode=OPCODE] [status=CODE] [query] [aa] [tc] [rd] [ra] [ad] [cd]";
 
 /// Sets a field of a header, and tells whether the key names one.
 fn set_field(metadata: &mut Metadata, key: &str, value: &str) -> Result<bool, Fault> {
@@ -83,8 +85,12 @@ fn put_question(
     let count = draft.question_count.checked_add(1).ok_or(Fault::Number)?;
     draft.questions.extend_from_slice(name.as_wire())?;
     draft.questions.push(0)?;
-    draft.questions.extend_from_slice(&record_type.value().to_be_bytes())?;
-    draft.questions.extend_from_slice(&dns_class.value().to_be_bytes())?;
+    draft
+        .questions
+        .extend_from_slice(&record_type.value().to_be_bytes())?;
+    draft
+        .questions
+        .extend_from_slice(&dns_class.value().to_be_bytes())?;
     draft.question_count = count;
     Ok(())
 }
@@ -163,7 +169,12 @@ fn put_options(edns: &Edns, out: &mut String) -> Result<(), AllocError> {
 /// Puts what EDNS says behind a text.
 fn put_edns(edns: &Edns, out: &mut String) -> Result<(), AllocError> {
     let flags = if edns.dnssec_ok() { "do" } else { "no flag" };
-    write!(out, "payload {}, version {}", edns.max_payload(), edns.version())?;
+    write!(
+        out,
+        "payload {}, version {}",
+        edns.max_payload(),
+        edns.version()
+    )?;
     writeln!(out, ", high bits {}, {flags}", edns.rcode_high())?;
     put_options(edns, out)
 }
@@ -193,7 +204,11 @@ fn set_edns(
 /// Tells of the first option of a number in the reply's EDNS.
 fn find_option(script: &Script, code: &str, out: &mut String) -> Result<(), Fault> {
     let code = code.parse::<u16>()?;
-    let found = script.draft.edns.as_ref().and_then(|edns| edns.option(code));
+    let found = script
+        .draft
+        .edns
+        .as_ref()
+        .and_then(|edns| edns.option(code));
     match found {
         None => writeln!(out, "no option {code}")?,
         Some(option) => writeln!(out, "option {}: {}", option.code, &option.bytes)?,
@@ -294,12 +309,7 @@ fn encode_within(
 }
 
 /// Tells what the reply is written as within a limit, or why it cannot be.
-fn emit_within(
-    script: &Script,
-    alloc: Global,
-    limit: &str,
-    out: &mut String,
-) -> Result<(), Fault> {
+fn emit_within(script: &Script, alloc: Global, limit: &str, out: &mut String) -> Result<(), Fault> {
     let limit = limit.parse::<u16>()?;
     put_written(alloc, emitted(alloc, script, limit), out)
 }

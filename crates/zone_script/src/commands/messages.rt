@@ -7,11 +7,12 @@ use crate::reading::{put_fault, read_name, read_parts, read_question};
 use crate::words::octets;
 use hickory_server::proto::{DecodeError, Message, Record};
 use std::alloc::{AllocError, Global};
+use std::fmt::Write;
 
 /// Tells of the message that bytes begin with, as `dig` prints one.
 fn tell_message(alloc: Global, bytes: &[u8], out: &mut String) -> Result<(), Fault> {
     match Message::read(alloc, bytes) {
-        Ok(message) => Ok(print_message(out, &message, bytes.len())?),
+        Ok(message) => Ok(print_message(out, &message, Some(bytes.len()))?),
         Err(e) => put_fault(e, out),
     }
 }
@@ -118,11 +119,13 @@ fn questions_have_equal_copies(message: &Message) -> Result<bool, AllocError> {
 
 /// Whether all that a message is made of is equal to its copy.
 fn has_equal_copies(message: &Message) -> Result<bool, AllocError> {
-    Ok(questions_have_equal_copies(message)?
-        && have_equal_copies(message.answers.as_slice())?
-        && have_equal_copies(message.authorities.as_slice())?
-        && have_equal_copies(message.additionals.as_slice())?
-        && extras_have_equal_copies(message)?)
+    Ok(
+        questions_have_equal_copies(message)?
+            && have_equal_copies(message.answers.as_slice())?
+            && have_equal_copies(message.authorities.as_slice())?
+            && have_equal_copies(message.additionals.as_slice())?
+            && extras_have_equal_copies(message)?,
+    )
 }
 
 /// How many pairs of a list of records are equal.
@@ -141,7 +144,11 @@ fn count_equal_pairs(records: &[Record]) -> usize {
 fn tell_copies(alloc: Global, bytes: &[u8], out: &mut String) -> Result<(), Fault> {
     match Message::read(alloc, bytes) {
         Ok(message) => {
-            let copies = if has_equal_copies(&message)? { "equal" } else { "not equal" };
+            let copies = if has_equal_copies(&message)? {
+                "equal"
+            } else {
+                "not equal"
+            };
             let pairs = count_equal_pairs(message.answers.as_slice());
             Ok(writeln!(out, "copies are {copies}, equal pairs of answers {pairs}")?)
         }
@@ -166,11 +173,7 @@ fn decode(alloc: Global, words: &[&str], out: &mut String) -> Result<(), Fault> 
 }
 
 /// Obeys a command on messages, and tells whether it is one.
-pub(crate) fn obey(
-    alloc: Global,
-    words: &[&str],
-    out: &mut String,
-) -> Result<bool, Fault> {
+pub(crate) fn obey(alloc: Global, words: &[&str], out: &mut String) -> Result<bool, Fault> {
     match words {
         ["decode", words @ ..] => decode(alloc, words, out)?,
         _ => return Ok(false),

@@ -6,6 +6,7 @@ use crate::words::behind_word;
 use hickory_server::proto::{LowerName, Name, NameError};
 use std::alloc::{AllocError, Global};
 use std::cmp::Ordering;
+use std::fmt::Write;
 use std::hash::{DefaultHasher, Hash, Hasher};
 
 /// The most labels that a name has (RFC 1035 section 2.3.4).
@@ -33,7 +34,11 @@ fn put_wire(alloc: Global, name: &Name, out: &mut String) -> Result<(), AllocErr
 fn put_name(alloc: Global, name: &Name, out: &mut String) -> Result<(), Fault> {
     let lower = LowerName::new(alloc, name)?;
     let labels = name.num_labels();
-    write!(out, "{name} {}, labels {labels}, lower case {lower}", kind(name))?;
+    write!(
+        out,
+        "{name} {}, labels {labels}, lower case {lower}",
+        kind(name)
+    )?;
     put_wire(alloc, name, out)?;
     Ok(())
 }

@@ -8,6 +8,7 @@ use hickory_server::proto::{
     BinEncoder, MessageType, Metadata, OpCode, ProtoError, Record, ReplyParts, emit_message_parts,
 };
 use std::alloc::{AllocError, Global};
+use std::fmt::Write;
 use std::iter;
 
 /// What parts the records of a line from each other.
@@ -107,7 +108,11 @@ fn compare(alloc: Global, line: &str, out: &mut String) -> Result<(), Fault> {
     let Some((first, second)) = line.split_once(AND) else {
         return Err(Fault::Usage("same RECORD and RECORD"));
     };
-    let told = if are_equal(alloc, first, second)? { "equal\n" } else { "different\n" };
+    let told = if are_equal(alloc, first, second)? {
+        "equal\n"
+    } else {
+        "different\n"
+    };
     Ok(out.push_str(told)?)
 }
 

@@ -14,6 +14,7 @@ use hickory_server::zone_handler::{
     MessageRequest, MessageResponseBuilder, Queries, UpdateRequest,
 };
 use std::alloc::{AllocError, Global};
+use std::fmt::Write;
 
 /// The request of these words, over the script's transport and from its source.
 fn request(script: &Script, alloc: Global, digits: &[&str]) -> Result<Request, Fault> {
@@ -45,12 +46,26 @@ fn put_rest(message: &MessageRequest, out: &mut String) -> Result<(), AllocError
     let answers = message.answers.len();
     let authorities = message.authorities.len();
     let additionals = message.additionals.len();
-    writeln!(out, "answers {answers}, authorities {authorities}, additionals {additionals}")?;
-    let edns = if message.edns.is_some() { "EDNS" } else { "no EDNS" };
-    let signature = if message.signature.is_some() { "a signature" } else { "no signature" };
+    writeln!(
+        out,
+        "answers {answers}, authorities {authorities}, additionals {additionals}"
+    )?;
+    let edns = if message.edns.is_some() {
+        "EDNS"
+    } else {
+        "no EDNS"
+    };
+    let signature = if message.signature.is_some() {
+        "a signature"
+    } else {
+        "no signature"
+    };
     let payload = message.max_payload();
     let version = message.version();
-    writeln!(out, "{edns}, version {version}, payload {payload}, {signature}")
+    writeln!(
+        out,
+        "{edns}, version {version}, payload {payload}, {signature}"
+    )
 }
 
 /// Puts what a handler may know of a request behind a text, from a copy of it.
@@ -170,8 +185,16 @@ fn compare(
     let first = request(script, alloc, &[first])?;
     let second = request(script, alloc, &[second])?;
     let (first, second) = (first.message(), second.message());
-    let questions = if first.queries == second.queries { "equal" } else { "different" };
-    let messages = if first == second { "equal" } else { "different" };
+    let questions = if first.queries == second.queries {
+        "equal"
+    } else {
+        "different"
+    };
+    let messages = if first == second {
+        "equal"
+    } else {
+        "different"
+    };
     writeln!(out, "questions {questions}, messages {messages}")?;
     Ok(())
 }
@@ -219,12 +242,7 @@ fn rebuilt(alloc: Global, bytes: &[u8]) -> Result<MessageRequest, DecodeError> {
 }
 
 /// Tells of the request that is made of a message without answers and authorities.
-fn rebuild(
-    script: &Script,
-    alloc: Global,
-    digits: &[&str],
-    out: &mut String,
-) -> Result<(), Fault> {
+fn rebuild(script: &Script, alloc: Global, digits: &[&str], out: &mut String) -> Result<(), Fault> {
     let bytes = octets(alloc, digits)?;
     let message = rebuilt(alloc, bytes.as_slice())?;
     let settings = script.settings;
@@ -236,12 +254,7 @@ fn rebuild(
 }
 
 /// Tells of the reply without records to a request, over the script's transport.
-fn respond(
-    script: &Script,
-    alloc: Global,
-    digits: &[&str],
-    out: &mut String,
-) -> Result<(), Fault> {
+fn respond(script: &Script, alloc: Global, digits: &[&str], out: &mut String) -> Result<(), Fault> {
     let request = request(script, alloc, digits)?;
     let metadata = Metadata::response_from_request(request.metadata());
     let builder = MessageResponseBuilder::from_message_request(request.message());

@@ -10,6 +10,7 @@ use hickory_server::proto::{
 };
 use hickory_server::zone_handler::{DnsError, LookupError};
 use std::alloc::{AllocError, Global};
+use std::fmt::Write;
 
 /// Tells of a type.
 fn tell_type(word: &str, out: &mut String) -> Result<(), Fault> {
@@ -87,7 +88,11 @@ fn join_status(high: &str, low: &str, out: &mut String) -> Result<(), Fault> {
 /// Tells of the identifier of these bytes (RFC 5001).
 fn tell_identifier(bytes: Vec<u8>, out: &mut String) -> Result<(), Fault> {
     match NSIDPayload::new(bytes) {
-        Ok(identifier) => Ok(writeln!(out, "an identifier of {} bytes", identifier.as_slice().len())?),
+        Ok(identifier) => Ok(writeln!(
+            out,
+            "an identifier of {} bytes",
+            identifier.as_slice().len()
+        )?),
         Err(e) => put_proto_fault(e, out),
     }
 }
@@ -150,7 +155,10 @@ fn yes_or_no(is_so: bool) -> &'static str {
 fn put_failure(failure: LookupError, out: &mut String) -> Result<(), AllocError> {
     let no_name = yes_or_no(failure.is_nx_domain());
     let no_records = yes_or_no(failure.is_no_records_found());
-    writeln!(out, "the name does not exist: {no_name}, no records: {no_records}")?;
+    writeln!(
+        out,
+        "the name does not exist: {no_name}, no records: {no_records}"
+    )?;
     if let Some(authorities) = failure.authorities() {
         for record in authorities {
             writeln!(out, "  authority {record}")?;
