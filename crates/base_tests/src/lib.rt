@@ -1,18 +1,12 @@
-//! Tests of errors, access lists, requests, replies, sinks and zones.
+//! Tests of access lists, replies, sinks and zones.
 #![tactic(auto)]
 
 #[cfg(test)]
 mod access;
 #[cfg(test)]
-mod errors;
-#[cfg(test)]
 mod fixtures;
 #[cfg(test)]
-mod reading;
-#[cfg(test)]
 mod replies;
-#[cfg(test)]
-mod requests;
 #[cfg(test)]
 mod sinks;
 #[cfg(test)]
