@@ -1,8 +1,6 @@
-//! Tests of access lists, replies, sinks and zones.
+//! Tests of replies, sinks and zones.
 #![tactic(auto)]
 
-#[cfg(test)]
-mod access;
 #[cfg(test)]
 mod fixtures;
 #[cfg(test)]

@@ -7,8 +7,6 @@ mod encoded_replies;
 mod input;
 mod run;
 mod signer;
-#[cfg(test)]
-mod tests;
 mod zone;
 
 use crate::command::{Refusal, print};
