@@ -1,6 +1,5 @@
-use Rattle.std.proofs.Common.{◌≡◌, ◌<◌, ◌*◌, ◌-◌, ◌^◌, ℕ, ap, ◌∙◌, subst, sym}
-use Rattle.hickory_base.specs.declared.access.Address.{Address}
-use Rattle.hickory_base.specs.Access.{Network, width, network_of, first_address}
+use Rattle.std.proofs.Common.{◌<◌, ◌-◌, ◌^◌, ℕ, ap, ◌∙◌, subst, sym}
+use Rattle.hickory_base.specs.Access.{width, network_of, first_address}
 use Rattle.hickory_base.proofs.NetworkText.{prefix_fits, shifted, lies}
 use Rattle.hickory_base.proofs.access.IpNet.address.Goals as goal
 
