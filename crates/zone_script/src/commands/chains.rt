@@ -173,11 +173,12 @@ fn begin_answer(script: &mut Script, alloc: Global, words: &[&str]) -> Result<()
     Ok(())
 }
 
-/// Puts a record into a section of the answer last begun, of the part last begun.
-pub(crate) fn put(script: &mut Script, section: Section, record: Record) -> Result<(), Fault> {
-    match last_part(script)?.answers.last_mut() {
+/// Puts a copy of a record into a section of the answer last begun, of the part last begun.
+pub(crate) fn put(script: &mut Script, section: Section, record: &Record) -> Result<(), Fault> {
+    let part = last_part(script)?;
+    match part.answers.last_mut() {
         None => Err(Fault::NoSection),
-        Some(answer) => Ok(answer.records.push(section, record)?),
+        Some(answer) => Ok(answer.records.push(section, record.clone()?)?),
     }
 }
 

@@ -94,7 +94,7 @@ fn begin(script: &mut Script, alloc: Global, origin: &str, words: &[&str]) -> Re
 }
 
 /// Puts a record into the open zone.
-pub(crate) fn put(script: &mut Script, alloc: Global, record: Record) -> Result<(), Fault> {
+pub(crate) fn put(script: &mut Script, alloc: Global, record: &Record) -> Result<(), Fault> {
     match &mut script.zone {
         None => Err(Fault::NoZone),
         Some(zone) => zone.put(alloc, record),
@@ -110,7 +110,7 @@ fn zone_of(alloc: Global, origin: LowerName, records: &[Record]) -> Result<OpenZ
     };
     let mut zone = OpenZone::new(alloc, origin, ZoneType::Primary, AxfrPolicy::Deny);
     for record in records {
-        zone.put(alloc, record.clone()?)?;
+        zone.put(alloc, record)?;
     }
     Ok(zone)
 }
@@ -225,7 +225,8 @@ fn print_accepted(
     record_type: &str,
     out: &mut String,
 ) -> Result<(), Fault> {
-    let key = RrKey::new(lower_name(alloc, name)?, record_type.parse::<RecordType>()?);
+    let record_type = record_type.parse::<RecordType>()?;
+    let key = RrKey::new(lower_name(alloc, name)?, record_type);
     let (is_set, is_zone) = accepted(alloc, &key, &script.reply.answers)?;
     let set = if is_set { "a set" } else { "no set" };
     let zone = if is_zone { "a zone" } else { "no zone" };
