@@ -83,14 +83,23 @@ pub(crate) fn close(script: &mut Script, alloc: Global) -> Result<(), Fault> {
     Ok(())
 }
 
+/// Goes on with another zone, to which the records that follow belong.
+fn open(script: &mut Script, alloc: Global, zone: OpenZone) -> Result<(), Fault> {
+    close(script, alloc)?;
+    script.zone = Some(zone);
+    script.place = Place::Zone;
+    Ok(())
+}
+
 /// Begins a zone.
 fn begin(script: &mut Script, alloc: Global, origin: &str, words: &[&str]) -> Result<(), Fault> {
     let (zone_type, policy) = zone_words(words)?;
     let origin = lower_name(alloc, origin)?;
-    close(script, alloc)?;
-    script.zone = Some(OpenZone::new(alloc, origin, zone_type, policy));
-    script.place = Place::Zone;
-    Ok(())
+    open(
+        script,
+        alloc,
+        OpenZone::new(alloc, origin, zone_type, policy),
+    )
 }
 
 /// Puts a record into the open zone.
@@ -115,19 +124,16 @@ fn zone_of(alloc: Global, origin: LowerName, records: &[Record]) -> Result<OpenZ
     Ok(zone)
 }
 
-/// Begins a zone whose records are the answers of a message.
-fn load(script: &mut Script, alloc: Global, origin: &str, digits: &[&str]) -> Result<(), Fault> {
+/// The zone whose records are the answers of a message.
+fn zone_of_message(alloc: Global, origin: LowerName, bytes: &[u8]) -> Result<OpenZone, Fault> {
+    let message = Message::read(alloc, bytes)?;
+    zone_of(alloc, origin, message.answers.as_slice())
+}
+
+/// The zone whose records are the answers of a message in hex digits.
+fn loaded(alloc: Global, origin: &str, digits: &[&str]) -> Result<OpenZone, Fault> {
     let bytes = octets(alloc, digits)?;
-    let message = Message::read(alloc, &bytes)?;
-    let zone = zone_of(
-        alloc,
-        lower_name(alloc, origin)?,
-        message.answers.as_slice(),
-    )?;
-    close(script, alloc)?;
-    script.zone = Some(zone);
-    script.place = Place::Zone;
-    Ok(())
+    zone_of_message(alloc, lower_name(alloc, origin)?, &bytes)
 }
 
 /// The zone in memory that a handler is.
@@ -243,7 +249,10 @@ pub(crate) fn obey(
     match words {
         ["zone", origin, words @ ..] => begin(script, alloc, origin, words)?,
         ["zone"] => return Err(Fault::Usage(ZONE_USAGE)),
-        ["load", origin, digits @ ..] => load(script, alloc, origin, digits)?,
+        ["load", origin, digits @ ..] => {
+            let zone = loaded(alloc, origin, digits)?;
+            open(script, alloc, zone)?;
+        }
         ["accepts", name, kind] => print_accepted(script, alloc, name, kind, out)?,
         ["show", apex] => print_zones(out, chain_of(script, alloc, apex)?)?,
         [what @ ("show" | "serial" | "message")] => tell(script, alloc, what, out)?,
