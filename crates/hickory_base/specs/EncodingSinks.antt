@@ -1,9 +1,15 @@
--- The entries of a sink that keeps replies as the bytes that are sent over one transport.
+-- A sink that keeps replies as the bytes that are sent over one transport.
 use Rattle.std.specs.Prelude.{ℕ, List}
 use Rattle.hickory_wire.specs.Reply.{Reply, size_limit}
 use Rattle.hickory_wire.specs.ReplyParts.{ReplyEncoded}
 use Rattle.hickory_wire.specs.declared.header.Header.{Header}
 use Rattle.hickory_wire.specs.declared.protocol.Protocol.{Protocol}
+
+-- what the sink has: its transport, the bytes of each reply in the order in which they came, and how often it failed
+pub record EncodedReplies : Type 0 where
+  pub protocol : Protocol
+  pub replies : List (List ℕ)
+  pub failures : ℕ
 
 -- The bytes are an encoding of the reply at the transport's limit.
 abbrev pub IsEncodingOf : Protocol → Reply → List ℕ → Type 0
