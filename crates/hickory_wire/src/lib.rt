@@ -4,6 +4,7 @@
 mod additionals;
 mod boxed;
 mod compare;
+pub mod comparison_laws;
 mod data_encoder;
 mod decoder;
 mod dns_class;
@@ -28,6 +29,7 @@ mod name;
 pub mod name_laws;
 mod name_reader;
 mod name_text;
+pub mod named_numbers;
 mod octets;
 mod op_code;
 mod protocol;
