@@ -1,0 +1,16 @@
+//! Messages and records in bytes.
+
+use crate::fault::Fault;
+use crate::script::Script;
+use std::alloc::Global;
+
+/// Obeys a command on messages, and tells whether it is one.
+pub(crate) fn obey(
+    _script: &mut Script,
+    _alloc: Global,
+    _words: &[&str],
+    _line: &str,
+    _out: &mut String,
+) -> Result<bool, Fault> {
+    Ok(false)
+}
