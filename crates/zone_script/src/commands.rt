@@ -11,6 +11,8 @@ pub(crate) mod lists;
 pub(crate) mod messages;
 pub(crate) mod names;
 pub(crate) mod networks;
+pub(crate) mod records;
+pub(crate) mod requests;
 pub(crate) mod sections;
 pub(crate) mod setting;
 pub(crate) mod values;
@@ -30,7 +32,7 @@ fn obey_server(
 ) -> Result<bool, Fault> {
     Ok(
         setting::obey(script, alloc, words)?
-            || sections::obey(script, alloc, words)?
+            || sections::obey(script, words)?
             || zones::obey(script, alloc, words, out)?
             || chains::obey(script, alloc, words, out)?
             || asking::obey(script, alloc, words, out)?
@@ -50,9 +52,11 @@ fn obey_values(
 ) -> Result<bool, Fault> {
     Ok(
         names::obey(alloc, words, line, out)?
-            || messages::obey(script, alloc, words, line, out)?
-            || encoding::obey(script, alloc, words, out)?
-            || values::obey(script, alloc, words, line, out)?,
+            || messages::obey(alloc, words, out)?
+            || records::obey(alloc, words, line, out)?
+            || requests::obey(script, alloc, words, out)?
+            || encoding::obey(script, alloc, words, line, out)?
+            || values::obey(script, alloc, words, out)?,
     )
 }
 

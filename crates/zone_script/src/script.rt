@@ -2,6 +2,7 @@
 
 use crate::calls::CallLog;
 use crate::commands;
+use crate::draft::Draft;
 use crate::fault::Fault;
 use crate::handler::Handler;
 use crate::open_zone::OpenZone;
@@ -46,6 +47,8 @@ pub(crate) struct Script {
     pub(crate) place: Place,
     /// The records of the reply that is to be encoded.
     pub(crate) reply: Sections,
+    /// The rest of it.
+    pub(crate) draft: Draft,
     pub(crate) access: AccessControl,
     line_number: u64,
     is_obeyed: bool,
@@ -74,6 +77,7 @@ impl Script {
             log: CallLog::new(alloc)?,
             place: Place::Nothing,
             reply: Sections::new(alloc),
+            draft: Draft::new(alloc),
             access: AccessControl::new(alloc),
             line_number: 0,
             is_obeyed: true,

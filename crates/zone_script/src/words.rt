@@ -23,3 +23,11 @@ pub(crate) fn setting<'w>(word: &'w str) -> (&'w str, Option<&'w str>) {
         None => (word, None),
     }
 }
+
+/// What stands behind the first word of a line and the blanks behind it.
+pub(crate) fn behind_word(line: &str) -> &str {
+    match line.split_once(|c: char| c.is_whitespace()) {
+        Some((_, rest)) => rest.trim_start(),
+        None => "",
+    }
+}

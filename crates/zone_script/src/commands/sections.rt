@@ -2,8 +2,7 @@
 
 use crate::fault::Fault;
 use crate::script::{Place, Script};
-use crate::sections::{Section, Sections};
-use std::alloc::Global;
+use crate::sections::Section;
 
 /// The section of a word.
 fn section(word: &str) -> Option<Section> {
@@ -25,15 +24,10 @@ fn go_on(place: Place, section: Section) -> Place {
 }
 
 /// Obeys a command on sections, and tells whether it is one.
-pub(crate) fn obey(script: &mut Script, alloc: Global, words: &[&str]) -> Result<bool, Fault> {
+pub(crate) fn obey(script: &mut Script, words: &[&str]) -> Result<bool, Fault> {
     let [word] = words else {
         return Ok(false);
     };
-    if *word == "reply" {
-        script.reply = Sections::new(alloc);
-        script.place = Place::Reply(Section::Answers);
-        return Ok(true);
-    }
     let Some(section) = section(word) else {
         return Ok(false);
     };
