@@ -5,8 +5,6 @@ pub use hickory_base::access;
 pub use hickory_text as zone_text;
 pub use hickory_wire as proto;
 
-#[cfg(test)]
-mod blocklist_tests;
 pub mod server;
 pub mod store;
 #[cfg(test)]

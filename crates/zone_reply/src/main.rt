@@ -6,8 +6,6 @@ mod command;
 mod input;
 mod run;
 mod signer;
-#[cfg(test)]
-mod tests;
 mod zone;
 
 use crate::command::{Refusal, print};

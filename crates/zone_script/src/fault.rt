@@ -1,5 +1,6 @@
 //! Why a line is not obeyed, or the script ends.
 
+use hickory_server::access::IpNetTextError;
 use hickory_server::proto::{CodeTextError, DecodeError, NameError, ProtoError};
 use hickory_server::store::blocklist::AddError;
 use hickory_server::zone_handler::CatalogError;
@@ -25,6 +26,9 @@ pub(crate) enum Fault {
     /// An address is wanted.
     #[error("not an IP address")]
     Address,
+    /// A network is wanted.
+    #[error("{0}")]
+    Network(IpNetTextError),
     /// Bytes are wanted.
     #[error("not an even number of hex digits")]
     Hex,
@@ -130,6 +134,12 @@ impl From<ParseIntError> for Fault {
 impl From<AddrParseError> for Fault {
     fn from(_e: AddrParseError) -> Fault {
         Fault::Address
+    }
+}
+
+impl From<IpNetTextError> for Fault {
+    fn from(e: IpNetTextError) -> Fault {
+        Fault::Network(e)
     }
 }
 
