@@ -15,7 +15,7 @@ class Edit:
     lines: dict = field(default_factory=dict)
     # The paths of the functions that it changes, as the prover prints them below the crate's name.
     functions: set = field(default_factory=set)
-    # The functions whose proof must refuse it: those, or what its line `refused at:` names.
+    # The functions, or files of lemmas, whose proof must refuse it: those functions, or what its lines `refused at:` name.
     judges: set = field(default_factory=set)
     # Whether it is tried by itself: it changes a line that no function holds, as a field of a struct, or is judged by a function that it does not change.
     is_apart: bool = False

@@ -16,13 +16,10 @@ def together(edits, most):
     change is tried by itself."""
     taken, batch = set(), []
     for edit in edits:
-        if edit.is_apart:
-            if not batch:
-                return [edit]
-        elif not edit.functions & taken and len(batch) < most:
+        if not edit.is_apart and not edit.functions & taken and len(batch) < most:
             taken |= edit.functions
             batch.append(edit)
-    return batch
+    return batch or edits[:1]
 
 
 def unreadable(batch, reads):
@@ -100,7 +97,8 @@ class Rounds:
         for edit in edits:
             if edit.fault:
                 self.answer(Answer(edit.name, False, edit.fault))
-        left, most = [it for it in edits if not it.fault], len(edits)
+        # (those that are tried by themselves come last: what the others have proved is kept by then)
+        left, most = sorted((it for it in edits if not it.fault), key=lambda it: it.is_apart), len(edits)
         while left:
             batch = together(left, most)
             said = self.prove(batch, is_whole and len(batch) > 1)

@@ -2,8 +2,9 @@
 import re
 from dataclasses import dataclass, field
 
-# The files of a function's proof that somebody wrote.
-PROOF = re.compile(r"(?:\./)?proofs/(\S+)/(?:Answers|Proof|Invariants)\.antt:\d+:\d+: error: (.*)")
+# An error in a file that somebody wrote: of a function's proof, or of lemmas.
+PROOF = re.compile(r"(?:\./)?(proofs/\S+\.antt):\d+:\d+: error: (.*)")
+OF_FUNCTION = re.compile(r"proofs/(\S+)/(?:Answers|Proof|Invariants)\.antt")
 CLOSURE = re.compile(r"(?:(.*)::)?fn::([^+]*)::[^:+]+(?:\+\d+)?(?:\+Fn\w*::call\w*)?")
 FUNCTION = re.compile(r"fn \w+::(\S+): (.*)")
 # What a proof file says where the edit took away a name that it cites: this shows nothing of a contract.
@@ -23,7 +24,7 @@ class Said:
     is_proved: bool = False
     # Whether the text was refused before any goal was put: it does not parse, has a wrong type, or breaks a rule of borrowing.
     is_rejected: bool = False
-    # Of each function that has a goal of its own open, or an error in its own proof: the line that says so.
+    # Of each function that has a goal of its own open, or an error in its own proof: the line that says so; likewise of each file of lemmas, by its path.
     refused: dict = field(default_factory=dict)
     # Of each function that only the borrow checker holds up: the line that says so.
     uncovered: dict = field(default_factory=dict)
@@ -35,6 +36,12 @@ def owner_of(path):
     """Returns the function that a path belongs to: its own, or of a closure, as `names::fn::first_dot::position+FnMut::call_mut`, the one that it is in."""
     found = CLOSURE.fullmatch(path)
     return "::".join(filter(None, found.groups())) if found else path
+
+
+def proved_in(path):
+    """Returns the function that a file of proofs/ belongs to; the file's own path where it holds lemmas."""
+    found = OF_FUNCTION.fullmatch(path)
+    return owner_of(found[1].replace("/", "::")) if found else path
 
 
 def read_function(said, path, line):
@@ -66,7 +73,7 @@ def read_message(said, message):
     if function:
         read_function(said, function[1], function[2])
     elif proof and not NAMES_ALONE.search(re.sub(r"`[^`]*`", "``", proof[2])[:160]):
-        said.refused.setdefault(owner_of(proof[1].replace("/", "::")), message)
+        said.refused.setdefault(proved_in(proof[1]), message)
 
 
 def read_output(output, status):
