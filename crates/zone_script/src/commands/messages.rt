@@ -5,7 +5,7 @@ use crate::fault::Fault;
 use crate::printing::print_message;
 use crate::reading::{put_fault, read_name, read_parts, read_question};
 use crate::words::octets;
-use hickory_server::proto::{DecodeError, Message, Record};
+use hickory_server::proto::{BinDecoder, DecodeError, Message, Record};
 use std::alloc::{AllocError, Global};
 use std::fmt::Write;
 
@@ -48,7 +48,7 @@ fn tell_parts(alloc: Global, bytes: &[u8], out: &mut String) -> Result<(), Fault
 
 /// The fault of a message, if there is one.
 fn fault_of(alloc: Global, bytes: &[u8]) -> Result<Option<DecodeError>, Fault> {
-    match Message::read(alloc, bytes) {
+    match BinDecoder::new(bytes).read_message(alloc) {
         Ok(_) => Ok(None),
         Err(DecodeError::Memory) => Err(Fault::Memory),
         Err(e) => Ok(Some(e)),
