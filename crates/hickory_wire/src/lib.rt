@@ -39,6 +39,7 @@ mod record;
 mod record_decoder;
 mod record_encoder;
 pub mod record_laws;
+mod record_room;
 mod record_sameness;
 mod record_type;
 mod response_code;
