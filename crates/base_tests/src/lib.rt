@@ -1,8 +1,6 @@
-//! Tests of errors, access lists, requests, replies, sinks and zones.
+//! Tests of errors, requests, replies, sinks and zones.
 #![tactic(auto)]
 
-#[cfg(test)]
-mod access;
 #[cfg(test)]
 mod errors;
 #[cfg(test)]

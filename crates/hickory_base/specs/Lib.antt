@@ -1,5 +1,6 @@
 pub mod Access
 pub mod Denials
+pub mod EncodingSinks
 pub mod Failures
 pub mod Lending
 pub mod Lookups

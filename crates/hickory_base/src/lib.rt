@@ -2,6 +2,7 @@
 #![tactic(auto)]
 
 pub mod access;
+pub mod encoding_sink;
 pub mod errors;
 pub mod message_request;
 pub mod message_response;

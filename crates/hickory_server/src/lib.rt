@@ -2,10 +2,9 @@
 #![tactic(auto)]
 
 pub use hickory_base::access;
+pub use hickory_text as zone_text;
 pub use hickory_wire as proto;
 
-#[cfg(test)]
-mod blocklist_tests;
 pub mod server;
 pub mod store;
 #[cfg(test)]

@@ -9,10 +9,13 @@ use Rattle.hickory_wire.specs.DomainName.{DomainName, IsLabel, AreLabels, wire_f
 use Rattle.hickory_wire.specs.FullForm.{name_octets, data_octets, record_octets, HasNames}
 use Rattle.hickory_wire.specs.NameLayout.{LabelsAt, NameAt}
 use Rattle.hickory_wire.specs.NameLayout.LabelsAt.{at_end, at_label}
+use Rattle.hickory_wire.specs.QuestionForm.{question_octets}
+use Rattle.hickory_wire.specs.QuestionLayout.{QuestionAt}
 use Rattle.hickory_wire.specs.RecordData.{soa_numbers, tsig_fields, type_of}
 use Rattle.hickory_wire.specs.RecordLayout.{OctetsAt, DataAt, FormAt, fixed_fields}
 use Rattle.hickory_wire.specs.RecordSize.{data_len, full_size, form_fault}
 use Rattle.hickory_wire.specs.Writing.{Puts}
+use Rattle.hickory_wire.specs.declared.query.Query.{Query}
 use Rattle.hickory_wire.specs.declared.rdata.RData.{RData}
 use Rattle.hickory_wire.specs.declared.rdata.RData.TheVariants as rdata
 use Rattle.hickory_wire.specs.declared.record.Record.{Record}
@@ -116,7 +119,7 @@ record_octets-len r =
     omega (arith, length-append (name ++ fixed) (data_octets r.rdata), length-append name fixed, name_octets-len r.name.labels, data_octets-len r.rdata)
 
 -- a record stands where it stands in full
-record_stands : (bytes : List ℕ) (floor place next : ℕ) (r : Record RData) → AreLabels r.name.labels → HasNames r.rdata → data_len r.rdata < 2 ^ 16 → floor ≤ place → BytesAt bytes place (record_octets r) → next ≡ place + full_size r → FormAt floor bytes place r next
+pub record_stands : (bytes : List ℕ) (floor place next : ℕ) (r : Record RData) → AreLabels r.name.labels → HasNames r.rdata → data_len r.rdata < 2 ^ 16 → floor ≤ place → BytesAt bytes place (record_octets r) → next ≡ place + full_size r → FormAt floor bytes place r next
 record_stands bytes floor place next r owner names small low s e =
     let name = name_octets r.name.labels in
     let fixed = fixed_fields r (data_len r.rdata) in
@@ -158,3 +161,27 @@ put_parts limit old named fixed new r kind class ttl len low owner names formed 
     e3 ∙ ap (λ b. b ++ data_octets r.rdata) (fields ∙ ap (λ b. b ++ fixed_fields r (data_len r.rdata)) e1 ∙ append_assoc old name (fixed_fields r (data_len r.rdata)))
     ∙ append_assoc old (name ++ fixed_fields r (data_len r.rdata)) (data_octets r.rdata) in
     puts_full limit old new r low owner names formed.0 (omega (arith, formed.1)) whole (omega (arith, formed.1))
+
+-- a question is as long in full as it says
+pub question_octets-len : (q : Query) → length (question_octets q) ≡ name_len q.name.labels + 4
+question_octets-len q =
+    let name = name_octets q.name.labels in
+    let kind = to_be_bytes w16 q.query_type in
+    omega (arith, length-append (name ++ kind) (to_be_bytes w16 q.query_class), length-append name kind, name_octets-len q.name.labels)
+
+-- a question stands where it stands in full
+pub question_stands : (bytes : List ℕ) (floor place : ℕ) (q : Query) → AreLabels q.name.labels → floor ≤ place → BytesAt bytes place (question_octets q) → QuestionAt floor bytes place q (place + length (question_octets q))
+question_stands bytes floor place q are low s =
+    let name = name_octets q.name.labels in
+    let kind = to_be_bytes w16 q.query_type in
+    let class = to_be_bytes w16 q.query_class in
+    let parts : BytesAt bytes place (name ++ (kind ++ class)) = subst (λ t. BytesAt bytes place t) (append_assoc name kind class) s in
+    let len = name_octets-len q.name.labels in
+    let size = question_octets-len q in
+    let middle = place + name_len q.name.labels in
+    record {
+      middle = middle;
+      name = name_stands bytes floor place middle q.name are low (BytesAt-left bytes place name (kind ++ class) parts) refl;
+      fields = subst (λ p. BytesAt bytes p (kind ++ class)) (omega (arith, len)) (BytesAt-right bytes place name (kind ++ class) parts);
+      after = omega (arith, size);
+    }

@@ -11,6 +11,7 @@ pub mod FiveLists
 pub mod FormFaults
 pub mod FormIsRead
 pub mod FormKeeps
+pub mod FormLengths
 pub mod FullForms
 pub mod HeaderBits
 pub mod HeaderLaws
@@ -23,6 +24,7 @@ pub mod LiteralReplies
 pub mod Literals
 pub mod MessageFaultLaws
 pub mod MessageTail
+pub mod MetadataComparing
 pub mod NameLaws
 pub mod NameSpelling
 pub mod OctetLengths
@@ -45,6 +47,7 @@ pub mod Stable
 pub mod Stands
 pub mod StringSteps
 pub mod StringsRead
+mod TextForm
 pub mod TextFaults
 pub mod TsigFaults
 pub mod WholeLists

@@ -22,6 +22,7 @@ pub mod NameText
 pub mod OptionReading
 pub mod QuestionForm
 pub mod QuestionLayout
+pub mod QuestionSameness
 pub mod Reading
 pub mod RecordData
 pub mod RecordFaults
@@ -36,3 +37,4 @@ pub mod WholeReply
 pub mod Worked
 pub mod WorkedReplies
 pub mod Writing
+pub mod TextForm

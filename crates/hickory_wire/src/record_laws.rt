@@ -1,12 +1,16 @@
 //! Laws of records and questions, each the contract of a function with nothing to do: how they stand in bytes is how they are read.
 
-ghost use Rattle.std.specs.Prelude.{◌≡◌, ◌≤◌, ◌⊎◌, ◌↔◌, ℕ, List, [], Ok};
-ghost use Rattle.hickory_wire.specs.Bytes.{AreBytes, KeepsFrom};
+ghost use Rattle.std.specs.Prelude.{◌≡◌, ◌≤◌, ◌+◌, ◌⊎◌, ◌↔◌, ℕ, List, [], length, None, Ok};
+ghost use Rattle.hickory_wire.specs.Bytes.{AreBytes, BytesAt, KeepsFrom};
 ghost use Rattle.hickory_wire.specs.Cursor.{Cursor};
+ghost use Rattle.hickory_wire.specs.DomainName.{AreLabels, name_len};
+ghost use Rattle.hickory_wire.specs.FullForm.{HasNames, record_octets};
+ghost use Rattle.hickory_wire.specs.QuestionForm.{question_octets};
 ghost use Rattle.hickory_wire.specs.QuestionLayout.{QuestionAt, IsFormedQuestion};
 ghost use Rattle.hickory_wire.specs.RecordData.{OptionsOf};
 ghost use Rattle.hickory_wire.specs.RecordLayout.{FormAt, IsFormedRecord, RecordAt};
 ghost use Rattle.hickory_wire.specs.RecordReading.{options_of, question, resource};
+ghost use Rattle.hickory_wire.specs.RecordSize.{form_fault, full_size};
 ghost use Rattle.hickory_wire.specs.declared.edns.EdnsOption.{EdnsOption};
 ghost use Rattle.hickory_wire.specs.declared.query.Query.{Query};
 ghost use Rattle.hickory_wire.specs.declared.rdata.RData.{RData};
@@ -54,4 +58,19 @@ pub fn read_is_question_at()
     ensures stands { (bytes : List ℕ) (floor place next : ℕ) (q : Query) → IsFormedQuestion q → QuestionAt floor bytes place q next → question (record { bytes = bytes; place = place }) ≡ Ok (q, record { bytes = bytes; place = next }) }
     ensures at { (c : Cursor) (q : Query) (next : ℕ) → AreBytes c.bytes → (QuestionAt 0 c.bytes c.place q next × IsFormedQuestion q) ↔ (question c ≡ Ok (q, record c { place = next })) }
     ensures kept { (c next : Cursor) (q : Query) → AreBytes c.bytes → question c ≡ Ok (q, next) → next.bytes ≡ c.bytes }
+{}
+
+/// A record in full has its full size, and where its names are names and its data have a form, it stands where its octets stand
+/// (RFC 1035 section 4.1.3).
+pub fn full_forms()
+    ensures size { (r : Record RData) → length (record_octets r) ≡ full_size r }
+    ensures stands { (bytes : List ℕ) (floor place : ℕ) (r : Record RData) → AreLabels r.name.labels → HasNames r.rdata → form_fault r.rdata ≡ None → floor ≤ place →
+        BytesAt bytes place (record_octets r) → FormAt floor bytes place r (place + full_size r) }
+{}
+
+/// A question in full stands where its octets stand (RFC 1035 section 4.1.2).
+pub fn question_forms()
+    ensures size { (q : Query) → length (question_octets q) ≡ name_len q.name.labels + 4 }
+    ensures stands { (bytes : List ℕ) (floor place : ℕ) (q : Query) → AreLabels q.name.labels → floor ≤ place → BytesAt bytes place (question_octets q) →
+        QuestionAt floor bytes place q (place + length (question_octets q)) }
 {}

@@ -3,12 +3,9 @@
 #![tactic(auto)]
 
 mod command;
-mod encoded_replies;
 mod input;
 mod run;
 mod signer;
-#[cfg(test)]
-mod tests;
 mod zone;
 
 use crate::command::{Refusal, print};

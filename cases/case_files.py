@@ -1,0 +1,128 @@
+"""The case files of this folder: which there are, and what each asks of which program. `run` says what they hold."""
+import os
+import shutil
+import subprocess
+import tempfile
+
+FOLDER = os.path.dirname(os.path.realpath(__file__))
+REPOSITORY = os.path.dirname(FOLDER)
+
+# The folders of cases below this one, and the program that each is for.
+PROGRAMS = {"": "zone_script", "zone_reply": "zone_reply"}
+
+# What a program reads and where it prints are needed of each case, in one of two forms.
+NEEDED = [("in", "stdin"), ("out", "stdout")]
+ENDINGS = {"in", "stdin", "out", "stdout", "args", "status"}
+
+# Streams that fail, by the word that NAME.stdin or NAME.stdout has.
+FAILING_INPUTS = {"directory": "/"}
+FAILING_OUTPUTS = {"full": "/dev/full"}
+
+SECONDS = 60
+
+
+class Case:
+    """The files of one name, by their endings."""
+
+    def __init__(self, program, name):
+        self.program = program
+        self.name = name
+        self.files = {}
+
+    def read(self, ending):
+        """The bytes of the file with this ending, or None where there is none."""
+        if ending not in self.files:
+            return None
+        with open(self.files[ending], "rb") as it:
+            return it.read()
+
+    def word(self, ending):
+        text = self.read(ending)
+        return None if text is None else text.decode().strip()
+
+    def faults(self):
+        """What keeps it from being a case."""
+        missing = ["." + "/.".join(pair) for pair in NEEDED if not any(it in self.files for it in pair)]
+        double = ["." + "/.".join(pair) for pair in NEEDED if all(it in self.files for it in pair)]
+        return [f"has no {it}" for it in missing] + [f"has both of {it}" for it in double]
+
+    @property
+    def path(self):
+        """The file that stands for the case: what is read where there is such a file."""
+        return os.path.relpath(self.files.get("in") or next(iter(self.files.values())), REPOSITORY)
+
+    @property
+    def arguments(self):
+        return (self.read("args") or b"").split(b"\n")[:-1]
+
+    @property
+    def status(self):
+        return int(self.word("status") or 0)
+
+    def open_input(self):
+        if "stdin" in self.files:
+            return os.open(FAILING_INPUTS[self.word("stdin")], os.O_RDONLY)
+        return os.open(self.files["in"], os.O_RDONLY)
+
+    def open_output(self, path):
+        """The file that the program prints into: this one, or one that fails."""
+        if "stdout" in self.files:
+            return os.open(FAILING_OUTPUTS[self.word("stdout")], os.O_WRONLY)
+        return os.open(path, os.O_WRONLY | os.O_CREAT | os.O_TRUNC, 0o600)
+
+
+def all_cases():
+    """The cases by name, and the files that belong to none."""
+    cases, others = {}, []
+    for below, program in PROGRAMS.items():
+        folder = os.path.join(FOLDER, below)
+        for file in sorted(os.listdir(folder)):
+            name, _, ending = file.rpartition(".")
+            path = os.path.join(folder, file)
+            if ending in ENDINGS and name:
+                key = os.path.join(below, name)
+                cases.setdefault(key, Case(program, key)).files[ending] = path
+            elif below and os.path.isfile(path):
+                others.append(path)
+    return list(cases.values()), others
+
+
+def chosen(cases, files):
+    """The cases that these files belong to; all of them where no file is given."""
+    names = {os.path.splitext(os.path.realpath(it))[0] for it in files}
+    return [it for it in cases if not files or os.path.join(FOLDER, it.name) in names]
+
+
+def programs(name):
+    """The builds of a proved program that are there, LLVM's first."""
+    made = f"{REPOSITORY}/crates/{name}/out/{name}"
+    return [it for it in (made, f"{made}.by-rattle") if os.access(it, os.X_OK)]
+
+
+class Room:
+    """A folder of its own, in which programs run."""
+
+    def __enter__(self):
+        self.folder = tempfile.mkdtemp()
+        return self
+
+    def __exit__(self, *_):
+        shutil.rmtree(self.folder)
+
+    def run(self, program, case, environment):
+        """What the program prints for a case, and its status; a signal that ends it is a negative number."""
+        printed = f"{self.folder}/printed"
+        given, taken = case.open_input(), case.open_output(printed)
+        try:
+            ended = subprocess.run(
+                [program, *case.arguments],
+                stdin=given, stdout=taken, stderr=subprocess.DEVNULL,
+                cwd=self.folder, env=environment, timeout=SECONDS,
+            )
+        finally:
+            os.close(given)
+            os.close(taken)
+        if "stdout" in case.files:
+            return b"", ended.returncode
+        with open(printed, "rb") as it:
+            return it.read(), ended.returncode

@@ -1,0 +1,20 @@
+-- A sink that keeps replies as the bytes that are sent over one transport.
+use Rattle.std.specs.Prelude.{ℕ, List}
+use Rattle.hickory_wire.specs.Reply.{Reply, size_limit}
+use Rattle.hickory_wire.specs.ReplyParts.{ReplyEncoded}
+use Rattle.hickory_wire.specs.declared.header.Header.{Header}
+use Rattle.hickory_wire.specs.declared.protocol.Protocol.{Protocol}
+
+-- what the sink has: its transport, the bytes of each reply in the order in which they came, and how often it failed
+pub record EncodedReplies : Type 0 where
+  pub protocol : Protocol
+  pub replies : List (List ℕ)
+  pub failures : ℕ
+
+-- The bytes are an encoding of the reply at the transport's limit.
+abbrev pub IsEncodingOf : Protocol → Reply → List ℕ → Type 0
+IsEncodingOf protocol reply bytes = (header : Header) × ReplyEncoded (size_limit protocol reply.edns) reply bytes header
+
+-- What is told of a reply is the header of an encoding of it at the transport's limit.
+abbrev pub TellsEncoding : Protocol → Reply → Header → Type 0
+TellsEncoding protocol reply header = (bytes : List ℕ) × ReplyEncoded (size_limit protocol reply.edns) reply bytes header

@@ -1,0 +1,151 @@
+//! What is asked of the server.
+
+use crate::commands::zones::type_word;
+use crate::fault::Fault;
+use crate::printing::print_reply;
+use crate::question::{QUESTION_USAGE, Question};
+use crate::script::Script;
+use crate::text::lower_name;
+use crate::words::octets;
+use hickory_base::encoding_sink::EncodingSink;
+use hickory_server::proto::{Edns, RecordType};
+use hickory_server::server::{Request, RequestHandler};
+use hickory_server::zone_handler::{CatalogError, ZoneHandler};
+use std::alloc::Global;
+use std::fmt::Write;
+
+/// Puts the calls of scripted handlers behind a text, and tells whether one of them was answered as if memory had been
+/// refused.
+pub(crate) fn print_calls(script: &Script, alloc: Global, out: &mut String) -> Result<bool, Fault> {
+    let calls = script.log.take(alloc);
+    out.push_str(calls.lines.as_str())?;
+    Ok(calls.wants_memory)
+}
+
+/// Puts the replies of a sink behind a text.
+fn print_replies(
+    script: &Script,
+    alloc: Global,
+    sink: &EncodingSink,
+    out: &mut String,
+) -> Result<(), Fault> {
+    if sink.failures() > 0 {
+        return Err(Fault::Memory);
+    }
+    for reply in sink.replies() {
+        print_reply(alloc, out, script.settings.printed, reply.as_slice())?;
+    }
+    Ok(())
+}
+
+/// Puts the calls and the replies behind a text, where the catalog told so. That it lacked memory is what is printed where
+/// a scripted handler was to answer so.
+fn print_outcome(
+    script: &Script,
+    alloc: Global,
+    told: Option<CatalogError>,
+    sink: &EncodingSink,
+    out: &mut String,
+) -> Result<(), Fault> {
+    let wants_memory = print_calls(script, alloc, out)?;
+    match told {
+        None => print_replies(script, alloc, sink, out),
+        Some(_) if wants_memory => Ok(out.push_str("no memory\n")?),
+        Some(e) => Err(Fault::from(e)),
+    }
+}
+
+/// The request of these bytes.
+pub(crate) fn received(script: &Script, alloc: Global, bytes: Vec<u8>) -> Result<Request, Fault> {
+    let settings = script.settings;
+    Ok(Request::from_bytes(alloc, bytes, settings.source, settings.protocol)?)
+}
+
+/// Hands a message to the server.
+fn ask(script: &mut Script, alloc: Global, bytes: Vec<u8>, out: &mut String) -> Result<(), Fault> {
+    let request = received(script, alloc, bytes)?;
+    let mut sink = EncodingSink::new(alloc, script.settings.protocol);
+    let now = script.settings.now;
+    let told = script
+        .catalog
+        .handle_request(alloc, &request, now, &mut sink)
+        .err();
+    print_outcome(script, alloc, told, &sink, out)
+}
+
+/// Hands a message to the lookup of the server, with this EDNS for the reply.
+fn look_up(
+    script: &Script,
+    alloc: Global,
+    bytes: Vec<u8>,
+    edns: Option<&Edns>,
+    out: &mut String,
+) -> Result<(), Fault> {
+    let request = received(script, alloc, bytes)?;
+    let mut sink = EncodingSink::new(alloc, script.settings.protocol);
+    let now = script.settings.now;
+    let told = script
+        .catalog
+        .lookup(alloc, &request, edns, now, &mut sink)
+        .err();
+    print_outcome(script, alloc, told, &sink, out)
+}
+
+/// Hands a query to the lookup of the server.
+fn look_up_question(
+    script: &Script,
+    alloc: Global,
+    name: &str,
+    question: &Question,
+    out: &mut String,
+) -> Result<(), Fault> {
+    let bytes = question.bytes(alloc, name)?;
+    let mut edns = Edns::new(alloc);
+    edns.set_dnssec_ok(true);
+    let edns = if question.replies_dnssec_ok {
+        Some(&edns)
+    } else {
+        None
+    };
+    look_up(script, alloc, bytes, edns, out)
+}
+
+/// Tells which handlers answer for a name.
+fn find(script: &Script, alloc: Global, name: &str, out: &mut String) -> Result<(), Fault> {
+    let name = lower_name(alloc, name)?;
+    let Some(chain) = script.catalog.find(alloc, &name)? else {
+        return Ok(out.push_str("no zone\n")?);
+    };
+    for handler in chain {
+        let kind = type_word(handler.zone_type());
+        writeln!(out, "{kind} {}", handler.origin())?;
+    }
+    Ok(())
+}
+
+/// Obeys a command that asks, and tells whether it is one.
+pub(crate) fn obey(
+    script: &mut Script,
+    alloc: Global,
+    words: &[&str],
+    out: &mut String,
+) -> Result<bool, Fault> {
+    match words {
+        ["ask", digits] => ask(script, alloc, octets(alloc, &[digits])?, out)?,
+        ["ask", name, record_type, words @ ..] => {
+            let mut question = Question::new(record_type.parse::<RecordType>()?);
+            question.read(words)?;
+            ask(script, alloc, question.bytes(alloc, name)?, out)?;
+        }
+        ["lookup", digits] => look_up(script, alloc, octets(alloc, &[digits])?, None, out)?,
+        ["lookup", name, record_type, words @ ..] => {
+            let mut question = Question::new(record_type.parse::<RecordType>()?);
+            question.read(words)?;
+            look_up_question(script, alloc, name, &question, out)?;
+        }
+        ["ask" | "lookup"] => return Err(Fault::Usage(QUESTION_USAGE)),
+        ["find", name] => find(script, alloc, name, out)?,
+        _ => return Ok(false),
+    }
+    Ok(true)
+}

@@ -1,0 +1,182 @@
+//! Messages, names, questions and records in bytes.
+
+use crate::commands::records;
+use crate::fault::Fault;
+use crate::printing::print_message;
+use crate::reading::{put_fault, read_name, read_parts, read_question};
+use crate::words::octets;
+use hickory_server::proto::{DecodeError, Message, Record};
+use std::alloc::{AllocError, Global};
+use std::fmt::Write;
+
+/// Tells of the message that bytes begin with, as `dig` prints one.
+fn tell_message(alloc: Global, bytes: &[u8], out: &mut String) -> Result<(), Fault> {
+    match Message::read(alloc, bytes) {
+        Ok(message) => Ok(print_message(out, &message, Some(bytes.len()))?),
+        Err(e) => put_fault(e, out),
+    }
+}
+
+/// Tells of the name that bytes begin with, or that stands behind the header of a message.
+fn tell_name(
+    alloc: Global,
+    bytes: &[u8],
+    is_behind_header: bool,
+    out: &mut String,
+) -> Result<(), Fault> {
+    match read_name(alloc, bytes, is_behind_header) {
+        Ok((name, end)) => Ok(writeln!(out, "{name} ends at {end}")?),
+        Err(e) => put_fault(e, out),
+    }
+}
+
+/// Tells of the question that bytes begin with.
+fn tell_question(alloc: Global, bytes: &[u8], out: &mut String) -> Result<(), Fault> {
+    match read_question(alloc, bytes) {
+        Ok((question, end)) => Ok(writeln!(out, "{question} ends at {end}")?),
+        Err(e) => put_fault(e, out),
+    }
+}
+
+/// Tells where the parts of a message end.
+fn tell_parts(alloc: Global, bytes: &[u8], out: &mut String) -> Result<(), Fault> {
+    match read_parts(alloc, bytes) {
+        Ok(ends) => Ok(writeln!(out, "{ends}")?),
+        Err(e) => put_fault(e, out),
+    }
+}
+
+/// The fault of a message, if there is one.
+fn fault_of(alloc: Global, bytes: &[u8]) -> Result<Option<DecodeError>, Fault> {
+    match Message::read(alloc, bytes) {
+        Ok(_) => Ok(None),
+        Err(DecodeError::Memory) => Err(Fault::Memory),
+        Err(e) => Ok(Some(e)),
+    }
+}
+
+/// Puts what fronts of so many bytes read as behind a text.
+fn put_fronts(
+    first: usize,
+    last: usize,
+    fault: Option<DecodeError>,
+    out: &mut String,
+) -> Result<(), Fault> {
+    write!(out, "{first} to {last} bytes: ")?;
+    match fault {
+        None => Ok(out.push_str("a message\n")?),
+        Some(e) => put_fault(e, out),
+    }
+}
+
+/// Tells what each front of some bytes reads as.
+fn tell_fronts(alloc: Global, bytes: &[u8], out: &mut String) -> Result<(), Fault> {
+    let mut first = 0;
+    let mut fault = fault_of(alloc, &[])?;
+    'lengths: for len in 1..=bytes.len() {
+        let next = fault_of(alloc, &bytes[..len])?;
+        if next != fault {
+            put_fronts(first, len - 1, fault, out)?;
+            first = len;
+            fault = next;
+        }
+    }
+    put_fronts(first, bytes.len(), fault, out)
+}
+
+/// Whether each record is equal to its copy.
+fn have_equal_copies(records: &[Record]) -> Result<bool, AllocError> {
+    for record in records {
+        if record.clone()? != *record {
+            return Ok(false);
+        }
+    }
+    Ok(true)
+}
+
+/// Whether EDNS and signature, where they are there, are equal to their copies.
+fn extras_have_equal_copies(message: &Message) -> Result<bool, AllocError> {
+    if let Some(edns) = &message.edns {
+        if edns.clone()? != *edns {
+            return Ok(false);
+        }
+    }
+    match &message.signature {
+        None => Ok(true),
+        Some(signature) => Ok(signature.clone()? == *signature),
+    }
+}
+
+/// Whether each question is equal to its copy.
+fn questions_have_equal_copies(message: &Message) -> Result<bool, AllocError> {
+    for query in message.queries.as_slice() {
+        if query.clone()? != *query {
+            return Ok(false);
+        }
+    }
+    Ok(true)
+}
+
+/// Whether all that a message is made of is equal to its copy.
+fn has_equal_copies(message: &Message) -> Result<bool, AllocError> {
+    Ok(
+        questions_have_equal_copies(message)?
+            && have_equal_copies(message.answers.as_slice())?
+            && have_equal_copies(message.authorities.as_slice())?
+            && have_equal_copies(message.additionals.as_slice())?
+            && extras_have_equal_copies(message)?,
+    )
+}
+
+/// How many pairs of a list of records are equal.
+fn count_equal_pairs(records: &[Record]) -> usize {
+    let mut rest = records;
+    let mut count = 0usize;
+    while let [first, others @ ..] = rest {
+        let equal = others.iter().filter(|other| **other == *first).count();
+        count = count.saturating_add(equal);
+        rest = others;
+    }
+    count
+}
+
+/// Tells how what a message is made of compares with its copies, and its answers with each other.
+fn tell_copies(alloc: Global, bytes: &[u8], out: &mut String) -> Result<(), Fault> {
+    match Message::read(alloc, bytes) {
+        Ok(message) => {
+            let copies = if has_equal_copies(&message)? {
+                "equal"
+            } else {
+                "not equal"
+            };
+            let pairs = count_equal_pairs(message.answers.as_slice());
+            Ok(writeln!(out, "copies are {copies}, equal pairs of answers {pairs}")?)
+        }
+        Err(e) => put_fault(e, out),
+    }
+}
+
+/// Obeys a command that reads bytes, and tells whether it is one.
+fn decode(alloc: Global, words: &[&str], out: &mut String) -> Result<(), Fault> {
+    match words {
+        ["name", "behind-header", digits @ ..] => {
+            tell_name(alloc, octets(alloc, digits)?.as_slice(), true, out)
+        }
+        ["name", digits @ ..] => tell_name(alloc, octets(alloc, digits)?.as_slice(), false, out),
+        ["question", digits @ ..] => tell_question(alloc, octets(alloc, digits)?.as_slice(), out),
+        ["parts", digits @ ..] => tell_parts(alloc, octets(alloc, digits)?.as_slice(), out),
+        ["fronts", digits @ ..] => tell_fronts(alloc, octets(alloc, digits)?.as_slice(), out),
+        ["copies", digits @ ..] => tell_copies(alloc, octets(alloc, digits)?.as_slice(), out),
+        ["record", digits @ ..] => records::decode(alloc, digits, out),
+        digits => tell_message(alloc, octets(alloc, digits)?.as_slice(), out),
+    }
+}
+
+/// Obeys a command on messages, and tells whether it is one.
+pub(crate) fn obey(alloc: Global, words: &[&str], out: &mut String) -> Result<bool, Fault> {
+    match words {
+        ["decode", words @ ..] => decode(alloc, words, out)?,
+        _ => return Ok(false),
+    }
+    Ok(true)
+}

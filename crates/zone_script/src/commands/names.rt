@@ -1,0 +1,164 @@
+//! Names as text, in bytes, and beside each other.
+
+use crate::fault::Fault;
+use crate::text;
+use crate::words::behind_word;
+use hickory_server::proto::{LowerName, Name, NameError};
+use std::alloc::{AllocError, Global};
+use std::cmp::Ordering;
+use std::fmt::Write;
+use std::hash::{DefaultHasher, Hash, Hasher};
+
+/// The most labels that a name has (RFC 1035 section 2.3.4).
+const MAX_LABELS: u8 = 127;
+
+/// What kind of name it is.
+fn kind(name: &Name) -> &'static str {
+    if name.is_root() {
+        "the root"
+    } else if name.is_fqdn() {
+        "fully qualified"
+    } else {
+        "relative"
+    }
+}
+
+/// Puts the labels of a name in hex digits behind a text, with the end byte where the name is fully qualified.
+fn put_wire(alloc: Global, name: &Name, out: &mut String) -> Result<(), AllocError> {
+    let digits = hex::encode(alloc, name.as_wire())?;
+    let end = if name.is_fqdn() { "00" } else { "" };
+    writeln!(out, ", wire {digits}{end}")
+}
+
+/// Puts what is told of a name behind a text.
+fn put_name(alloc: Global, name: &Name, out: &mut String) -> Result<(), Fault> {
+    let lower = LowerName::new(alloc, name)?;
+    let labels = name.num_labels();
+    write!(
+        out,
+        "{name} {}, labels {labels}, lower case {lower}",
+        kind(name)
+    )?;
+    put_wire(alloc, name, out)?;
+    Ok(())
+}
+
+/// Tells of the name of a word.
+fn describe(alloc: Global, word: &str, out: &mut String) -> Result<(), Fault> {
+    let name = text::name(alloc, word)?;
+    put_name(alloc, &name, out)
+}
+
+/// Tells of the name of a word, marked as fully qualified or as not.
+fn describe_marked(
+    alloc: Global,
+    word: &str,
+    is_fqdn: bool,
+    out: &mut String,
+) -> Result<(), Fault> {
+    let mut name = text::name(alloc, word)?;
+    name.set_fqdn(is_fqdn);
+    put_name(alloc, &name, out)
+}
+
+/// Tells of the name of a plain text, or that it is none.
+fn describe_plain(alloc: Global, text: &str, out: &mut String) -> Result<(), Fault> {
+    match Name::from_ascii(alloc, text) {
+        Ok(name) => put_name(alloc, &name, out),
+        Err(NameError::Text) => Ok(out.push_str("not the text of a name\n")?),
+        Err(NameError::Memory) => Err(Fault::Memory),
+    }
+}
+
+fn hash_of<T: Hash>(value: &T) -> u64 {
+    let mut state = DefaultHasher::new();
+    value.hash(&mut state);
+    state.finish()
+}
+
+/// Whether `==` and the hashes of two values say the same as their order.
+fn is_consistent<T: Ord + Hash>(a: &T, b: &T) -> bool {
+    if a.cmp(b) == Ordering::Equal {
+        a == b && hash_of(a) == hash_of(b)
+    } else {
+        a != b
+    }
+}
+
+/// The order of two values in a word, and whether `==` or the hashes say something else.
+fn order<T: Ord + Hash>(a: &T, b: &T) -> &'static str {
+    if !is_consistent(a, b) {
+        return "at odds";
+    }
+    match a.cmp(b) {
+        Ordering::Less => "less",
+        Ordering::Equal => "equal",
+        Ordering::Greater => "greater",
+    }
+}
+
+/// Tells the canonical order of two names (RFC 4034 section 6.1), and that of the two in lower case.
+fn compare(alloc: Global, first: &str, second: &str, out: &mut String) -> Result<(), Fault> {
+    let first = text::name(alloc, first)?;
+    let second = text::name(alloc, second)?;
+    let told = order(&first, &second);
+    let first = LowerName::new(alloc, &first)?;
+    let second = LowerName::new(alloc, &second)?;
+    let lower = order(&first, &second);
+    writeln!(out, "{told}, in lower case {lower}")?;
+    Ok(())
+}
+
+/// Tells whether the first name is the second or above it.
+fn enclose(alloc: Global, zone: &str, name: &str, out: &mut String) -> Result<(), Fault> {
+    let zone = text::name(alloc, zone)?;
+    let name = text::name(alloc, name)?;
+    let answer = if zone.zone_of(&name) { "yes\n" } else { "no\n" };
+    Ok(out.push_str(answer)?)
+}
+
+/// Takes the labels of a name off, and puts what is left after each behind a text.
+fn put_parents(name: &mut LowerName, out: &mut String) -> Result<(), AllocError> {
+    'labels: for _ in 0..MAX_LABELS {
+        if name.as_name().as_wire().is_empty() {
+            break 'labels;
+        }
+        name.remove_first_label();
+        write!(out, "{name} ")?;
+    }
+    Ok(())
+}
+
+/// Tells what is left of a name in lower case as its labels come off, and then of the root.
+fn list_parents(alloc: Global, word: &str, out: &mut String) -> Result<(), Fault> {
+    let name = text::name(alloc, word)?;
+    let mut name = LowerName::new(alloc, &name)?;
+    put_parents(&mut name, out)?;
+    name.remove_first_label();
+    writeln!(out, "{name}")?;
+    Ok(())
+}
+
+/// Obeys a command on names, and tells whether it is one.
+pub(crate) fn obey(
+    alloc: Global,
+    words: &[&str],
+    line: &str,
+    out: &mut String,
+) -> Result<bool, Fault> {
+    match words {
+        ["name", word] => describe(alloc, word, out)?,
+        ["name", word, "relative"] => describe_marked(alloc, word, false, out)?,
+        ["name", word, "qualified"] => describe_marked(alloc, word, true, out)?,
+        ["name", ..] => return Err(Fault::Usage("name NAME [relative|qualified]")),
+        ["plain", ..] => describe_plain(alloc, behind_word(line), out)?,
+        ["compare", first, second] => compare(alloc, first, second, out)?,
+        ["compare", ..] => return Err(Fault::Usage("compare NAME NAME")),
+        ["encloses", zone, name] => enclose(alloc, zone, name, out)?,
+        ["encloses", ..] => return Err(Fault::Usage("encloses NAME NAME")),
+        ["parents", word] => list_parents(alloc, word, out)?,
+        ["parents", ..] => return Err(Fault::Usage("parents NAME")),
+        _ => return Ok(false),
+    }
+    Ok(true)
+}

@@ -1,0 +1,132 @@
+//! Records as text and in bytes, and beside each other.
+
+use crate::fault::Fault;
+use crate::reading::{put_fault, read_record};
+use crate::text;
+use crate::words::{behind_word, octets};
+use hickory_server::proto::{
+    BinEncoder, MessageType, Metadata, OpCode, ProtoError, Record, ReplyParts, emit_message_parts,
+};
+use std::alloc::{AllocError, Global};
+use std::fmt::Write;
+use std::iter;
+
+/// What parts the records of a line from each other.
+const AND: &str = " and ";
+
+/// Puts a message whose only record is this one into a vector.
+fn write_alone(alloc: Global, record: &Record, bytes: &mut Vec<u8>) -> Result<(), ProtoError> {
+    let nothing: &[Record] = &[];
+    let parts = ReplyParts {
+        metadata: Metadata::new(0, MessageType::Query, OpCode::QUERY),
+        question: &[],
+        question_count: 0,
+        edns: None,
+        answers: iter::once(record),
+        authorities: nothing.iter(),
+        soa: nothing.iter(),
+        additionals: nothing.iter(),
+        signature: None,
+    };
+    emit_message_parts(&mut BinEncoder::new(alloc, bytes), parts)?;
+    Ok(())
+}
+
+/// The bytes of a record, with all names in full.
+fn wire(alloc: Global, record: &Record) -> Result<Vec<u8>, Fault> {
+    let mut message = Vec::new(alloc);
+    write_alone(alloc, record, &mut message)?;
+    match message.as_slice().split_at_checked(12) {
+        Some((_, bytes)) => Ok(Vec::from_slice(alloc, bytes)?),
+        None => Ok(message),
+    }
+}
+
+/// Whether the text of a record reads back as the record of these bytes, letter case and TTL included.
+fn text_reads_back(alloc: Global, record: &Record, bytes: &[u8]) -> Result<bool, Fault> {
+    let line = format!(in alloc; "{record}")?;
+    let again = text::record(alloc, line.as_str())?;
+    let again = wire(alloc, &again)?;
+    Ok(again.as_slice() == bytes)
+}
+
+/// Whether the bytes of a record read back as that record, and end where they do.
+fn bytes_read_back(alloc: Global, record: &Record, bytes: &[u8]) -> Result<bool, Fault> {
+    let (again, end) = read_record(alloc, bytes)?;
+    Ok(again == *record && again.ttl == record.ttl && end == bytes.len())
+}
+
+/// Puts what is told of a record behind a text: whether its text and its bytes read back as it.
+fn put_record(alloc: Global, record: &Record, bytes: &[u8], out: &mut String) -> Result<(), Fault> {
+    write!(out, "{record} ; ")?;
+    if !bytes_read_back(alloc, record, bytes)? {
+        out.push_str("the bytes read back as another record")?;
+    } else if !text_reads_back(alloc, record, bytes)? {
+        out.push_str("the text reads back as another record")?;
+    } else {
+        out.push_str("reads back")?;
+    }
+    Ok(())
+}
+
+/// Tells of the record of a line: its text, and its bytes in full.
+fn describe(alloc: Global, line: &str, out: &mut String) -> Result<(), Fault> {
+    let record = text::record(alloc, line)?;
+    let bytes = wire(alloc, &record)?;
+    put_record(alloc, &record, bytes.as_slice(), out)?;
+    let digits = hex::encode(alloc, bytes)?;
+    writeln!(out, ", wire {digits}")?;
+    Ok(())
+}
+
+/// Tells of a record and where it ends.
+fn put_read(alloc: Global, record: &Record, end: usize, out: &mut String) -> Result<(), Fault> {
+    let bytes = wire(alloc, record)?;
+    put_record(alloc, record, bytes.as_slice(), out)?;
+    writeln!(out, ", ends at {end}")?;
+    Ok(())
+}
+
+/// Tells of the record that bytes begin with.
+pub(crate) fn decode(alloc: Global, digits: &[&str], out: &mut String) -> Result<(), Fault> {
+    let bytes = octets(alloc, digits)?;
+    match read_record(alloc, bytes.as_slice()) {
+        Ok((record, end)) => put_read(alloc, &record, end, out),
+        Err(e) => put_fault(e, out),
+    }
+}
+
+/// Whether the records of two texts are equal.
+fn are_equal(alloc: Global, first: &str, second: &str) -> Result<bool, Fault> {
+    let first = text::record(alloc, first)?;
+    let second = text::record(alloc, second)?;
+    Ok(first == second)
+}
+
+/// Tells whether two records are equal.
+fn compare(alloc: Global, line: &str, out: &mut String) -> Result<(), Fault> {
+    let Some((first, second)) = line.split_once(AND) else {
+        return Err(Fault::Usage("same RECORD and RECORD"));
+    };
+    let told = if are_equal(alloc, first, second)? {
+        "equal\n"
+    } else {
+        "different\n"
+    };
+    Ok(out.push_str(told)?)
+}
+
+/// Obeys a command on records, and tells whether it is one.
+pub(crate) fn obey(
+    alloc: Global,
+    words: &[&str],
+    line: &str,
+    out: &mut String,
+) -> Result<bool, Fault> {
+    match words {
+        ["record", ..] => describe(alloc, behind_word(line), out)?,
+        ["same", "record", ..] => compare(alloc, behind_word(behind_word(line)), out)?,
+        _ => return Ok(false),
+    }
+    Ok(true)
+}

@@ -1,0 +1,75 @@
+//! What holds for the messages that follow.
+
+use crate::fault::Fault;
+use crate::script::Script;
+use crate::settings::Printed;
+use crate::words::octets;
+use hickory_server::proto::{NSIDPayload, Protocol};
+use std::alloc::Global;
+use std::net::{IpAddr, SocketAddr};
+
+/// The transport of a word.
+fn transport(word: &str) -> Option<Protocol> {
+    match word {
+        "udp" => Some(Protocol::Udp),
+        "tcp" => Some(Protocol::Tcp),
+        "tls" => Some(Protocol::Tls),
+        "https" => Some(Protocol::Https),
+        "quic" => Some(Protocol::Quic),
+        "h3" => Some(Protocol::H3),
+        _ => None,
+    }
+}
+
+/// How replies are printed, by a word.
+fn printed(word: &str) -> Option<Printed> {
+    match word {
+        "dig" => Some(Printed::Dig),
+        "text" => Some(Printed::Text),
+        "hex" => Some(Printed::Hex),
+        "both" => Some(Printed::Both),
+        _ => None,
+    }
+}
+
+/// Sets what a line of one word names, and tells whether it names a transport or a form.
+fn set(script: &mut Script, word: &str) -> bool {
+    if let Some(protocol) = transport(word) {
+        script.settings.protocol = protocol;
+        return true;
+    }
+    if let Some(printed) = printed(word) {
+        script.settings.printed = printed;
+        return true;
+    }
+    false
+}
+
+/// Sets where messages come from.
+fn set_source(script: &mut Script, address: &str, port: &str) -> Result<(), Fault> {
+    let address = address.parse::<IpAddr>()?;
+    script.settings.source = SocketAddr::new(address, port.parse::<u16>()?);
+    Ok(())
+}
+
+/// Sets what identifies the server (RFC 5001).
+fn identify(script: &mut Script, alloc: Global, digits: &[&str]) -> Result<(), Fault> {
+    let payload = NSIDPayload::new(octets(alloc, digits)?)?;
+    script.catalog.set_nsid(Some(payload));
+    Ok(())
+}
+
+/// Obeys a command on what holds for the messages that follow, and tells whether it is one.
+pub(crate) fn obey(script: &mut Script, alloc: Global, words: &[&str]) -> Result<bool, Fault> {
+    match words {
+        [word] if set(script, word) => (),
+        ["source", address, port] => set_source(script, address, port)?,
+        ["source", ..] => return Err(Fault::Usage("source ADDRESS PORT")),
+        ["now", seconds] => script.settings.now = seconds.parse::<u64>()?,
+        ["now", ..] => return Err(Fault::Usage("now SECONDS")),
+        ["identifier", "none"] => script.catalog.set_nsid(None),
+        ["identifier", digits @ ..] => identify(script, alloc, digits)?,
+        _ => return Ok(false),
+    }
+    Ok(true)
+}

@@ -1,0 +1,200 @@
+//! The values that messages are made of.
+
+use crate::fault::Fault;
+use crate::reading::put_proto_fault;
+use crate::script::Script;
+use crate::sections::Sections;
+use crate::words::octets;
+use hickory_server::proto::{
+    Boxed, DNSClass, Items, NSIDPayload, OpCode, Record, RecordType, ResponseCode,
+};
+use hickory_server::zone_handler::{DnsError, LookupError};
+use std::alloc::{AllocError, Global};
+use std::fmt::Write;
+
+/// Tells of a type.
+fn tell_type(word: &str, out: &mut String) -> Result<(), Fault> {
+    let record_type = match word.parse::<u16>() {
+        Ok(number) => RecordType::new(number),
+        Err(_) => word.parse::<RecordType>()?,
+    };
+    writeln!(out, "{record_type}, number {}", record_type.value())?;
+    Ok(())
+}
+
+/// Tells of a class.
+fn tell_class(word: &str, out: &mut String) -> Result<(), Fault> {
+    let class = match word.parse::<u16>() {
+        Ok(number) => DNSClass::new(number),
+        Err(_) => word.parse::<DNSClass>()?,
+    };
+    writeln!(out, "{class}, number {}", class.value())?;
+    Ok(())
+}
+
+/// The kind of request of a number.
+fn op_code(number: u8) -> Result<OpCode, Fault> {
+    if number < 16 {
+        Ok(OpCode::new(number))
+    } else {
+        Err(Fault::Number)
+    }
+}
+
+/// Tells of a kind of request.
+fn tell_op_code(word: &str, out: &mut String) -> Result<(), Fault> {
+    let code = match word.parse::<u8>() {
+        Ok(number) => op_code(number)?,
+        Err(_) => word.parse::<OpCode>()?,
+    };
+    writeln!(out, "{code}, number {}", code.value())?;
+    Ok(())
+}
+
+/// The response code of a number.
+fn response_code(number: u16) -> Result<ResponseCode, Fault> {
+    if number < 4096 {
+        Ok(ResponseCode::new(number))
+    } else {
+        Err(Fault::Number)
+    }
+}
+
+/// Puts a response code behind a text, with its bits in the OPT record and in the header.
+fn put_status(code: ResponseCode, out: &mut String) -> Result<(), AllocError> {
+    write!(out, "{code}, number {}", code.value())?;
+    writeln!(out, ", high bits {}, low bits {}", code.high(), code.low())
+}
+
+/// Tells of a response code.
+fn tell_status(word: &str, out: &mut String) -> Result<(), Fault> {
+    let code = match word.parse::<u16>() {
+        Ok(number) => response_code(number)?,
+        Err(_) => word.parse::<ResponseCode>()?,
+    };
+    Ok(put_status(code, out)?)
+}
+
+/// Tells of the response code of these high and low bits.
+fn join_status(high: &str, low: &str, out: &mut String) -> Result<(), Fault> {
+    let high = high.parse::<u8>()?;
+    let low = low.parse::<u8>()?;
+    if low >= 16 {
+        return Err(Fault::Number);
+    }
+    Ok(put_status(ResponseCode::from_parts(high, low), out)?)
+}
+
+/// Tells of the identifier of these bytes (RFC 5001).
+fn tell_identifier(bytes: Vec<u8>, out: &mut String) -> Result<(), Fault> {
+    match NSIDPayload::new(bytes) {
+        Ok(identifier) => Ok(writeln!(
+            out,
+            "an identifier of {} bytes",
+            identifier.as_slice().len()
+        )?),
+        Err(e) => put_proto_fault(e, out),
+    }
+}
+
+/// Tells of the identifier of so many zero bytes.
+fn tell_long_identifier(alloc: Global, len: &str, out: &mut String) -> Result<(), Fault> {
+    let len = len.parse::<u32>()?;
+    tell_identifier(vec![in alloc; 0u8; len as usize]?, out)
+}
+
+/// Copies of records.
+fn copies(alloc: Global, records: &[Record]) -> Result<Items<Record>, AllocError> {
+    let mut copies = Items::new(alloc);
+    for record in records {
+        copies.push(record.clone()?)?;
+    }
+    Ok(copies)
+}
+
+/// The first of some records, if there is one.
+fn first(alloc: Global, records: &[Record]) -> Result<Option<Boxed<Record>>, AllocError> {
+    match records.first() {
+        None => Ok(None),
+        Some(record) => Ok(Some(Boxed::new(alloc, record.clone()?)?)),
+    }
+}
+
+/// That there are no records, with the authorities and the SOA of a reply.
+fn no_records(alloc: Global, reply: &Sections, code: ResponseCode) -> Result<LookupError, Fault> {
+    let authorities = copies(alloc, reply.authorities.as_slice())?;
+    Ok(LookupError::Net(DnsError::NoRecords {
+        response_code: code,
+        authorities,
+        soa: first(alloc, reply.soa.as_slice())?,
+    }))
+}
+
+/// The failure of these words.
+fn failure(alloc: Global, reply: &Sections, words: &[&str]) -> Result<LookupError, Fault> {
+    match words {
+        ["code", code] => Ok(LookupError::ResponseCode(code.parse::<ResponseCode>()?)),
+        ["no-records", code] => no_records(alloc, reply, code.parse::<ResponseCode>()?),
+        ["bogus"] => Ok(LookupError::Net(DnsError::DnssecBogus)),
+        ["other"] => Ok(LookupError::Net(DnsError::Other)),
+        ["questions", count] => Ok(LookupError::BadQueryCount(count.parse::<usize>()?)),
+        ["unreadable"] => Ok(LookupError::Io),
+        ["memory"] => Ok(LookupError::Memory),
+        _ => Err(Fault::Usage(
+            "failure code CODE|no-records CODE|bogus|other|questions N|unreadable|memory",
+        )),
+    }
+}
+
+/// A word for yes or no.
+fn yes_or_no(is_so: bool) -> &'static str {
+    if is_so { "yes" } else { "no" }
+}
+
+/// Puts what a failure says behind a text.
+fn put_failure(failure: LookupError, out: &mut String) -> Result<(), AllocError> {
+    let no_name = yes_or_no(failure.is_nx_domain());
+    let no_records = yes_or_no(failure.is_no_records_found());
+    writeln!(
+        out,
+        "the name does not exist: {no_name}, no records: {no_records}"
+    )?;
+    if let Some(authorities) = failure.authorities() {
+        for record in authorities {
+            writeln!(out, "  authority {record}")?;
+        }
+    }
+    match failure.into_soa() {
+        None => Ok(()),
+        Some(soa) => writeln!(out, "  SOA {}", soa.get()),
+    }
+}
+
+/// Obeys a command on codes, and tells whether it is one.
+fn obey_codes(words: &[&str], out: &mut String) -> Result<bool, Fault> {
+    match words {
+        ["type", word] => tell_type(word, out)?,
+        ["class", word] => tell_class(word, out)?,
+        ["opcode", word] => tell_op_code(word, out)?,
+        ["status", word] => tell_status(word, out)?,
+        ["status", high, low] => join_status(high, low, out)?,
+        _ => return Ok(false),
+    }
+    Ok(true)
+}
+
+/// Obeys a command on values, and tells whether it is one.
+pub(crate) fn obey(
+    script: &Script,
+    alloc: Global,
+    words: &[&str],
+    out: &mut String,
+) -> Result<bool, Fault> {
+    match words {
+        ["nsid", "length", len] => tell_long_identifier(alloc, len, out)?,
+        ["nsid", digits @ ..] => tell_identifier(octets(alloc, digits)?, out)?,
+        ["failure", words @ ..] => put_failure(failure(alloc, &script.reply, words)?, out)?,
+        _ => return obey_codes(words, out),
+    }
+    Ok(true)
+}

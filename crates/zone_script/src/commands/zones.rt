@@ -1,0 +1,235 @@
+//! Zones in memory.
+
+use crate::begun::{chain_of, last_begun};
+use crate::fault::Fault;
+use crate::handler::{Handler, Source};
+use crate::open_zone::OpenZone;
+use crate::printing::{print_hex, print_records};
+use crate::script::{Place, Script};
+use crate::text::lower_name;
+use crate::words::octets;
+use hickory_server::proto::{
+    LowerName, Message, MessageType, Metadata, OpCode, Record, ReplyParts, encode_message_parts,
+};
+use hickory_server::store::in_memory::InMemoryZoneHandler;
+use hickory_server::zone_handler::{AxfrPolicy, ZoneHandler, ZoneType};
+use std::alloc::{AllocError, Global};
+use std::fmt::Write;
+
+/// The type of a zone, by a word.
+pub(crate) fn zone_type(word: &str) -> Option<ZoneType> {
+    match word {
+        "primary" => Some(ZoneType::Primary),
+        "secondary" => Some(ZoneType::Secondary),
+        "external" => Some(ZoneType::External),
+        _ => None,
+    }
+}
+
+/// The word for a type of zones.
+pub(crate) fn type_word(zone_type: ZoneType) -> &'static str {
+    match zone_type {
+        ZoneType::Primary => "primary",
+        ZoneType::Secondary => "secondary",
+        ZoneType::External => "external",
+    }
+}
+
+/// Who may have a transfer, by a word.
+fn axfr_policy(word: &str) -> Option<AxfrPolicy> {
+    match word {
+        "deny" => Some(AxfrPolicy::Deny),
+        "allow-all" => Some(AxfrPolicy::AllowAll),
+        "allow-signed" => Some(AxfrPolicy::AllowSigned),
+        _ => None,
+    }
+}
+
+/// The word for a transfer policy.
+fn policy_word(policy: AxfrPolicy) -> &'static str {
+    match policy {
+        AxfrPolicy::Deny => "deny",
+        AxfrPolicy::AllowAll => "allow-all",
+        AxfrPolicy::AllowSigned => "allow-signed",
+    }
+}
+
+const ZONE_USAGE: &str = "zone ORIGIN [primary|secondary|external] [deny|allow-all|allow-signed]";
+
+/// The type and the policy that words name.
+fn zone_words(words: &[&str]) -> Result<(ZoneType, AxfrPolicy), Fault> {
+    let mut kind = ZoneType::Primary;
+    let mut policy = AxfrPolicy::Deny;
+    for word in words {
+        if let Some(named) = zone_type(word) {
+            kind = named;
+        } else if let Some(named) = axfr_policy(word) {
+            policy = named;
+        } else {
+            return Err(Fault::Usage(ZONE_USAGE));
+        }
+    }
+    Ok((kind, policy))
+}
+
+/// Puts the open zone, if there is one, last into the chain.
+pub(crate) fn close(script: &mut Script, alloc: Global) -> Result<(), Fault> {
+    if let Some(zone) = &script.zone {
+        let handler = zone.handler(alloc)?;
+        script.chain.push(handler)?;
+        script.zone = None;
+    }
+    Ok(())
+}
+
+/// Begins a zone.
+fn begin(script: &mut Script, alloc: Global, origin: &str, words: &[&str]) -> Result<(), Fault> {
+    let (zone_type, policy) = zone_words(words)?;
+    let origin = lower_name(alloc, origin)?;
+    close(script, alloc)?;
+    script.zone = Some(OpenZone::new(alloc, origin, zone_type, policy));
+    script.place = Place::Zone;
+    Ok(())
+}
+
+/// Puts a record into the open zone.
+pub(crate) fn put(script: &mut Script, alloc: Global, record: Record) -> Result<(), Fault> {
+    match &mut script.zone {
+        None => Err(Fault::NoZone),
+        Some(zone) => zone.put(alloc, record),
+    }
+}
+
+/// The zone of these records but for an SOA at the end that repeats the first record, as transfers have it (RFC 5936
+/// section 2.2).
+fn zone_of(alloc: Global, origin: LowerName, records: &[Record]) -> Result<OpenZone, Fault> {
+    let records = match records {
+        [first, others @ .., last] if first == last => &records[..records.len() - 1],
+        _ => records,
+    };
+    let mut zone = OpenZone::new(alloc, origin, ZoneType::Primary, AxfrPolicy::Deny);
+    for record in records {
+        zone.put(alloc, record.clone()?)?;
+    }
+    Ok(zone)
+}
+
+/// Begins a zone whose records are the answers of a message.
+fn load(script: &mut Script, alloc: Global, origin: &str, digits: &[&str]) -> Result<(), Fault> {
+    let bytes = octets(alloc, digits)?;
+    let message = Message::read(alloc, &bytes)?;
+    let zone = zone_of(
+        alloc,
+        lower_name(alloc, origin)?,
+        message.answers.as_slice(),
+    )?;
+    close(script, alloc)?;
+    script.zone = Some(zone);
+    script.place = Place::Zone;
+    Ok(())
+}
+
+/// The zone in memory that a handler is.
+fn zone_in(handler: &Handler) -> Result<&InMemoryZoneHandler, Fault> {
+    match &handler.source {
+        Source::Zone(zone) => Ok(zone),
+        _ => Err(Fault::NoZone),
+    }
+}
+
+/// Puts what a zone tells of itself behind a text, as a comment of a zone's text.
+fn print_heading(out: &mut String, zone: &InMemoryZoneHandler) -> Result<(), AllocError> {
+    let kind = type_word(zone.zone_type());
+    let policy = policy_word(zone.axfr_policy());
+    write!(out, "; zone {} {}, {kind}, ", zone.origin(), zone.class())?;
+    writeln!(out, "transfers {policy}, serial {}", zone.serial())
+}
+
+/// Puts a zone behind a text.
+fn print_zone(out: &mut String, zone: &InMemoryZoneHandler) -> Result<(), AllocError> {
+    print_heading(out, zone)?;
+    for (_, set) in zone.records() {
+        print_records(out, set.records())?;
+    }
+    Ok(())
+}
+
+/// Puts the zones of a chain behind a text.
+fn print_zones(out: &mut String, chain: &[Handler]) -> Result<(), Fault> {
+    for handler in chain {
+        print_zone(out, zone_in(handler)?)?;
+    }
+    Ok(())
+}
+
+/// The records of a zone, in the order of its sets.
+fn records_of<'z>(
+    alloc: Global,
+    zone: &'z InMemoryZoneHandler,
+) -> Result<Vec<&'z Record>, AllocError> {
+    let mut all = Vec::new(alloc);
+    for (_, set) in zone.records() {
+        all.extend(set.records())?;
+    }
+    Ok(all)
+}
+
+/// The bytes of an authoritative message whose answers are these.
+fn message_of(alloc: Global, answers: &[&Record]) -> Result<Vec<u8>, Fault> {
+    let nothing: &[Record] = &[];
+    let mut metadata = Metadata::new(0, MessageType::Response, OpCode::QUERY);
+    metadata.authoritative = true;
+    let parts = ReplyParts {
+        metadata,
+        question: &[],
+        question_count: 0,
+        edns: None,
+        answers: answers.iter().copied(),
+        authorities: nothing.iter(),
+        soa: nothing.iter(),
+        additionals: nothing.iter(),
+        signature: None,
+    };
+    let (_, bytes) = encode_message_parts(alloc, u16::MAX, parts)?;
+    Ok(bytes)
+}
+
+/// Puts a zone as a message behind a text.
+fn print_zone_message(
+    alloc: Global,
+    out: &mut String,
+    zone: &InMemoryZoneHandler,
+) -> Result<(), Fault> {
+    let records = records_of(alloc, zone)?;
+    let bytes = message_of(alloc, &records)?;
+    Ok(print_hex(alloc, out, &bytes)?)
+}
+
+/// Tells of the zone last begun.
+fn tell(script: &Script, alloc: Global, what: &str, out: &mut String) -> Result<(), Fault> {
+    let begun = last_begun(script, alloc)?;
+    let zone = zone_in(begun.handler())?;
+    match what {
+        "show" => Ok(print_zone(out, zone)?),
+        "serial" => Ok(writeln!(out, "{}", zone.serial())?),
+        _ => print_zone_message(alloc, out, zone),
+    }
+}
+
+/// Obeys a command on zones, and tells whether it is one.
+pub(crate) fn obey(
+    script: &mut Script,
+    alloc: Global,
+    words: &[&str],
+    out: &mut String,
+) -> Result<bool, Fault> {
+    match words {
+        ["zone", origin, words @ ..] => begin(script, alloc, origin, words)?,
+        ["zone"] => return Err(Fault::Usage(ZONE_USAGE)),
+        ["load", origin, digits @ ..] => load(script, alloc, origin, digits)?,
+        ["show", apex] => print_zones(out, chain_of(script, alloc, apex)?)?,
+        [what @ ("show" | "serial" | "message")] => tell(script, alloc, what, out)?,
+        _ => return Ok(false),
+    }
+    Ok(true)
+}

@@ -1,0 +1,81 @@
+//! Tries zones, lists of blocked names, access lists and queries from a script: `zone_script` reads commands from the
+//! standard input, one a line, and prints the answer of each.
+//!
+//! The status is 0 where all lines were obeyed, 1 where some was not, 2 where there are arguments, 3 where memory was
+//! refused, and 4 where reading or printing failed.
+#![tactic(auto)]
+
+mod asked;
+mod begun;
+mod calls;
+mod commands;
+mod draft;
+mod fault;
+mod handler;
+mod open_zone;
+mod part;
+mod printing;
+mod question;
+mod reading;
+mod script;
+mod sections;
+mod settings;
+mod signer;
+mod text;
+mod words;
+mod writing;
+
+use crate::fault::Fault;
+use crate::script::Script;
+use std::alloc::Global;
+use std::io::{BufRead, BufReader};
+use std::process::ExitCode;
+use std::rt::Env;
+use std::{env, io};
+
+/// Obeys the script of the standard input, and tells whether each line was obeyed.
+fn obey_input<R: Input + Print + Alloc<A = Global>>(rt: &R) -> Result<bool, Fault> {
+    let alloc = rt.alloc();
+    let mut script = Script::new(alloc)?;
+    for line in BufReader::new(alloc, rt.reader())?.lines(alloc) {
+        let said = script.said(alloc, line)?;
+        print!(rt; "{said}")?;
+    }
+    Ok(script.is_obeyed())
+}
+
+/// Whether the program was given arguments.
+fn has_arguments<R: Env + Alloc>(rt: &R) -> io::Result<bool> {
+    Ok(env::args(rt)?.len() > 1)
+}
+
+/// Prints a line that tells why the script ends, and gives the status.
+fn tell<R: Print>(rt: &R, line: &str, status: u8) -> u8 {
+    match println!(rt; "{line}") {
+        Ok(()) => status,
+        Err(_) => 4,
+    }
+}
+
+/// The status of a script that ended so.
+fn status<R: Print>(rt: &R, ended: &Result<bool, Fault>) -> u8 {
+    match ended {
+        Ok(true) => 0,
+        Ok(false) => 1,
+        Err(Fault::Memory) => tell(rt, "no memory", 3),
+        Err(_) => 4,
+    }
+}
+
+/// Runs the program, and gives its status.
+fn run<R: Env + Input + Print + Alloc<A = Global>>(rt: &R) -> u8 {
+    match has_arguments(rt) {
+        Ok(false) => status(rt, &obey_input(rt)),
+        Ok(true) => tell(rt, "usage: zone_script < SCRIPT", 2),
+        Err(_) => tell(rt, "no memory", 3),
+    }
+}
+
+fn main(rt: HostRuntime) -> ExitCode {
+    ExitCode::from(run(&rt))
+}

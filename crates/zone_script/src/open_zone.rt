@@ -1,0 +1,131 @@
+//! A zone in memory while its records are given.
+
+use crate::fault::Fault;
+use crate::handler::{Handler, Source};
+use hickory_server::proto::{LowerName, RData, Record, RecordType};
+use hickory_server::store::in_memory::{InMemoryZoneHandler, RecordSet, RrKey};
+use hickory_server::zone_handler::{AxfrPolicy, ZoneType};
+use std::alloc::{AllocError, Global};
+use std::collections::BTreeMap;
+use std::rc::Rc;
+
+/// A zone in memory while its records are given.
+#[derive(Drop)]
+pub(crate) struct OpenZone {
+    origin: LowerName,
+    zone_type: ZoneType,
+    axfr_policy: AxfrPolicy,
+    // In the order in which they were given.
+    sets: BTreeMap<RrKey, Vec<Record>>,
+}
+
+/// Whether a record has the data of an SOA if it is of that type.
+fn is_well_typed(record: &Record) -> bool {
+    match &record.rdata {
+        RData::SOA(_) => true,
+        other => other.record_type() != RecordType::SOA,
+    }
+}
+
+/// The set of copies of these records.
+fn set_of(alloc: Global, records: &[Record]) -> Result<RecordSet, Fault> {
+    let mut copies = Vec::new(alloc);
+    for record in records {
+        copies.push(record.clone()?)?;
+    }
+    if RecordSet::accepts(&copies) {
+        Ok(RecordSet::new(copies))
+    } else {
+        Err(Fault::NotAZone)
+    }
+}
+
+/// Puts a copy of a set into a map.
+fn put_set(
+    alloc: Global,
+    sets: &mut BTreeMap<RrKey, Rc<RecordSet>>,
+    key: &RrKey,
+    records: &[Record],
+) -> Result<(), Fault> {
+    let set = Rc::new(alloc, set_of(alloc, records)?)?;
+    sets.insert(RrKey::new(key.name.clone()?, key.record_type), set)?;
+    Ok(())
+}
+
+/// The key that a record belongs under.
+fn key_of(alloc: Global, record: &Record) -> Result<RrKey, AllocError> {
+    let name = LowerName::new(alloc, &record.name)?;
+    Ok(RrKey::new(name, record.rdata.record_type()))
+}
+
+impl OpenZone {
+    /// A zone without records.
+    pub(crate) fn new(
+        alloc: Global,
+        origin: LowerName,
+        zone_type: ZoneType,
+        axfr_policy: AxfrPolicy,
+    ) -> OpenZone {
+        OpenZone {
+            origin,
+            zone_type,
+            axfr_policy,
+            sets: BTreeMap::new(alloc),
+        }
+    }
+
+    /// Whether a record may stand in the zone, beside those that are there already.
+    fn judge(&self, record: &Record, key: &RrKey) -> Result<(), Fault> {
+        if !self.origin.as_name().zone_of(&record.name) {
+            return Err(Fault::Outside);
+        }
+        if !is_well_typed(record) {
+            return Err(Fault::NoSoaData);
+        }
+        match self.sets.get(key) {
+            Some(set) if set.contains(record) => Err(Fault::Twice),
+            _ => Ok(()),
+        }
+    }
+
+    /// Puts a record last into the set of its name and type.
+    pub(crate) fn put(&mut self, alloc: Global, record: Record) -> Result<(), Fault> {
+        let key = key_of(alloc, &record)?;
+        self.judge(&record, &key)?;
+        let set = self.sets.entry(key)?.or_insert(Vec::new(alloc));
+        set.push(record)?;
+        Ok(())
+    }
+
+    /// The sets as a zone in memory has them.
+    fn record_sets(&self, alloc: Global) -> Result<BTreeMap<RrKey, Rc<RecordSet>>, Fault> {
+        let mut sets = BTreeMap::new(alloc);
+        for (key, records) in &self.sets {
+            put_set(alloc, &mut sets, key, records.as_slice())?;
+        }
+        Ok(sets)
+    }
+
+    /// The zone with copies of these records.
+    pub(crate) fn zone(&self, alloc: Global) -> Result<InMemoryZoneHandler, Fault> {
+        let sets = self.record_sets(alloc)?;
+        if !InMemoryZoneHandler::accepts(&sets) {
+            return Err(Fault::NotAZone);
+        }
+        let origin = self.origin.clone()?;
+        Ok(InMemoryZoneHandler::new(origin, sets, self.zone_type, self.axfr_policy))
+    }
+
+    /// The handler of the zone with copies of these records.
+    pub(crate) fn handler(&self, alloc: Global) -> Result<Handler, Fault> {
+        let source = Source::Zone(self.zone(alloc)?);
+        Ok(Handler {
+            zone_type: self.zone_type,
+            axfr_policy: self.axfr_policy,
+            origin: self.origin.clone()?,
+            validates: false,
+            proof_kind: None,
+            source,
+        })
+    }
+}
