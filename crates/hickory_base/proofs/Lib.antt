@@ -1,5 +1,6 @@
 pub mod Boxes
 pub mod KeyOrder
+pub mod NetworkText
 pub mod Networks
 pub mod QuestionPlaces
 pub mod RecordSlices

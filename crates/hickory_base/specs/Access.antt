@@ -2,7 +2,7 @@
 --
 -- A set of networks is held as a list. Only what the list contains matters, in no definition its order or how often a
 -- network stands in it.
-use Rattle.std.specs.Prelude.{◌≡◌, ℕ, ◌/◌, ◌%◌, ◌-◌, ◌^◌, ◌<◌, ◌≤◌, ◌↔◌, ◌⊎◌, ◌==◌, if◌then◌else◌, List, length, take, Option, Some, None, Any, All, Contains}
+use Rattle.std.specs.Prelude.{◌≡◌, ℕ, ◌*◌, ◌/◌, ◌%◌, ◌-◌, ◌^◌, ◌<◌, ◌≤◌, ◌↔◌, ◌⊎◌, ◌==◌, if◌then◌else◌, List, length, take, Option, Some, None, Any, All, Contains}
 use Rattle.std.specs.Net.Addr.{ipv4_bits, ipv6_bits, ipv6_segments, embedded_segments, IsIpv4Addr}
 use Rattle.std.specs.declared.net.ipv4_addr.Ipv4Addr.{Ipv4Addr}
 use Rattle.std.specs.declared.net.ipv6_addr.Ipv6Addr.{Ipv6Addr}
@@ -45,6 +45,13 @@ pub record Network : Type 0 where
 -- the network of this prefix length that the address lies in
 abbrev pub network_of : Address → ℕ → Network
 network_of address count = record { family = address.family; prefix_length = count; prefix = first_bits address count }
+
+-- the first address of the network: its prefix, and behind it zero bits
+abbrev pub first_address : Network → Address
+first_address network = record {
+  family = network.family;
+  bits = network.prefix * 2 ^ (width network.family - network.prefix_length);
+}
 
 -- the address lies in the network: it is of the network's family, and begins with the network's prefix
 pub record Matches (address : Address) (network : Network) : Type 0 where

@@ -3,13 +3,16 @@
 //! The longest network that an address matches decides, as in routing. Between a denied and an allowed network of one
 //! length the denied one wins.
 
-ghost use Rattle.std.specs.Prelude.{◌≡◌, ◌≤◌, ◌↔◌, List, Contains, IsTrue, OnOk, OnErr};
+ghost use Rattle.std.specs.Prelude.{◌≡◌, ◌≤◌, ◌<◌, ◌^◌, ◌↔◌, List, Contains, IsTrue, OnOk, OnErr};
 ghost use Rattle.std.specs.Option.{SomeIff};
-ghost use Rattle.hickory_base.specs.Access.{Network, AccessSets, width, address_of, canonical, first_bits, network_of, Matches, IsLongestMatch, HasFamily, IsAllowed, Inserts, InsertsFirst, SameNetworks, MappedFormIsAllowedAlike, OnlyMembersDecide};
+ghost use Rattle.hickory_base.specs.Access.{Network, AccessSets, width, address_of, canonical, first_bits, network_of, first_address, Matches, IsLongestMatch, HasFamily, IsAllowed, Inserts, InsertsFirst, SameNetworks, MappedFormIsAllowedAlike, OnlyMembersDecide};
+
+mod text;
 
 use std::alloc::{AllocError, Global};
 use std::marker::Model;
-use std::net::IpAddr;
+use std::net::{IpAddr, Ipv4Addr, Ipv6Addr};
+pub use text::IpNetTextError;
 
 /// The 96 bits before the IPv4 address in an IPv4-mapped IPv6 address (RFC 4291, section 2.5.5.2).
 const IPV4_MAPPED_PREFIX: u128 = 0xffff;
@@ -42,7 +45,8 @@ struct Address {
 
 impl Address {
     fn new(address: IpAddr) -> Self
-        ensures { result ≡ address_of address }
+        ensures value { result ≡ address_of address }
+        ensures fits { result.bits < 2 ^ width result.family }
     {
         match address {
             IpAddr::V4(address) => Address {
@@ -70,6 +74,17 @@ impl Address {
         }
     }
 
+    /// The address as it is written.
+    fn written(self) -> IpAddr
+        requires { self.bits < 2 ^ width self.family }
+        ensures { address_of result ≡ self }
+    {
+        match self.family {
+            Family::Ipv4 => IpAddr::V4(Ipv4Addr::from_bits(self.bits as u32)),
+            Family::Ipv6 => IpAddr::V6(Ipv6Addr::from_bits(self.bits)),
+        }
+    }
+
     /// The first `count` bits, as a number.
     fn first_bits(self, count: u8) -> u128
         requires { count ≤ width self.family }
@@ -77,6 +92,16 @@ impl Address {
     {
         let dropped = u32::from(self.family.width() - count);
         self.bits.checked_shr(dropped).unwrap_or(0)
+    }
+
+    /// The prefix of this length, a number of so many bits.
+    fn prefix(self, count: u8) -> u128
+        requires count { count ≤ width self.family }
+        requires bits { self.bits < 2 ^ width self.family }
+        ensures value { result ≡ first_bits self count }
+        ensures fits { result < 2 ^ count }
+    {
+        self.first_bits(count)
     }
 }
 
@@ -95,7 +120,7 @@ impl Model for IpNet {
 
     ghost view = { λ n. record { family = n.family; prefix_length = n.prefix_length; prefix = n.prefix } };
 
-    ghost invariant = { λ n. n.prefix_length ≤ width n.family };
+    ghost invariant = { λ n. (n.prefix_length ≤ width n.family) × (n.prefix < 2 ^ n.prefix_length) };
 
     ghost inverse = { λ n. record { family = n.family; prefix_length = n.prefix_length; prefix = n.prefix } };
 }
@@ -116,8 +141,28 @@ impl IpNet {
         Some(IpNet {
             family: address.family,
             prefix_length,
-            prefix: address.first_bits(prefix_length),
+            prefix: address.prefix(prefix_length),
         })
+    }
+
+    /// The first address of the network: its prefix, and behind it zero bits.
+    pub fn address(&self) -> IpAddr
+        ensures first { address_of result ≡ first_address self.now }
+        ensures lies { network_of (address_of result) self.now.prefix_length ≡ self.now }
+    {
+        let behind = u32::from(self.family.width() - self.prefix_length);
+        Address {
+            family: self.family,
+            bits: self.prefix.checked_shl(behind).unwrap_or(0),
+        }
+        .written()
+    }
+
+    /// How many bits the prefix has: at most 32 for IPv4, and 128 for IPv6.
+    pub fn prefix_len(&self) -> u8
+        ensures { result ≡ self.now.prefix_length }
+    {
+        self.prefix_length
     }
 
     fn matches(&self, address: Address) -> bool

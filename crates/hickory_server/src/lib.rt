@@ -2,6 +2,7 @@
 #![tactic(auto)]
 
 pub use hickory_base::access;
+pub use hickory_text as zone_text;
 pub use hickory_wire as proto;
 
 #[cfg(test)]

@@ -45,6 +45,7 @@ pub mod Stable
 pub mod Stands
 pub mod StringSteps
 pub mod StringsRead
+mod TextForm
 pub mod TextFaults
 pub mod TsigFaults
 pub mod WholeLists

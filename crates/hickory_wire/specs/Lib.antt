@@ -36,3 +36,4 @@ pub mod WholeReply
 pub mod Worked
 pub mod WorkedReplies
 pub mod Writing
+pub mod TextForm

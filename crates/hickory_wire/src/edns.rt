@@ -14,7 +14,7 @@ use std::alloc::{AllocError, Global};
 use std::marker::Model;
 
 /// An option of an OPT record (RFC 6891 section 6.1.2).
-#[derive(Drop, PartialEq, Eq)]
+#[derive(Debug, Drop, PartialEq, Eq)]
 pub struct EdnsOption {
     /// The option's number.
     pub code: u16,
@@ -39,7 +39,7 @@ impl Clone for EdnsOption {
 }
 
 /// What an OPT record says of its message (RFC 6891 section 6.1).
-#[derive(Drop)]
+#[derive(Debug, Drop)]
 pub struct Edns {
     max_payload: u16,
     rcode_high: u8,

@@ -10,11 +10,11 @@ use std::marker::Model;
 /// The most bytes that a name has in wire form, with its end byte (RFC 1035, section 2.3.4).
 pub(crate) const MAX_NAME_LEN: usize = 255;
 
-/// Labels in wire form, in an array on the stack.
+/// The labels of a name that is being made, one put behind the other; each may hold any bytes.
 ///
-/// It takes some 260 bytes: keep it a local variable.
+/// It takes some 260 bytes on the stack and no memory beside: keep it a local variable.
 #[derive(Drop)]
-pub(crate) struct Labels {
+pub struct Labels {
     bytes: [u8; MAX_NAME_LEN],
     len: usize,
 }
@@ -31,8 +31,8 @@ impl Model for Labels {
 }
 
 impl Labels {
-    /// No labels.
-    pub(crate) fn new() -> Labels
+    /// No labels. It needs no memory.
+    pub fn new() -> Labels
         ensures { result ≡ [] }
     {
         Labels {
@@ -41,16 +41,18 @@ impl Labels {
         }
     }
 
-    /// How many bytes they take in wire form, without the end byte.
-    pub(crate) fn wire_len(&self) -> usize
+    /// How many bytes they take in wire form, without the end byte (RFC 1035, section 3.1): one more than it has bytes for each
+    /// label.
+    pub fn wire_len(&self) -> usize
         ensures size { result ≡ length (wire_form self.now) }
         ensures small { result < 255 }
     {
         self.len
     }
 
-    /// Puts a label behind the others.
-    pub(crate) fn push(&mut self, label: &[u8])
+    /// Puts a label behind the others. It has 1 to 63 bytes, and with it the name has at most 255 in wire form, its end byte
+    /// counted (RFC 1035, section 2.3.4): `wire_len` tells what is taken already.
+    pub fn push(&mut self, label: &[u8])
         requires label { IsLabel label.now }
         requires fits { length (wire_form self.old) + 1 + length label.now < 255 }
         ensures { self.new ≡ self.old ++ label.now ∷ [] }
@@ -61,8 +63,8 @@ impl Labels {
         self.len = start + label.len();
     }
 
-    /// The name of these labels.
-    pub(crate) fn to_name(&self, alloc: Global, is_fqdn: bool) -> Result<Name, AllocError>
+    /// The name of these labels, fully qualified or not.
+    pub fn to_name(&self, alloc: Global, is_fqdn: bool) -> Result<Name, AllocError>
         ensures { IfOk result (λ name. name ≡ record { labels = self.now; is_fqdn = is_fqdn }) }
     {
         Name::from_wire(alloc, &self.bytes[..self.len], is_fqdn)

@@ -9,7 +9,7 @@ use crate::record::Record;
 use crate::tsig::TSIG;
 
 /// A message (RFC 1035 section 4.1), with its OPT and TSIG records taken out of the additional section.
-#[derive(Drop)]
+#[derive(Debug, Drop)]
 pub struct Message {
     /// The header but for its counts, with the response code joined of header and OPT record.
     pub metadata: Metadata,

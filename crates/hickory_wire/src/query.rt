@@ -15,7 +15,7 @@ use std::marker::Model;
 /// A question: what is asked of a name (RFC 1035 section 4.1.2).
 ///
 /// Equal are questions of one name in any letter case, one type and one class.
-#[derive(Drop, PartialEq, Eq)]
+#[derive(Debug, Drop, PartialEq, Eq)]
 pub struct Query {
     /// The name asked about.
     pub name: Name,
@@ -40,7 +40,7 @@ impl Clone for Query {
 /// A question with its name in lower case beside the name as it was sent.
 ///
 /// A contract sees the question as it was sent.
-#[derive(Drop)]
+#[derive(Debug, Drop)]
 pub struct LowerQuery {
     original: Query,
     name: LowerName,

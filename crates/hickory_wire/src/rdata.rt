@@ -13,7 +13,7 @@ use std::alloc::AllocError;
 use std::net::{Ipv4Addr, Ipv6Addr};
 
 /// The start of a zone of authority (RFC 1035 section 3.3.13).
-#[derive(Drop, PartialEq, Eq)]
+#[derive(Debug, Drop, PartialEq, Eq)]
 pub struct SOA {
     /// The name of the primary server.
     pub mname: Name,
@@ -48,7 +48,7 @@ impl Clone for SOA {
 }
 
 /// A mail exchange (RFC 1035 section 3.3.9).
-#[derive(Drop, PartialEq, Eq)]
+#[derive(Debug, Drop, PartialEq, Eq)]
 pub struct MX {
     /// The lower, the sooner it is tried.
     pub preference: u16,
@@ -70,7 +70,7 @@ impl Clone for MX {
 /// The data of a record, with their type.
 ///
 /// Equal are data of one variant with equal fields, names in any letter case.
-#[derive(Drop, PartialEq, Eq)]
+#[derive(Debug, Drop, PartialEq, Eq)]
 pub enum RData {
     /// Type 1, an IPv4 address.
     A(Ipv4Addr),

@@ -7,7 +7,7 @@ use crate::octets::Octets;
 use std::alloc::AllocError;
 
 /// The data of a TSIG record (RFC 8945 section 4.2).
-#[derive(Drop, PartialEq, Eq)]
+#[derive(Debug, Drop, PartialEq, Eq)]
 pub struct TSIG {
     /// The name of the algorithm.
     pub algorithm: Name,
@@ -49,7 +49,7 @@ pub enum TsigError {
 }
 
 /// How a request's signature was judged, as the signer of its reply has to know it.
-#[derive(Drop, PartialEq, Eq)]
+#[derive(Debug, Drop, PartialEq, Eq)]
 pub enum TSigResponseKind {
     /// The server has no key of that name.
     UnknownKey,
@@ -65,7 +65,7 @@ pub enum TSigResponseKind {
 }
 
 /// What the signer of a reply has to know (RFC 8945 section 5.3).
-#[derive(Drop, PartialEq, Eq)]
+#[derive(Debug, Drop, PartialEq, Eq)]
 pub struct TSigResponseContext {
     /// The request's id.
     pub request_id: u16,

@@ -34,6 +34,14 @@ pub trait ListReader {
 
 /// A reader of std as a reader of lists: it counts the failures of the reader inside.
 ///
+/// It takes a reader over, and [`into_inner`](CountedReader::into_inner) gives it back; or it borrows one, which the caller keeps:
+///
+/// ```text
+/// let mut list = CountedReader::new(&mut reader);
+/// handler.add(&mut list)?;
+/// let failures = list.failures();
+/// ```
+///
 /// A contract sees the reader inside and the count.
 #[derive(Drop)]
 pub struct CountedReader<R> {
@@ -58,6 +66,23 @@ impl<R: Read> CountedReader<R> {
             reader,
             failures: 0,
         }
+    }
+}
+
+impl<R> CountedReader<R> {
+    /// How many times the reader has failed; the count begins again at 0 after 2^64 - 1.
+    pub fn failures(&self) -> u64
+        ensures { result ≡ self.now.failures }
+    {
+        self.failures
+    }
+
+    /// The reader inside, at the place where it was left.
+    pub fn into_inner(self) -> R
+        ensures { result ≡ self.reader }
+    {
+        let CountedReader { reader, .. } = self;
+        reader
     }
 }
 

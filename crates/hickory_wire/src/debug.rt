@@ -1,0 +1,57 @@
+//! Values as programmers see them.
+
+use crate::boxed::Boxed;
+use crate::items::Items;
+use crate::lower_name::LowerName;
+use crate::name::Name;
+use crate::octets::Octets;
+use crate::record::Record;
+use std::fmt;
+
+/// The text of the name, in quotes.
+impl fmt::Debug for Name {
+    fn fmt<W: fmt::Write>(&self, f: &mut fmt::Formatter<W>) -> fmt::Result {
+        write!(f, "\"{self}\"")
+    }
+}
+
+/// The text of the name, in quotes.
+impl fmt::Debug for LowerName {
+    fn fmt<W: fmt::Write>(&self, f: &mut fmt::Formatter<W>) -> fmt::Result {
+        write!(f, "\"{self}\"")
+    }
+}
+
+/// The bytes as hexadecimal digits, in quotes.
+impl fmt::Debug for Octets {
+    fn fmt<W: fmt::Write>(&self, f: &mut fmt::Formatter<W>) -> fmt::Result {
+        write!(f, "\"{self}\"")
+    }
+}
+
+/// The values in square brackets.
+impl<T: fmt::Debug> fmt::Debug for Items<T> {
+    fn fmt<W: fmt::Write>(&self, f: &mut fmt::Formatter<W>) -> fmt::Result {
+        self.as_slice().fmt(f)
+    }
+}
+
+/// The value, wherever it lies.
+impl<T: fmt::Debug> fmt::Debug for Boxed<T> {
+    fn fmt<W: fmt::Write>(&self, f: &mut fmt::Formatter<W>) -> fmt::Result {
+        self.get().fmt(f)
+    }
+}
+
+/// All fields, as a derived form has them.
+impl<R: fmt::Debug> fmt::Debug for Record<R> {
+    fn fmt<W: fmt::Write>(&self, f: &mut fmt::Formatter<W>) -> fmt::Result {
+        f.debug_struct("Record")
+            .field("name", &self.name)
+            .field("dns_class", &self.dns_class)
+            .field("ttl", &self.ttl)
+            .field("rdata", &self.rdata)
+            .field("proof", &self.proof)
+            .finish()
+    }
+}
