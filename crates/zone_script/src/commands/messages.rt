@@ -128,16 +128,18 @@ fn has_equal_copies(message: &Message) -> Result<bool, AllocError> {
     )
 }
 
+/// How many of some records equal this one.
+fn count_equal(record: &Record, others: &[Record]) -> usize {
+    others.iter().filter(|other| **other == *record).count()
+}
+
 /// How many pairs of a list of records are equal.
 fn count_equal_pairs(records: &[Record]) -> usize {
-    let mut rest = records;
-    let mut count = 0usize;
-    while let [first, others @ ..] = rest {
-        let equal = others.iter().filter(|other| **other == *first).count();
-        count = count.saturating_add(equal);
-        rest = others;
+    let mut pairs = 0usize;
+    for (place, record) in records.iter().enumerate() {
+        pairs = pairs.saturating_add(count_equal(record, &records[..place]));
     }
-    count
+    pairs
 }
 
 /// Tells how what a message is made of compares with its copies, and its answers with each other.
