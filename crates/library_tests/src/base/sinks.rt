@@ -8,7 +8,7 @@ ghost use Rattle.hickory_wire.specs.ReplyParts.{ReplyEncoded};
 ghost use Rattle.hickory_wire.specs.declared.protocol.Protocol.TheVariants as protocol;
 ghost use Rattle.hickory_base.specs.Responses.{GivesBy, IsReplyOf};
 
-use crate::fixtures::{QUERY, request};
+use crate::base::fixtures::{QUERY, request};
 use hickory_base::errors::CatalogError;
 use hickory_base::message_request::Queries;
 use hickory_base::message_response::{MessageResponse, MessageResponseBuilder, ResponseInfo};

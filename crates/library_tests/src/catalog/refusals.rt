@@ -1,7 +1,7 @@
 //! Each growth refused in turn: the only other answer is want of memory, and what was given is handed back.
 
-use crate::signers::Scripted;
-use crate::sinks::request;
+use super::signers::Scripted;
+use super::sinks::request;
 use hickory_base::encoding_sink::EncodingSink;
 use hickory_base::errors::CatalogError;
 use hickory_base::server::RequestHandler;

@@ -1,5 +1,5 @@
 use Rattle.std.proofs.Common.{◌≡◌, map}
-use Rattle.base_tests.proofs.sinks.copies.Given as goal
+use Rattle.library_tests.proofs.base.sinks.copies.Given as goal
 
 abbrev pub invariant-records : goal.invariant-records
 invariant-records g l =

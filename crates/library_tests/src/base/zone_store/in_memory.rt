@@ -1,7 +1,7 @@
 //! Zones in memory: sets that take the place of all others, and updates, which are not made yet.
 
 use super::fixtures::{PLAIN, lower, word};
-use crate::fixtures::{QUERY, request};
+use crate::base::fixtures::{QUERY, request};
 use hickory_base::errors::UpdateFault;
 use hickory_base::server::Request;
 use hickory_base::zone_store::{

@@ -2,7 +2,7 @@
 
 ghost use Rattle.std.specs.Prelude.{◌≡◌, ◌+◌, ◌%◌, ◌^◌};
 
-use crate::signers::Scripted;
+use super::signers::Scripted;
 use hickory_base::message_response::MessageResponse;
 use hickory_base::server::{
     RecordRef, Request, RequestHandler, ResponseHandler, ResponseInfo, encode_response,

@@ -5,7 +5,7 @@ ghost use Rattle.hickory_base.specs.declared.zone_store.handler.AxfrPolicy.TheVa
 ghost use Rattle.hickory_base.specs.declared.zone_store.handler.ZoneType.TheVariants.{External};
 
 use super::fixtures::{PLAIN, denials, lower, word};
-use crate::fixtures::{QUERY, request};
+use crate::base::fixtures::{QUERY, request};
 use hickory_base::errors::{LookupError, UpdateFault};
 use hickory_base::server::{Request, RequestInfo};
 use hickory_base::zone_store::{

@@ -1,5 +1,5 @@
 use Rattle.std.proofs.Common.{rules, inl}
-use Rattle.catalog_tests.proofs.sinks.SinkResponseHandler.send_response.Goals as goal
+use Rattle.library_tests.proofs.catalog.sinks.SinkResponseHandler.send_response.Goals as goal
 
 pub returns-clause-ok : goal.returns-clause-ok
 returns-clause-ok g c =
