@@ -9,17 +9,8 @@ use std::net::{IpAddr, Ipv4Addr, SocketAddr};
 pub(crate) const QUERY: [u8; 33] =
     *b"\x12\x34\x01\x00\x00\x01\x00\x00\x00\x00\x00\x00\x03www\x07example\x03com\x00\x00\x01\x00\x01";
 
-/// Where requests come from.
-pub(crate) fn source() -> SocketAddr {
-    SocketAddr::new(IpAddr::V4(Ipv4Addr::LOCALHOST), 3000)
-}
-
-/// The request of these bytes over a transport.
-pub(crate) fn read(alloc: Global, bytes: &[u8], protocol: Protocol) -> Result<Request, ProtoError> {
-    Request::from_bytes(alloc, Vec::from_slice(alloc, bytes)?, source(), protocol)
-}
-
-/// The request of these bytes over UDP.
+/// The request of these bytes, over UDP.
 pub(crate) fn request(alloc: Global, bytes: &[u8]) -> Result<Request, ProtoError> {
-    read(alloc, bytes, Protocol::Udp)
+    let source = SocketAddr::new(IpAddr::V4(Ipv4Addr::LOCALHOST), 3000);
+    Request::from_bytes(alloc, Vec::from_slice(alloc, bytes)?, source, Protocol::Udp)
 }

@@ -1,9 +1,5 @@
-//! Zones from a few lines of text, and what they are asked.
+//! Boxed handlers, and what no script says of a zone in memory.
 
-mod answers;
+mod boxed;
 mod fixtures;
-mod flows;
-mod refusals;
-mod scripted;
-mod sets;
-mod transfers;
+mod in_memory;

@@ -1,9 +1,9 @@
-//! Tests of the catalog: requests, zones, and chains of scripted handlers.
+//! Tests of the catalog that no script can say: sinks that fail, boxed handlers where memory is refused, signers.
 #![tactic(auto)]
 
 #[cfg(test)]
-mod lookups;
+mod refusals;
 #[cfg(test)]
-mod requests;
+mod signers;
 #[cfg(test)]
-mod zones;
+mod sinks;

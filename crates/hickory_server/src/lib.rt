@@ -7,6 +7,4 @@ pub use hickory_wire as proto;
 
 pub mod server;
 pub mod store;
-#[cfg(test)]
-mod tests;
 pub mod zone_handler;

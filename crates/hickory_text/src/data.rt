@@ -1,5 +1,8 @@
 //! The data of records in text.
 
+ghost use Rattle.std.specs.Prelude.{◌≡◌, IfOk};
+ghost use Rattle.hickory_wire.specs.RecordData.{type_of};
+
 use crate::error::{TextError, TextFault};
 use crate::escapes::{MAX_STRING_LEN, read_string};
 use crate::generic::read_generic;
@@ -38,7 +41,9 @@ fn number_u32(words: &mut Words<'_>) -> Result<u32, TextError> {
 }
 
 /// A mail exchange.
-fn mail_exchange(alloc: Global, words: &mut Words<'_>) -> Result<RData, TextError> {
+fn mail_exchange(alloc: Global, words: &mut Words<'_>) -> Result<RData, TextError>
+    ensures { IfOk result (λ rdata. type_of rdata ≡ 15) }
+{
     let preference = number_u16(words)?;
     let exchange = next_name(alloc, words)?;
     Ok(RData::MX(MX {
@@ -48,7 +53,9 @@ fn mail_exchange(alloc: Global, words: &mut Words<'_>) -> Result<RData, TextErro
 }
 
 /// The start of a zone.
-fn start_of_authority(alloc: Global, words: &mut Words<'_>) -> Result<RData, TextError> {
+fn start_of_authority(alloc: Global, words: &mut Words<'_>) -> Result<RData, TextError>
+    ensures { IfOk result (λ rdata. type_of rdata ≡ 6) }
+{
     let mname = next_name(alloc, words)?;
     let rname = next_name(alloc, words)?;
     let serial = number_u32(words)?;
@@ -76,7 +83,9 @@ fn string(alloc: Global, word: &Word<'_>) -> Result<Octets, TextError> {
 }
 
 /// Character strings to the end of the line, at least one.
-fn strings(alloc: Global, words: &mut Words<'_>) -> Result<RData, TextError> {
+fn strings(alloc: Global, words: &mut Words<'_>) -> Result<RData, TextError>
+    ensures { IfOk result (λ rdata. type_of rdata ≡ 16) }
+{
     let mut strings = Items::new(alloc);
     let first = words.field()?;
     strings.push(string(alloc, &first)?)?;
@@ -87,7 +96,9 @@ fn strings(alloc: Global, words: &mut Words<'_>) -> Result<RData, TextError> {
 }
 
 /// Data in the form of their type.
-fn form(alloc: Global, record_type: RecordType, words: &mut Words<'_>) -> Result<RData, TextError> {
+fn form(alloc: Global, record_type: RecordType, words: &mut Words<'_>) -> Result<RData, TextError>
+    ensures { IfOk result (λ rdata. type_of rdata ≡ record_type) }
+{
     match record_type {
         RecordType::A => Ok(RData::A(ipv4(words)?)),
         RecordType::AAAA => Ok(RData::AAAA(ipv6(words)?)),
@@ -106,7 +117,9 @@ pub(crate) fn data_of(
     alloc: Global,
     record_type: RecordType,
     words: &mut Words<'_>,
-) -> Result<RData, TextError> {
+) -> Result<RData, TextError>
+    ensures { IfOk result (λ rdata. type_of rdata ≡ record_type) }
+{
     let mut ahead = *words;
     let word = ahead.field()?;
     let rdata = if !word.quoted && word.bytes == b"\\#".as_slice() {
@@ -125,6 +138,8 @@ pub(crate) fn data_of(
 /// character strings, in quotes or not. Names are fully qualified. Data of any type may be `\#`, their length, and two hexadecimal digits
 /// for each byte, which blanks may stand between; of a type that has no form of its own here they have to be (RFC 3597 section 5).
 /// Then no bytes are `RData::Update0`, but for an OPT record, and names may not be compressed.
-pub fn read_data(alloc: Global, record_type: RecordType, text: &str) -> Result<RData, TextError> {
+pub fn read_data(alloc: Global, record_type: RecordType, text: &str) -> Result<RData, TextError>
+    ensures { IfOk result (λ rdata. type_of rdata ≡ record_type) }
+{
     data_of(alloc, record_type, &mut Words::new(text))
 }

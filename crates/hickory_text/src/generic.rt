@@ -1,5 +1,8 @@
 //! Data in the form that is one for all types (RFC 3597 section 5).
 
+ghost use Rattle.std.specs.Prelude.{◌≡◌, IsTrue, IfOk};
+ghost use Rattle.hickory_wire.specs.RecordData.{type_of};
+
 use crate::error::{TextError, TextFault};
 use crate::words::{Word, Words};
 use hex::FromHexError;
@@ -72,6 +75,13 @@ fn record_bytes(
     Ok(bytes)
 }
 
+/// Whether data are of this type, and take so many bytes without compression.
+fn is_form(rdata: &RData, record_type: RecordType, len: usize) -> bool
+    ensures { IsTrue result → type_of rdata.now ≡ record_type }
+{
+    rdata.record_type() == record_type && data_len(rdata) == len
+}
+
 /// The data of a type that these bytes are, without compression.
 fn data_of_bytes(
     alloc: Global,
@@ -79,10 +89,12 @@ fn data_of_bytes(
     len: u16,
     data: &[u8],
     place: &Word<'_>,
-) -> Result<RData, TextError> {
+) -> Result<RData, TextError>
+    ensures { IfOk result (λ rdata. type_of rdata ≡ record_type) }
+{
     let bytes = record_bytes(alloc, record_type, len, data)?;
     match BinDecoder::new(bytes.as_slice()).read_record(alloc) {
-        Ok(record) if data_len(&record.rdata) == data.len() => Ok(record.rdata),
+        Ok(record) if is_form(&record.rdata, record_type, data.len()) => Ok(record.rdata),
         Err(DecodeError::Memory) => Err(TextError::Memory),
         _ => Err(place.fault(TextFault::WrongData)),
     }
@@ -109,7 +121,9 @@ pub(crate) fn read_generic(
     alloc: Global,
     record_type: RecordType,
     words: &mut Words<'_>,
-) -> Result<RData, TextError> {
+) -> Result<RData, TextError>
+    ensures { IfOk result (λ rdata. type_of rdata ≡ record_type) }
+{
     let word = words.field()?;
     let Ok(len) = u16::try_from(word.number()?) else {
         return Err(word.fault(TextFault::NumberOutOfRange));

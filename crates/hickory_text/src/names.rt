@@ -1,6 +1,6 @@
 //! Names in text.
 
-ghost use Rattle.std.specs.Prelude.{◌≤◌, length, IfOk};
+ghost use Rattle.std.specs.Prelude.{◌≡◌, ◌≤◌, true, length, IfOk};
 
 use crate::error::{TextError, TextFault};
 use crate::escapes::first_byte;
@@ -89,7 +89,9 @@ pub(crate) fn name_of(alloc: Global, word: &Word<'_>) -> Result<Name, TextError>
 }
 
 /// The name of the next field, which has to be fully qualified.
-pub(crate) fn next_name(alloc: Global, words: &mut Words<'_>) -> Result<Name, TextError> {
+pub(crate) fn next_name(alloc: Global, words: &mut Words<'_>) -> Result<Name, TextError>
+    ensures { IfOk result (λ name. name.is_fqdn ≡ true) }
+{
     let word = words.field()?;
     let name = name_of(alloc, &word)?;
     if name.is_fqdn() {

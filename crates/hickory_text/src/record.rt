@@ -1,5 +1,8 @@
 //! Records in text.
 
+ghost use Rattle.std.specs.Prelude.{◌≡◌, true, IfOk};
+ghost use Rattle.hickory_wire.specs.declared.record.Proof.TheVariants.{Indeterminate};
+
 use crate::data::data_of;
 use crate::error::{TextError, TextFault};
 use crate::names::next_name;
@@ -58,7 +61,10 @@ pub fn read_class(text: &str) -> Result<DNSClass, TextError> {
 ///
 /// All fields have to be there, and names are fully qualified. What data are made of is told at [`read_data`](crate::read_data). Nothing
 /// is known of the record's proof.
-pub fn read_record(alloc: Global, line: &str) -> Result<Record, TextError> {
+pub fn read_record(alloc: Global, line: &str) -> Result<Record, TextError>
+    ensures owner { IfOk result (λ r. r.name.is_fqdn ≡ true) }
+    ensures unproved { IfOk result (λ r. r.proof ≡ Indeterminate) }
+{
     let mut words = Words::new(line);
     let name = next_name(alloc, &mut words)?;
     let ttl = ttl_of(&words.field()?)?;

@@ -6,7 +6,7 @@ use Rattle.std.specs.List.{AllByRecursion}
 use Rattle.std.specs.Int.{w16, w32, to_be_bytes}
 use Rattle.hickory_wire.specs.Bytes.{BytesAt}
 use Rattle.hickory_wire.specs.DomainName.{DomainName, IsLabel, AreLabels, wire_form, name_len}
-use Rattle.hickory_wire.specs.FullForm.{name_octets, data_octets, record_octets, HasNames}
+use Rattle.hickory_wire.specs.FullForm.{name_octets, data_octets, record_octets, EndsInFull, HasNames}
 use Rattle.hickory_wire.specs.NameLayout.{LabelsAt, NameAt}
 use Rattle.hickory_wire.specs.NameLayout.LabelsAt.{at_end, at_label}
 use Rattle.hickory_wire.specs.QuestionForm.{question_octets}
@@ -136,6 +136,11 @@ record_stands bytes floor place next r owner names small low s e =
       counted = omega arith;
     }
 
+-- octets that end in data in full do so whatever the data
+ends_in_full : (d : RData) (front : List ℕ) → EndsInFull d (front ++ data_octets d)
+ends_in_full (rdata.TSIG signature) front = (front, refl)
+ends_in_full content front = tt
+
 -- a record that is put in full is put
 pub puts_full : (limit : ℕ) (old new : List ℕ) (r : Record RData) → 12 ≤ length old → AreLabels r.name.labels → HasNames r.rdata → form_fault r.rdata ≡ None → data_len r.rdata < 2 ^ 16 → new ≡ old ++ record_octets r → length old + full_size r ≤ limit → Puts limit old r new
 puts_full limit old new r low owner names formed small e within =
@@ -145,6 +150,7 @@ puts_full limit old new r low owner names formed small e within =
       more = record_octets r;
       formed = formed;
       appended = e;
+      in_full = ends_in_full r.rdata (name_octets r.name.labels ++ fixed_fields r (data_len r.rdata));
       small = omega (arith, size);
       within = omega arith;
       form = record_stands new 12 (length old) (length new) r owner names small low (subst (λ b. BytesAt b (length old) (record_octets r)) (sym e) (BytesAt-append old (record_octets r))) all;

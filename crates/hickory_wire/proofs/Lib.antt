@@ -13,6 +13,7 @@ pub mod FormIsRead
 pub mod FormKeeps
 pub mod FormLengths
 pub mod FullForms
+pub mod GivesReadings
 pub mod HeaderBits
 pub mod HeaderLaws
 pub mod ItemsRead
@@ -30,10 +31,12 @@ pub mod NameSpelling
 pub mod OctetLengths
 pub mod OptionSteps
 pub mod OptionsRead
+pub mod QuestionsMoved
 pub mod ReadData
 pub mod ReadFields
 pub mod ReadRecords
 pub mod ReadSteps
+pub mod ReadingBack
 pub mod RecordComparing
 pub mod RecordFaultLaws
 pub mod RecordLists

@@ -24,6 +24,7 @@ pub mod QuestionForm
 pub mod QuestionLayout
 pub mod QuestionSameness
 pub mod Reading
+pub mod ReadingBack
 pub mod RecordData
 pub mod RecordFaults
 pub mod RecordLayout

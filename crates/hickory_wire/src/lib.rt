@@ -43,6 +43,7 @@ mod record;
 mod record_decoder;
 mod record_encoder;
 pub mod record_laws;
+mod record_room;
 mod record_sameness;
 mod record_text;
 mod record_type;

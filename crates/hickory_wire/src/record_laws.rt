@@ -1,12 +1,15 @@
 //! Laws of records and questions, each the contract of a function with nothing to do: how they stand in bytes is how they are read.
 
-ghost use Rattle.std.specs.Prelude.{◌≡◌, ◌≤◌, ◌+◌, ◌⊎◌, ◌↔◌, ℕ, List, [], length, None, Ok};
+ghost use Rattle.std.specs.Prelude.{◌≡◌, ◌≤◌, ◌+◌, ◌⊎◌, ◌↔◌, ◌++◌, ℕ, List, [], length, replicate, slice_range, None, Ok};
+ghost use Rattle.std.specs.List.{AllByRecursion, flat_map};
 ghost use Rattle.hickory_wire.specs.Bytes.{AreBytes, BytesAt, KeepsFrom};
 ghost use Rattle.hickory_wire.specs.Cursor.{Cursor};
 ghost use Rattle.hickory_wire.specs.DomainName.{AreLabels, name_len};
 ghost use Rattle.hickory_wire.specs.FullForm.{HasNames, record_octets};
+ghost use Rattle.hickory_wire.specs.MessageLayout.{ItemsAt};
 ghost use Rattle.hickory_wire.specs.QuestionForm.{question_octets};
 ghost use Rattle.hickory_wire.specs.QuestionLayout.{QuestionAt, IsFormedQuestion};
+ghost use Rattle.hickory_wire.specs.ReadingBack.{ReadsBack};
 ghost use Rattle.hickory_wire.specs.RecordData.{OptionsOf};
 ghost use Rattle.hickory_wire.specs.RecordLayout.{FormAt, IsFormedRecord, RecordAt};
 ghost use Rattle.hickory_wire.specs.RecordReading.{options_of, question, resource};
@@ -73,4 +76,18 @@ pub fn question_forms()
     ensures size { (q : Query) → length (question_octets q) ≡ name_len q.name.labels + 4 }
     ensures stands { (bytes : List ℕ) (floor place : ℕ) (q : Query) → AreLabels q.name.labels → floor ≤ place → BytesAt bytes place (question_octets q) →
         QuestionAt floor bytes place q (place + length (question_octets q)) }
+{}
+
+/// Which records read back as themselves: those whose parts are such as are read, whose names are names, and whose octets have a form in
+/// bytes, their lengths told in the fields that are there for them.
+pub fn reading_back()
+    ensures { (r : Record RData) → ReadsBack r ↔ (IsFormedRecord r × AreLabels r.name.labels × HasNames r.rdata × (form_fault r.rdata ≡ None)) }
+{}
+
+/// A question that was read behind the header of a request, with no byte of its name in the header, stands at that place in a reply that
+/// repeats the bytes of the question; so do questions that a reply has in full (RFC 1035 sections 4.1.1 and 4.1.2).
+pub fn questions_of_replies()
+    ensures repeated { (bytes : List ℕ) (q : Query) (stop : ℕ) → QuestionAt 12 bytes 12 q stop → QuestionAt 12 (replicate 12 0 ++ slice_range bytes 12 stop) 12 q stop }
+    ensures in_full { (bytes : List ℕ) (floor place : ℕ) (queries : List Query) → AllByRecursion (λ q. AreLabels q.name.labels) queries → floor ≤ place → BytesAt bytes place (flat_map question_octets queries) →
+        ItemsAt (QuestionAt floor bytes) place queries (place + length (flat_map question_octets queries)) }
 {}

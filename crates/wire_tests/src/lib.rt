@@ -6,6 +6,4 @@ mod decoding;
 #[cfg(test)]
 mod encoding;
 #[cfg(test)]
-mod names;
-#[cfg(test)]
 mod values;

@@ -31,7 +31,7 @@ fn obey_server(
     out: &mut String,
 ) -> Result<bool, Fault> {
     Ok(
-        setting::obey(script, alloc, words)?
+        setting::obey(script, alloc, words, out)?
             || sections::obey(script, words)?
             || zones::obey(script, alloc, words, out)?
             || chains::obey(script, alloc, words, out)?

@@ -4,7 +4,7 @@ use crate::fault::Fault;
 use crate::handler::{Handler, Source};
 use hickory_server::proto::{LowerName, RData, Record, RecordType};
 use hickory_server::store::in_memory::{InMemoryZoneHandler, RecordSet, RrKey};
-use hickory_server::zone_handler::{AxfrPolicy, ZoneType};
+use hickory_server::zone_handler::{AxfrPolicy, ZoneHandler, ZoneType};
 use std::alloc::{AllocError, Global};
 use std::collections::BTreeMap;
 use std::rc::Rc;
@@ -50,6 +50,20 @@ fn put_set(
     let set = Rc::new(alloc, set_of(alloc, records)?)?;
     sets.insert(RrKey::new(key.name.clone()?, key.record_type), set)?;
     Ok(())
+}
+
+/// Whether these records make a set (RFC 2181 section 5), and whether it makes a zone under this key.
+pub(crate) fn accepted(
+    alloc: Global,
+    key: &RrKey,
+    records: &[Record],
+) -> Result<(bool, bool), Fault> {
+    if !RecordSet::accepts(records) {
+        return Ok((false, false));
+    }
+    let mut sets = BTreeMap::new(alloc);
+    put_set(alloc, &mut sets, key, records)?;
+    Ok((true, InMemoryZoneHandler::accepts(&sets)))
 }
 
 /// The key that a record belongs under.
@@ -118,14 +132,14 @@ impl OpenZone {
 
     /// The handler of the zone with copies of these records.
     pub(crate) fn handler(&self, alloc: Global) -> Result<Handler, Fault> {
-        let source = Source::Zone(self.zone(alloc)?);
+        let zone = self.zone(alloc)?;
         Ok(Handler {
-            zone_type: self.zone_type,
-            axfr_policy: self.axfr_policy,
-            origin: self.origin.clone()?,
-            validates: false,
+            zone_type: zone.zone_type(),
+            axfr_policy: zone.axfr_policy(),
+            origin: zone.origin().clone()?,
+            validates: zone.can_validate_dnssec(),
             proof_kind: None,
-            source,
+            source: Source::Zone(zone),
         })
     }
 }

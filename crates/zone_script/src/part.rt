@@ -154,18 +154,29 @@ fn no_records(
     }))
 }
 
+/// The answers of what was found.
+fn answers_of(alloc: Global, found: AuthLookup) -> Items<Record> {
+    match found {
+        AuthLookup::Empty => Items::new(alloc),
+        AuthLookup::Resolved(
+            Lookup {
+                query: _query,
+                answers,
+                authorities: _authorities,
+                additionals: _additionals,
+            },
+        ) => answers,
+        AuthLookup::Records {
+            answers,
+            additionals: _additionals,
+        } => answers,
+    }
+}
+
 /// The answers that there are so far, of what a consult is about.
 fn so_far(alloc: Global, last: LookupControlFlow<AuthLookup>) -> Items<Record> {
     match last.map_result() {
-        Some(
-            Ok(
-                AuthLookup::Records {
-                    answers,
-                    additionals: _additionals,
-                },
-            ),
-        ) => answers,
-        Some(Ok(_other)) => Items::new(alloc),
+        Some(Ok(found)) => answers_of(alloc, found),
         Some(Err(_e)) => Items::new(alloc),
         None => Items::new(alloc),
     }

@@ -30,48 +30,40 @@ fn print_fault(out: &mut String, fault: &LookupError) -> Result<(), AllocError> 
     }
 }
 
-/// Puts an answer behind a text.
-fn print_found(out: &mut String, found: &AuthLookup) -> Result<(), AllocError> {
-    match found {
-        AuthLookup::Empty => out.push_str("empty\n"),
-        AuthLookup::Resolved(found) => {
-            out.push_str("resolved\n")?;
-            print_records(out, found.answers.as_slice())
-        }
-        AuthLookup::Records {
-            answers,
-            additionals,
-        } => {
-            out.push_str("found\n")?;
-            print_records(out, answers.as_slice())?;
-            print_records(out, additionals.as_slice())
-        }
+/// Puts what was found behind a text: the answers, and then the additionals.
+fn print_found(out: &mut String, mut found: AuthLookup) -> Result<(), AllocError> {
+    out.push_str(match &found {
+        AuthLookup::Empty => "empty\n",
+        AuthLookup::Resolved(_) => "resolved\n",
+        AuthLookup::Records { .. } => "found\n",
+    })?;
+    for record in found.iter() {
+        writeln!(out, "{record}")?;
+    }
+    match found.take_additionals() {
+        Some(additionals) => print_records(out, additionals.as_slice()),
+        None => Ok(()),
     }
 }
 
-/// Puts an answer behind a text, or why there is none.
-fn print_outcome(
-    out: &mut String,
-    outcome: &Result<AuthLookup, LookupError>,
-) -> Result<(), AllocError> {
-    match outcome {
-        Ok(found) => print_found(out, found),
-        Err(fault) => print_fault(out, fault),
+/// The word for whether the next handler may look at an answer.
+fn flow_word(answer: &LookupControlFlow<AuthLookup>) -> &'static str {
+    if answer.is_continue() {
+        "continue: "
+    } else if answer.is_break() {
+        "break: "
+    } else {
+        "skip\n"
     }
 }
 
 /// Puts an answer with its flow behind a text.
-fn print_flow(out: &mut String, answer: &LookupControlFlow<AuthLookup>) -> Result<(), AllocError> {
-    match answer {
-        LookupControlFlow::Skip => out.push_str("skip\n"),
-        LookupControlFlow::Continue(outcome) => {
-            out.push_str("continue: ")?;
-            print_outcome(out, outcome)
-        }
-        LookupControlFlow::Break(outcome) => {
-            out.push_str("break: ")?;
-            print_outcome(out, outcome)
-        }
+fn print_flow(out: &mut String, answer: LookupControlFlow<AuthLookup>) -> Result<(), AllocError> {
+    out.push_str(flow_word(&answer))?;
+    match answer.map_result() {
+        None => Ok(()),
+        Some(Ok(found)) => print_found(out, found),
+        Some(Err(fault)) => print_fault(out, &fault),
     }
 }
 
@@ -121,7 +113,7 @@ fn search(
 ) -> Result<(), Fault> {
     let options = LookupOptions::from_edns(request.message().edns.as_ref());
     let (answer, context) = handler.search(alloc, request, options);
-    print_flow(out, &answer)?;
+    print_flow(out, answer)?;
     Ok(print_context(out, &context)?)
 }
 
@@ -135,7 +127,7 @@ fn look_up(
     out: &mut String,
 ) -> Result<(), Fault> {
     let answer = handler.lookup(alloc, name, record_type, None, options);
-    Ok(print_flow(out, &answer)?)
+    Ok(print_flow(out, answer)?)
 }
 
 /// Calls `consult` about an empty answer that stands.
@@ -149,7 +141,7 @@ fn consult(
 ) -> Result<(), Fault> {
     let last = LookupControlFlow::Break(Ok(AuthLookup::Empty));
     let (answer, context) = handler.consult(alloc, name, record_type, None, options, last);
-    print_flow(out, &answer)?;
+    print_flow(out, answer)?;
     Ok(print_context(out, &context)?)
 }
 
@@ -162,7 +154,7 @@ fn nsec(
     out: &mut String,
 ) -> Result<(), Fault> {
     let answer = handler.nsec_records(alloc, name, options);
-    Ok(print_flow(out, &answer)?)
+    Ok(print_flow(out, answer)?)
 }
 
 /// Calls `nsec3_records`, with 10 iterations and no salt.
@@ -183,7 +175,7 @@ fn nsec3(
         iterations: 10,
     };
     let answer = handler.nsec3_records(alloc, info, options);
-    Ok(print_flow(out, &answer)?)
+    Ok(print_flow(out, answer)?)
 }
 
 /// Calls `zone_transfer`.

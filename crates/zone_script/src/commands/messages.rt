@@ -5,7 +5,7 @@ use crate::fault::Fault;
 use crate::printing::print_message;
 use crate::reading::{put_fault, read_name, read_parts, read_question};
 use crate::words::octets;
-use hickory_server::proto::{DecodeError, Message, Record};
+use hickory_server::proto::{BinDecoder, DecodeError, Message, Record};
 use std::alloc::{AllocError, Global};
 use std::fmt::Write;
 
@@ -48,7 +48,7 @@ fn tell_parts(alloc: Global, bytes: &[u8], out: &mut String) -> Result<(), Fault
 
 /// The fault of a message, if there is one.
 fn fault_of(alloc: Global, bytes: &[u8]) -> Result<Option<DecodeError>, Fault> {
-    match Message::read(alloc, bytes) {
+    match BinDecoder::new(bytes).read_message(alloc) {
         Ok(_) => Ok(None),
         Err(DecodeError::Memory) => Err(Fault::Memory),
         Err(e) => Ok(Some(e)),
@@ -128,16 +128,18 @@ fn has_equal_copies(message: &Message) -> Result<bool, AllocError> {
     )
 }
 
+/// How many of some records equal this one.
+fn count_equal(record: &Record, others: &[Record]) -> usize {
+    others.iter().filter(|other| **other == *record).count()
+}
+
 /// How many pairs of a list of records are equal.
 fn count_equal_pairs(records: &[Record]) -> usize {
-    let mut rest = records;
-    let mut count = 0usize;
-    while let [first, others @ ..] = rest {
-        let equal = others.iter().filter(|other| **other == *first).count();
-        count = count.saturating_add(equal);
-        rest = others;
+    let mut pairs = 0usize;
+    for (place, record) in records.iter().enumerate() {
+        pairs = pairs.saturating_add(count_equal(record, &records[..place]));
     }
-    count
+    pairs
 }
 
 /// Tells how what a message is made of compares with its copies, and its answers with each other.

@@ -71,7 +71,7 @@ fn put_record(alloc: Global, record: &Record, bytes: &[u8], out: &mut String) ->
 
 /// Tells of the record of a line: its text, and its bytes in full.
 fn describe(alloc: Global, line: &str, out: &mut String) -> Result<(), Fault> {
-    let record = text::record(alloc, line)?;
+    let record = text::record(alloc, line)?.clone()?;
     let bytes = wire(alloc, &record)?;
     put_record(alloc, &record, bytes.as_slice(), out)?;
     let digits = hex::encode(alloc, bytes)?;

@@ -88,7 +88,7 @@ fn put_information(info: &RequestInfo<'_>, out: &mut String) -> Result<(), Alloc
 /// Puts what a handler may know of a request behind a text, or why it may know nothing.
 fn put_asked(request: &Request, out: &mut String) -> Result<(), AllocError> {
     match request.request_info() {
-        Ok(info) => put_information(&info, out),
+        Ok(info) => put_information(&info.clone()?, out),
         Err(e) => writeln!(out, "asks nothing: {e}"),
     }
 }

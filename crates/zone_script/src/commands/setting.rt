@@ -1,6 +1,7 @@
 //! What holds for the messages that follow.
 
 use crate::fault::Fault;
+use crate::printing::print_hex;
 use crate::script::Script;
 use crate::settings::Printed;
 use crate::words::octets;
@@ -59,14 +60,28 @@ fn identify(script: &mut Script, alloc: Global, digits: &[&str]) -> Result<(), F
     Ok(())
 }
 
+/// Puts what identifies the server behind a text, in hex digits.
+fn print_identifier(script: &Script, alloc: Global, out: &mut String) -> Result<(), Fault> {
+    match script.catalog.nsid() {
+        Some(payload) => Ok(print_hex(alloc, out, payload.as_slice())?),
+        None => Ok(out.push_str("none\n")?),
+    }
+}
+
 /// Obeys a command on what holds for the messages that follow, and tells whether it is one.
-pub(crate) fn obey(script: &mut Script, alloc: Global, words: &[&str]) -> Result<bool, Fault> {
+pub(crate) fn obey(
+    script: &mut Script,
+    alloc: Global,
+    words: &[&str],
+    out: &mut String,
+) -> Result<bool, Fault> {
     match words {
         [word] if set(script, word) => (),
         ["source", address, port] => set_source(script, address, port)?,
         ["source", ..] => return Err(Fault::Usage("source ADDRESS PORT")),
         ["now", seconds] => script.settings.now = seconds.parse::<u64>()?,
         ["now", ..] => return Err(Fault::Usage("now SECONDS")),
+        ["identifier"] => print_identifier(script, alloc, out)?,
         ["identifier", "none"] => script.catalog.set_nsid(None),
         ["identifier", digits @ ..] => identify(script, alloc, digits)?,
         _ => return Ok(false),

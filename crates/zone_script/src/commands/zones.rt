@@ -3,15 +3,16 @@
 use crate::begun::{chain_of, last_begun};
 use crate::fault::Fault;
 use crate::handler::{Handler, Source};
-use crate::open_zone::OpenZone;
+use crate::open_zone::{OpenZone, accepted};
 use crate::printing::{print_hex, print_records};
 use crate::script::{Place, Script};
 use crate::text::lower_name;
 use crate::words::octets;
 use hickory_server::proto::{
-    LowerName, Message, MessageType, Metadata, OpCode, Record, ReplyParts, encode_message_parts,
+    LowerName, Message, MessageType, Metadata, OpCode, Record, RecordType, ReplyParts,
+    encode_message_parts,
 };
-use hickory_server::store::in_memory::InMemoryZoneHandler;
+use hickory_server::store::in_memory::{InMemoryZoneHandler, RrKey};
 use hickory_server::zone_handler::{AxfrPolicy, ZoneHandler, ZoneType};
 use std::alloc::{AllocError, Global};
 use std::fmt::Write;
@@ -216,6 +217,21 @@ fn tell(script: &Script, alloc: Global, what: &str, out: &mut String) -> Result<
     }
 }
 
+/// Tells whether the answers of the reply make a set, and a zone under a name and type.
+fn print_accepted(
+    script: &Script,
+    alloc: Global,
+    name: &str,
+    record_type: &str,
+    out: &mut String,
+) -> Result<(), Fault> {
+    let key = RrKey::new(lower_name(alloc, name)?, record_type.parse::<RecordType>()?);
+    let (is_set, is_zone) = accepted(alloc, &key, &script.reply.answers)?;
+    let set = if is_set { "a set" } else { "no set" };
+    let zone = if is_zone { "a zone" } else { "no zone" };
+    Ok(writeln!(out, "{set}, {zone}")?)
+}
+
 /// Obeys a command on zones, and tells whether it is one.
 pub(crate) fn obey(
     script: &mut Script,
@@ -227,6 +243,7 @@ pub(crate) fn obey(
         ["zone", origin, words @ ..] => begin(script, alloc, origin, words)?,
         ["zone"] => return Err(Fault::Usage(ZONE_USAGE)),
         ["load", origin, digits @ ..] => load(script, alloc, origin, digits)?,
+        ["accepts", name, kind] => print_accepted(script, alloc, name, kind, out)?,
         ["show", apex] => print_zones(out, chain_of(script, alloc, apex)?)?,
         [what @ ("show" | "serial" | "message")] => tell(script, alloc, what, out)?,
         _ => return Ok(false),
