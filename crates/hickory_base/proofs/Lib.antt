@@ -7,3 +7,4 @@ pub mod RequestForms
 pub mod RequestParts
 pub mod Rule
 pub mod SharedSets
+pub mod ZoneByName
