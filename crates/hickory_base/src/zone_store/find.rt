@@ -16,7 +16,10 @@ use std::collections::BTreeMap;
 use std::rc::Rc;
 
 /// The records under a key.
-pub(crate) fn set_under<'m>(sets: &'m BTreeMap<RrKey, Rc<RecordSet>>, key: &RrKey) -> Option<&'m [Record]>
+pub(crate) fn set_under<'m>(
+    sets: &'m BTreeMap<RrKey, Rc<RecordSet>>,
+    key: &RrKey,
+) -> Option<&'m [Record]>
     ensures { option_copied result ≡ lookup (is_key key.now.name key.now.record_type) (sets_of sets.now) }
 {
     match sets.get(key) {
