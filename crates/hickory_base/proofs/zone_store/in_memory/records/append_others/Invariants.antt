@@ -2,7 +2,7 @@
 use Rattle.std.proofs.Common.{◌≡◌, ◌++◌, cond, drop}
 use Rattle.std.specs.List.{flat_map}
 use Rattle.hickory_base.specs.ZoneSets.{is_key, sets_of, shared_sets}
-use Rattle.hickory_base.proofs.zone_store.in_memory.answers.append_others.Given as goal
+use Rattle.hickory_base.proofs.zone_store.in_memory.records.append_others.Given as goal
 
 abbrev pub invariant-loop-key : goal.invariant-loop-key
 invariant-loop-key l =
