@@ -9,3 +9,4 @@ pub mod RequestParts
 pub mod ResultMaps
 pub mod Rule
 pub mod SharedSets
+pub mod ZoneByName
