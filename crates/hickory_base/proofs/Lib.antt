@@ -6,5 +6,7 @@ pub mod QuestionPlaces
 pub mod RecordSlices
 pub mod RequestForms
 pub mod RequestParts
+pub mod ResultMaps
 pub mod Rule
 pub mod SharedSets
+pub mod ZoneByName
