@@ -44,7 +44,9 @@ class Case:
         """What keeps it from being a case."""
         missing = ["." + "/.".join(pair) for pair in NEEDED if not any(it in self.files for it in pair)]
         double = ["." + "/.".join(pair) for pair in NEEDED if all(it in self.files for it in pair)]
-        return [f"has no {it}" for it in missing] + [f"has both of {it}" for it in double]
+        words = [("stdin", FAILING_INPUTS), ("stdout", FAILING_OUTPUTS)]
+        unknown = [f".{ending}" for ending, known in words if ending in self.files and self.word(ending) not in known]
+        return [f"has no {it}" for it in missing] + [f"has both of {it}" for it in double] + [f"has no known word in {it}" for it in unknown]
 
     @property
     def path(self):

@@ -1,9 +1,12 @@
 pub mod Boxes
 pub mod KeyOrder
+pub mod NetworkText
 pub mod Networks
 pub mod QuestionPlaces
 pub mod RecordSlices
 pub mod RequestForms
 pub mod RequestParts
+pub mod ResultMaps
 pub mod Rule
 pub mod SharedSets
+pub mod ZoneByName

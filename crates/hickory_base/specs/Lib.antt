@@ -14,4 +14,5 @@ pub mod Responses
 pub mod Sinks
 pub mod Updates
 pub mod ZoneAnswers
+pub mod ZoneRecords
 pub mod ZoneSets

@@ -9,11 +9,10 @@ ghost use Rattle.hickory_base.specs.Access.{Network, AccessSets, width, address_
 
 mod text;
 
-pub use text::IpNetTextError;
-
 use std::alloc::{AllocError, Global};
 use std::marker::Model;
 use std::net::{IpAddr, Ipv4Addr, Ipv6Addr};
+pub use text::IpNetTextError;
 
 /// The 96 bits before the IPv4 address in an IPv4-mapped IPv6 address (RFC 4291, section 2.5.5.2).
 const IPV4_MAPPED_PREFIX: u128 = 0xffff;
@@ -94,6 +93,16 @@ impl Address {
         let dropped = u32::from(self.family.width() - count);
         self.bits.checked_shr(dropped).unwrap_or(0)
     }
+
+    /// The prefix of this length, a number of so many bits.
+    fn prefix(self, count: u8) -> u128
+        requires count { count ≤ width self.family }
+        requires bits { self.bits < 2 ^ width self.family }
+        ensures value { result ≡ first_bits self count }
+        ensures fits { result < 2 ^ count }
+    {
+        self.first_bits(count)
+    }
 }
 
 /// A network of IPv4 or of IPv6 addresses: those that begin with its prefix (RFC 4632, section 3.1; RFC 4291,
@@ -132,7 +141,7 @@ impl IpNet {
         Some(IpNet {
             family: address.family,
             prefix_length,
-            prefix: address.first_bits(prefix_length),
+            prefix: address.prefix(prefix_length),
         })
     }
 

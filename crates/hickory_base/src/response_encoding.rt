@@ -3,12 +3,12 @@
 ghost use Rattle.std.specs.Prelude.{◌≡◌, IfOk, OnErr, map};
 ghost use Rattle.std.specs.Iterator.{IsFinite};
 ghost use Rattle.hickory_wire.specs.Reply.{Reply, size_limit};
-ghost use Rattle.hickory_wire.specs.ReplyParts.{ReplyEncoded};
+ghost use Rattle.hickory_wire.specs.ReplyParts.{RecordLists, ReplyEncoded, reply_of};
 ghost use Rattle.hickory_base.specs.Responses.{GivesBy, IsReplyOf, header_of};
 
 use crate::message_response::{MessageResponse, ResponseInfo, borrowed, size_limit};
 use crate::response_handler::RecordRef;
-use hickory_wire::{ProtoError, Protocol, ReplyParts, encode_message_parts};
+use hickory_wire::{Header, ProtoError, Protocol, ReplyParts, encode_message_parts};
 use std::alloc::{AllocError, Global};
 
 /// The items of an iterator, which lend its records.
@@ -25,6 +25,72 @@ where
         lenders.push(item)?;
     }
     Ok(lenders)
+}
+
+/// The bytes of a reply whose records are lent by these items, and its header.
+fn encode_lent<A: RecordRef, N: RecordRef, S: RecordRef, D: RecordRef>(
+    alloc: Global,
+    limit: u16,
+    parts: ReplyParts<'_, &[A], &[N], &[S], &[D]>,
+) -> Result<(Header, Vec<u8>), ProtoError>
+    ensures encoded { IfOk result (λ made. ReplyEncoded limit (reply_of parts.entry (record { answers = map A.record_of parts.entry.answers.now; authorities = map N.record_of parts.entry.authorities.now; soa = map S.record_of parts.entry.soa.now; additionals = map D.record_of parts.entry.additionals.now })) made.1.items made.0) }
+    ensures err { OnErr result (result ≡ Err ProtoError.Memory) }
+{
+    let parts = ReplyParts {
+        metadata: parts.metadata,
+        question: parts.question,
+        question_count: parts.question_count,
+        edns: parts.edns,
+        answers: parts.answers.iter().map(|item| item.record()),
+        authorities: parts.authorities.iter().map(|item| item.record()),
+        soa: parts.soa.iter().map(|item| item.record()),
+        additionals: parts.additionals.iter().map(|item| item.record()),
+        signature: parts.signature,
+    };
+    encode_message_parts(alloc, limit, parts)
+}
+
+/// The bytes of a reply whose records are lent by the items of iterators, and its header.
+fn encode_parts<A, N, S, D>(
+    alloc: Global,
+    limit: u16,
+    parts: ReplyParts<'_, A, N, S, D>,
+) -> Result<(Header, Vec<u8>), ProtoError>
+where
+    A: Iterator + Drop,
+    A::Item: RecordRef,
+    N: Iterator + Drop,
+    N::Item: RecordRef,
+    S: Iterator + Drop,
+    S::Item: RecordRef,
+    D: Iterator + Drop,
+    D::Item: RecordRef,
+    requires answers { A.can_next parts.answers × IsFinite (A.remaining parts.answers) }
+    requires authorities { N.can_next parts.authorities × IsFinite (N.remaining parts.authorities) }
+    requires soa { S.can_next parts.soa × IsFinite (S.remaining parts.soa) }
+    requires additionals { D.can_next parts.additionals × IsFinite (D.remaining parts.additionals) }
+    ensures encoded { IfOk result (λ made. (lists : RecordLists) ×
+        GivesBy A.next_gives A.Item.record_of parts.entry.answers lists.answers × GivesBy N.next_gives N.Item.record_of parts.entry.authorities lists.authorities ×
+        GivesBy S.next_gives S.Item.record_of parts.entry.soa lists.soa × GivesBy D.next_gives D.Item.record_of parts.entry.additionals lists.additionals ×
+        ReplyEncoded limit (reply_of parts.entry lists) made.1.items made.0) }
+    ensures err { OnErr result (result ≡ Err ProtoError.Memory) }
+{
+    let answers = lenders(alloc, parts.answers)?;
+    let authorities = lenders(alloc, parts.authorities)?;
+    let soa = lenders(alloc, parts.soa)?;
+    let additionals = lenders(alloc, parts.additionals)?;
+    let lent = ReplyParts {
+        metadata: parts.metadata,
+        question: parts.question,
+        question_count: parts.question_count,
+        edns: parts.edns,
+        answers: answers.as_slice(),
+        authorities: authorities.as_slice(),
+        soa: soa.as_slice(),
+        additionals: additionals.as_slice(),
+        signature: parts.signature,
+    };
+    encode_lent(alloc, limit, lent)
 }
 
 /// The bytes of a reply over a transport, and what is told of it, as `MessageResponse::encode` has them.
@@ -51,22 +117,30 @@ where
         ReplyEncoded (size_limit protocol reply.edns) reply made.1.items (header_of made.0)) }
     ensures err { OnErr result (result ≡ Err ProtoError.Memory) }
 {
-    let answers = lenders(alloc, response.answers)?;
-    let authorities = lenders(alloc, response.authorities)?;
-    let soa = lenders(alloc, response.soa)?;
-    let additionals = lenders(alloc, response.additionals)?;
+    let MessageResponse {
+        metadata,
+        queries,
+        answers,
+        authorities,
+        soa,
+        additionals,
+        signature,
+        edns,
+        ..
+    } = response;
     let parts = ReplyParts {
-        metadata: response.metadata,
-        question: response.queries.as_bytes(),
-        question_count: response.queries.count(),
-        edns: response.edns,
-        answers: answers.iter().map(|item| item.record()),
-        authorities: authorities.iter().map(|item| item.record()),
-        soa: soa.iter().map(|item| item.record()),
-        additionals: additionals.iter().map(|item| item.record()),
-        signature: borrowed(&response.signature),
+        metadata,
+        question: queries.as_bytes(),
+        question_count: queries.count(),
+        edns,
+        answers,
+        authorities,
+        soa,
+        additionals,
+        signature: borrowed(&signature),
     };
-    let limit = size_limit(protocol, response.edns);
-    let (header, bytes) = encode_message_parts(alloc, limit, parts)?;
+    let made = encode_parts(alloc, size_limit(protocol, edns), parts);
+    drop(signature);
+    let (header, bytes) = made?;
     Ok((ResponseInfo::from(header), bytes))
 }

@@ -1,15 +1,16 @@
 //! Replies of a server that holds the zone, or a copy of it.
 
-ghost use Rattle.std.specs.Prelude.{◌≡◌, IfOk, IfErr, Ok, Err};
+ghost use Rattle.std.specs.Prelude.{◌≡◌, false, IfOk, IfErr, Ok, Err};
 ghost use Rattle.hickory_wire.specs.Reply.{Reply};
+ghost use Rattle.hickory_base.specs.Lookups.{Flow};
 ghost use Rattle.hickory_base.specs.Responses.{header_of};
 ghost use Rattle.hickory_catalog.specs.Authoritative.{AuthoritativeReply, BesideAnswer, additional_section, answer_section, authoritative_metadata, denial_section, is_referral, negative_code, negative_reply, positive_reply, referral_section, refusal_code};
 ghost use Rattle.hickory_catalog.specs.Replies.{bare_reply};
 ghost use Rattle.hickory_catalog.specs.Sending.{IsSent};
-ghost use Rattle.hickory_catalog.specs.Transcripts.{options_of};
+ghost use Rattle.hickory_catalog.specs.Transcripts.{options_of, wants_memory};
 
 use crate::chains::options_of;
-use crate::denying::{answer_denial, answers, nothing_denial, records_given, unless_memory};
+use crate::denying::{answer_denial, answers, check_memory, nothing_denial, records_given};
 use crate::sending::{Sections, send_records};
 use hickory_base::errors::{CatalogError, LookupError};
 use hickory_base::message_request::MessageRequest;
@@ -181,27 +182,90 @@ fn beside_answer<H: ZoneHandler>(
     }
 }
 
+/// Answers with records that were found, and with what the handler gave beside them.
+fn answer_with<R: ResponseHandler>(
+    alloc: Global,
+    request: &Request,
+    edns: &mut Option<Edns>,
+    query: &LowerQuery,
+    found: &AuthLookup,
+    beside: &LookupControlFlow<AuthLookup>,
+    sink: &mut R,
+) -> Result<ResponseInfo, CatalogError>
+    ensures replied { IfOk result (λ info. (wants_memory beside.now ≡ false) ×
+        IsSent R.shows R.informs request.now.message.metadata (R.settings sink.old) (R.settings sink.new) (R.entries sink.old) (R.entries sink.new) (R.failures sink.old) (R.failures sink.new) (positive_reply request.now.message edns.old query.now.query_type found.now beside.now) (header_of info)) }
+    ensures refused { IfErr result (λ e. (e ≡ CatalogError.Memory) ×
+        (R.settings sink.new ≡ R.settings sink.old) × (R.entries sink.new ≡ R.entries sink.old) × (R.failures sink.new ≡ R.failures sink.old)) }
+{
+    check_memory(beside)?;
+    let message = request.message();
+    let query_type = query.query_type();
+    Ok(send_positive(sink, alloc, message, edns.take(), query_type, found, beside))
+}
+
 /// Answers with records that were found.
 fn answer_found<H: ZoneHandler, R: ResponseHandler>(
     handler: &H,
     alloc: Global,
     request: &Request,
-    edns: Option<Edns>,
+    edns: &mut Option<Edns>,
     query: &LowerQuery,
     found: &AuthLookup,
     sink: &mut R,
 ) -> Result<ResponseInfo, CatalogError>
     ensures replied { IfOk result (λ info. (reply : Reply) ×
-        AuthoritativeReply H.ZoneHandler handler.now request.now edns query.now reply (Ok found.now) ×
+        AuthoritativeReply H.ZoneHandler handler.now request.now edns.old query.now reply (Ok found.now) ×
         IsSent R.shows R.informs request.now.message.metadata (R.settings sink.old) (R.settings sink.new) (R.entries sink.old) (R.entries sink.new) (R.failures sink.old) (R.failures sink.new) reply (header_of info)) }
     ensures refused { IfErr result (λ e. (e ≡ CatalogError.Memory) ×
         (R.settings sink.new ≡ R.settings sink.old) × (R.entries sink.new ≡ R.entries sink.old) × (R.failures sink.new ≡ R.failures sink.old)) }
 {
     let beside = beside_answer(handler, alloc, query, found, options_of(request));
-    let beside = unless_memory(beside)?;
-    let message = request.message();
-    let query_type = query.query_type();
-    Ok(send_positive(sink, alloc, message, edns, query_type, found, &beside))
+    let sent = answer_with(alloc, request, edns, query, found, &beside, sink);
+    drop(beside);
+    sent
+}
+
+/// Answers where there is nothing, with this denial and this SOA.
+fn answer_with_soa<R: ResponseHandler>(
+    alloc: Global,
+    request: &Request,
+    edns: &mut Option<Edns>,
+    e: &LookupError,
+    denial: &LookupControlFlow<AuthLookup>,
+    soa: &LookupControlFlow<AuthLookup>,
+    sink: &mut R,
+) -> Result<ResponseInfo, CatalogError>
+    ensures replied { IfOk result (λ info. (wants_memory soa.now ≡ false) ×
+        IsSent R.shows R.informs request.now.message.metadata (R.settings sink.old) (R.settings sink.new) (R.entries sink.old) (R.entries sink.new) (R.failures sink.old) (R.failures sink.new) (negative_reply request.now.message edns.old e.now denial.now soa.now) (header_of info)) }
+    ensures refused { IfErr result (λ e. (e ≡ CatalogError.Memory) ×
+        (R.settings sink.new ≡ R.settings sink.old) × (R.entries sink.new ≡ R.entries sink.old) × (R.failures sink.new ≡ R.failures sink.old)) }
+{
+    check_memory(soa)?;
+    Ok(send_negative(sink, alloc, request.message(), edns.take(), e, denial, soa))
+}
+
+/// Answers where there is nothing, with this denial.
+fn answer_denied<H: ZoneHandler, R: ResponseHandler>(
+    handler: &H,
+    alloc: Global,
+    request: &Request,
+    edns: &mut Option<Edns>,
+    e: &LookupError,
+    denial: &LookupControlFlow<AuthLookup>,
+    sink: &mut R,
+) -> Result<ResponseInfo, CatalogError>
+    ensures replied { IfOk result (λ info. (wants_memory denial.now ≡ false) ×
+        (soa : Flow) × H.lookup_gives handler.now (H.origin_of handler.now) 6 None (options_of request.now) soa × (wants_memory soa ≡ false) ×
+        IsSent R.shows R.informs request.now.message.metadata (R.settings sink.old) (R.settings sink.new) (R.entries sink.old) (R.entries sink.new) (R.failures sink.old) (R.failures sink.new) (negative_reply request.now.message edns.old e.now denial.now soa) (header_of info)) }
+    ensures refused { IfErr result (λ e. (e ≡ CatalogError.Memory) ×
+        (R.settings sink.new ≡ R.settings sink.old) × (R.entries sink.new ≡ R.entries sink.old) × (R.failures sink.new ≡ R.failures sink.old)) }
+{
+    check_memory(denial)?;
+    let options = options_of(request);
+    let soa = handler.lookup(alloc, handler.origin(), RecordType::SOA, None, options);
+    let sent = answer_with_soa(alloc, request, edns, e, denial, &soa, sink);
+    drop(soa);
+    sent
 }
 
 /// Answers where there is nothing.
@@ -209,22 +273,21 @@ fn answer_nothing<H: ZoneHandler, R: ResponseHandler>(
     handler: &H,
     alloc: Global,
     request: &Request,
-    edns: Option<Edns>,
+    edns: &mut Option<Edns>,
     query: &LowerQuery,
     e: &LookupError,
     sink: &mut R,
 ) -> Result<ResponseInfo, CatalogError>
     ensures replied { IfOk result (λ info. refusal_code e.now ≡ None → (reply : Reply) ×
-        AuthoritativeReply H.ZoneHandler handler.now request.now edns query.now reply (Err e.now) ×
+        AuthoritativeReply H.ZoneHandler handler.now request.now edns.old query.now reply (Err e.now) ×
         IsSent R.shows R.informs request.now.message.metadata (R.settings sink.old) (R.settings sink.new) (R.entries sink.old) (R.entries sink.new) (R.failures sink.old) (R.failures sink.new) reply (header_of info)) }
     ensures refused { IfErr result (λ e. (e ≡ CatalogError.Memory) ×
         (R.settings sink.new ≡ R.settings sink.old) × (R.entries sink.new ≡ R.entries sink.old) × (R.failures sink.new ≡ R.failures sink.old)) }
 {
-    let options = options_of(request);
-    let denial = unless_memory(nothing_denial(handler, alloc, query, options))?;
-    let soa = handler.lookup(alloc, handler.origin(), RecordType::SOA, None, options);
-    let soa = unless_memory(soa)?;
-    Ok(send_negative(sink, alloc, request.message(), edns, e, &denial, &soa))
+    let denial = nothing_denial(handler, alloc, query, options_of(request));
+    let sent = answer_denied(handler, alloc, request, edns, e, &denial, sink);
+    drop(denial);
+    sent
 }
 
 /// Answers for a handler that holds the zone, to what the chain answered in the end, and hands the reply over.
@@ -232,13 +295,13 @@ pub(crate) fn answer_authoritatively<H: ZoneHandler, R: ResponseHandler>(
     handler: &H,
     alloc: Global,
     request: &Request,
-    edns: Option<Edns>,
+    edns: &mut Option<Edns>,
     query: &LowerQuery,
     outcome: &Result<AuthLookup, LookupError>,
     sink: &mut R,
 ) -> Result<ResponseInfo, CatalogError>
     ensures replied { IfOk result (λ info. (reply : Reply) ×
-        AuthoritativeReply H.ZoneHandler handler.now request.now edns query.now reply outcome.now ×
+        AuthoritativeReply H.ZoneHandler handler.now request.now edns.old query.now reply outcome.now ×
         IsSent R.shows R.informs request.now.message.metadata (R.settings sink.old) (R.settings sink.new) (R.entries sink.old) (R.entries sink.new) (R.failures sink.old) (R.failures sink.new) reply (header_of info)) }
     ensures refused { IfErr result (λ e. (e ≡ CatalogError.Memory) ×
         (R.settings sink.new ≡ R.settings sink.old) × (R.entries sink.new ≡ R.entries sink.old) × (R.failures sink.new ≡ R.failures sink.old)) }
@@ -246,7 +309,7 @@ pub(crate) fn answer_authoritatively<H: ZoneHandler, R: ResponseHandler>(
     match outcome {
         Ok(found) => answer_found(handler, alloc, request, edns, query, found, sink),
         Err(e) => match refusal_code(e) {
-            Some(code) => Ok(send_refusal(sink, alloc, request.message(), edns, code)),
+            Some(code) => Ok(send_refusal(sink, alloc, request.message(), edns.take(), code)),
             None => answer_nothing(handler, alloc, request, edns, query, e, sink),
         },
     }

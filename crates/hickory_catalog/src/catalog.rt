@@ -131,8 +131,8 @@ impl<S: ReplySigner, H: ZoneHandler> Catalog<S, H> {
         ensures refused { IfErr result (λ e. (e ≡ CatalogError.Memory) ×
             (R.settings sink.new ≡ R.settings sink.old) × (R.entries sink.new ≡ R.entries sink.old) × (R.failures sink.new ≡ R.failures sink.old)) }
     {
-        let edns = cloned(edns)?;
-        answer_query(&self.zones, alloc, request, edns, sink)
+        let mut edns = cloned(edns)?;
+        answer_query(&self.zones, alloc, request, &mut edns, sink)
     }
 }
 
@@ -161,10 +161,10 @@ impl<S: ReplySigner, H: ZoneHandler> RequestHandler for Catalog<S, H> {
         ensures unchanged { self.new ≡ self.old }
     {
         let message = request.message();
-        let edns = reply_edns(alloc, self.nsid(), message.edns.as_ref())?;
+        let mut edns = reply_edns(alloc, self.nsid(), message.edns.as_ref())?;
         match request_fault(message) {
             Some(code) => Ok(send_error(sink, alloc, message, edns, code)),
-            None => answer_query(&self.zones, alloc, request, edns, sink),
+            None => answer_query(&self.zones, alloc, request, &mut edns, sink),
         }
     }
 }

@@ -1,6 +1,6 @@
 //! Denials beside the records of a zone, and in their place.
 
-ghost use Rattle.std.specs.Prelude.{◌≡◌, false, IfOk, IfErr};
+ghost use Rattle.std.specs.Prelude.{◌≡◌, false, IfErr, OnOk};
 ghost use Rattle.std.specs.Option.{option_copied};
 ghost use Rattle.hickory_base.specs.Lookups.{answers_of};
 ghost use Rattle.hickory_catalog.specs.Denying.{DenialBesideAnswer, DenialGiven, DenialOfNegative, is_expanded, is_wildcard_match, needs_denial, records_given, signed_labels};
@@ -36,17 +36,15 @@ pub(crate) fn records_given(answer: &LookupControlFlow<AuthLookup>) -> &[Record]
     }
 }
 
-/// An answer that wants no memory; one that does ends the call.
-pub(crate) fn unless_memory(
-    answer: LookupControlFlow<AuthLookup>,
-) -> Result<LookupControlFlow<AuthLookup>, CatalogError>
-    ensures ok { IfOk result (λ given. (given ≡ answer) × (wants_memory answer ≡ false)) }
+/// Fails where an answer says that memory was refused, which ends the call.
+pub(crate) fn check_memory(answer: &LookupControlFlow<AuthLookup>) -> Result<(), CatalogError>
+    ensures ok { OnOk result (wants_memory answer.now ≡ false) }
     ensures err { IfErr result (λ e. e ≡ CatalogError.Memory) }
 {
-    if wants_memory(&answer) {
+    if wants_memory(answer) {
         Err(CatalogError::Memory)
     } else {
-        Ok(answer)
+        Ok(())
     }
 }
 

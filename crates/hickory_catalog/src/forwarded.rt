@@ -358,6 +358,7 @@ pub(crate) fn send_forwarded<R: ResponseHandler>(
 {
     if !request.metadata.recursion_desired {
         let refused = forwarded_metadata(&request.metadata, false, ResponseCode::REFUSED);
+        drop(outcome);
         return send_records(sink, alloc, request, edns, refused, Sections::none());
     }
     let found = findings_of(alloc, &query.original().name, outcome);

@@ -18,31 +18,33 @@ use hickory_base::server::{Request, RequestInfo, ResponseHandler, ResponseInfo};
 use hickory_base::zone_store::{AuthLookup, LookupOptions, ZoneHandler, ZoneType};
 use hickory_wire::{Edns, LowerQuery, RecordType, ResponseCode, TSigResponseContext};
 use std::alloc::Global;
+use std::mem;
 
-/// Answers for the handler that was asked, to what the chain answered in the end.
+/// Answers for the handler that was asked, to what the chain answered in the end, whose records may be taken out.
 fn answer_for_handler<H: ZoneHandler, R: ResponseHandler>(
     handler: &H,
     alloc: Global,
     request: &Request,
-    edns: Option<Edns>,
+    edns: &mut Option<Edns>,
     query: &LowerQuery,
-    outcome: Result<AuthLookup, LookupError>,
+    outcome: &mut Result<AuthLookup, LookupError>,
     sink: &mut R,
 ) -> Result<ResponseInfo, CatalogError>
     ensures replied { IfOk result (λ info. (reply : Reply) ×
-        HandlerReply H.ZoneHandler handler.now (H.zone_type_of handler.now) request.now edns query.now outcome reply ×
+        HandlerReply H.ZoneHandler handler.now (H.zone_type_of handler.now) request.now edns.old query.now outcome.old reply ×
         IsSent R.shows R.informs request.now.message.metadata (R.settings sink.old) (R.settings sink.new) (R.entries sink.old) (R.entries sink.new) (R.failures sink.old) (R.failures sink.new) reply (header_of info)) }
     ensures refused { IfErr result (λ e. (e ≡ CatalogError.Memory) ×
         (R.settings sink.new ≡ R.settings sink.old) × (R.entries sink.new ≡ R.entries sink.old) × (R.failures sink.new ≡ R.failures sink.old)) }
 {
     match handler.zone_type() {
         ZoneType::Primary | ZoneType::Secondary => {
-            answer_authoritatively(handler, alloc, request, edns, query, &outcome, sink)
+            answer_authoritatively(handler, alloc, request, edns, query, outcome, sink)
         }
         ZoneType::External => {
             let validates = handler.can_validate_dnssec();
             let message = request.message();
-            Ok(send_forwarded(sink, alloc, message, edns, query, validates, outcome))
+            let outcome = mem::replace(outcome, Ok(AuthLookup::Empty));
+            Ok(send_forwarded(sink, alloc, message, edns.take(), query, validates, outcome))
         }
     }
 }
@@ -57,24 +59,25 @@ fn is_out_of_memory(outcome: &Result<AuthLookup, LookupError>) -> bool
     }
 }
 
-/// Answers to what a chain answered in the end, where this handler was asked.
-fn answer_outcome<H: ZoneHandler, R: ResponseHandler>(
+/// Answers to what a chain answered in the end, whose records may be taken out, where this handler was asked. An answer
+/// with a context for the signer is not implemented.
+fn answer_unless_signed<H: ZoneHandler, R: ResponseHandler>(
     handler: &H,
     alloc: Global,
     request: &Request,
-    edns: Option<Edns>,
+    edns: &mut Option<Edns>,
     query: &LowerQuery,
-    outcome: Result<AuthLookup, LookupError>,
-    context: Option<TSigResponseContext>,
+    outcome: &mut Result<AuthLookup, LookupError>,
+    context: &Option<TSigResponseContext>,
     sink: &mut R,
 ) -> Result<ResponseInfo, CatalogError>
     ensures replied { IfOk result (λ info. (reply : Reply) ×
-        ResultReply H.ZoneHandler handler.now request.now edns query.now reply outcome context ×
+        ResultReply H.ZoneHandler handler.now request.now edns.old query.now reply outcome.old context.now ×
         IsSent R.shows R.informs request.now.message.metadata (R.settings sink.old) (R.settings sink.new) (R.entries sink.old) (R.entries sink.new) (R.failures sink.old) (R.failures sink.new) reply (header_of info)) }
     ensures refused { IfErr result (λ e. (e ≡ CatalogError.Memory) ×
         (R.settings sink.new ≡ R.settings sink.old) × (R.entries sink.new ≡ R.entries sink.old) × (R.failures sink.new ≡ R.failures sink.old)) }
 {
-    if is_out_of_memory(&outcome) {
+    if is_out_of_memory(outcome) {
         return Err(CatalogError::Memory);
     }
     match context {
@@ -83,17 +86,43 @@ fn answer_outcome<H: ZoneHandler, R: ResponseHandler>(
     }
 }
 
+/// Answers to what a chain answered in the end, where this handler was asked.
+fn answer_outcome<H: ZoneHandler, R: ResponseHandler>(
+    handler: &H,
+    alloc: Global,
+    request: &Request,
+    edns: &mut Option<Edns>,
+    query: &LowerQuery,
+    outcome: Result<AuthLookup, LookupError>,
+    context: Option<TSigResponseContext>,
+    sink: &mut R,
+) -> Result<ResponseInfo, CatalogError>
+    ensures replied { IfOk result (λ info. (reply : Reply) ×
+        ResultReply H.ZoneHandler handler.now request.now edns.old query.now reply outcome context ×
+        IsSent R.shows R.informs request.now.message.metadata (R.settings sink.old) (R.settings sink.new) (R.entries sink.old) (R.entries sink.new) (R.failures sink.old) (R.failures sink.new) reply (header_of info)) }
+    ensures refused { IfErr result (λ e. (e ≡ CatalogError.Memory) ×
+        (R.settings sink.new ≡ R.settings sink.old) × (R.entries sink.new ≡ R.entries sink.old) × (R.failures sink.new ≡ R.failures sink.old)) }
+{
+    let mut rest = outcome;
+    let told = answer_unless_signed(
+        handler, alloc, request, edns, query, &mut rest, &context, sink,
+    );
+    drop(rest);
+    drop(context);
+    told
+}
+
 /// Answers a query of a zone by its handlers, and hands the reply over, with this EDNS.
 fn answer_zone<H: ZoneHandler, R: ResponseHandler>(
     chain: &[H],
     alloc: Global,
     request: &Request,
-    edns: Option<Edns>,
+    edns: &mut Option<Edns>,
     query: &LowerQuery,
     sink: &mut R,
 ) -> Result<ResponseInfo, CatalogError>
     ensures replied { IfOk result (λ info. (reply : Reply) ×
-        ZoneReply H.ZoneHandler chain.now request.now edns query.now reply ×
+        ZoneReply H.ZoneHandler chain.now request.now edns.old query.now reply ×
         IsSent R.shows R.informs request.now.message.metadata (R.settings sink.old) (R.settings sink.new) (R.entries sink.old) (R.entries sink.new) (R.failures sink.old) (R.failures sink.new) reply (header_of info)) }
     ensures refused { IfErr result (λ e. (e ≡ CatalogError.Memory) ×
         (R.settings sink.new ≡ R.settings sink.old) × (R.entries sink.new ≡ R.entries sink.old) × (R.failures sink.new ≡ R.failures sink.old)) }
@@ -109,7 +138,7 @@ fn answer_zone<H: ZoneHandler, R: ResponseHandler>(
             sink,
             alloc,
             request.message(),
-            edns,
+            edns.take(),
             ResponseCode::SERV_FAIL,
         )),
         Some(outcome) => {
@@ -125,11 +154,11 @@ pub(crate) fn answer_query<H: ZoneHandler, R: ResponseHandler>(
     zones: &Zones<H>,
     alloc: Global,
     request: &Request,
-    edns: Option<Edns>,
+    edns: &mut Option<Edns>,
     sink: &mut R,
 ) -> Result<ResponseInfo, CatalogError>
     ensures replied { IfOk result (λ info. (reply : Reply) ×
-        QueryReply H.ZoneHandler zones.now request.now edns reply ×
+        QueryReply H.ZoneHandler zones.now request.now edns.old reply ×
         IsSent R.shows R.informs request.now.message.metadata (R.settings sink.old) (R.settings sink.new) (R.entries sink.old) (R.entries sink.new) (R.failures sink.old) (R.failures sink.new) reply (header_of info)) }
     ensures refused { IfErr result (λ e. (e ≡ CatalogError.Memory) ×
         (R.settings sink.new ≡ R.settings sink.old) × (R.entries sink.new ≡ R.entries sink.old) × (R.failures sink.new ≡ R.failures sink.old)) }
@@ -137,10 +166,10 @@ pub(crate) fn answer_query<H: ZoneHandler, R: ResponseHandler>(
     let message = request.message();
     let info = match request.request_info() {
         Ok(info) => info,
-        Err(_) => return Ok(send_error(sink, alloc, message, edns, ResponseCode::FORM_ERR)),
+        Err(_) => return Ok(send_error(sink, alloc, message, edns.take(), ResponseCode::FORM_ERR)),
     };
     match zones.find(alloc, info.query.name())? {
-        None => Ok(send_error(sink, alloc, message, edns, ResponseCode::REFUSED)),
+        None => Ok(send_error(sink, alloc, message, edns.take(), ResponseCode::REFUSED)),
         Some(chain) => answer_zone(chain.as_slice(), alloc, request, edns, info.query, sink),
     }
 }

@@ -2,9 +2,9 @@
 #![tactic(auto)]
 
 pub use hickory_base::access;
-pub use hickory_text as zone_text;
 pub use hickory_wire as proto;
 
 pub mod server;
 pub mod store;
 pub mod zone_handler;
+pub mod zone_text;

@@ -1,5 +1,8 @@
 //! Requests, and what replies are handed to.
 
+pub mod serve;
+
+pub use hickory_base::encoding_sink::EncodingSink;
 pub use hickory_base::server::{
     RecordRef, Request, RequestHandler, RequestInfo, ResponseHandler, ResponseInfo, encode_response,
 };

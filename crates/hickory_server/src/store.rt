@@ -1,4 +1,5 @@
-//! Where the records of a zone are kept, and lists of names that are blocked.
+//! Where the records of a zone are kept, zones that take updates, and lists of names that are blocked.
 
 pub mod blocklist;
 pub mod in_memory;
+pub mod sqlite;

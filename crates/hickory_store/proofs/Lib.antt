@@ -3,3 +3,6 @@ pub mod FirstBytes
 pub mod Shortening
 pub mod Kept
 pub mod Listing
+pub mod NamedSets
+pub mod NamesInZones
+pub mod RecordByRecord

@@ -2,5 +2,15 @@ pub mod Adding
 pub mod BlockAnswers
 pub mod Blocked
 pub mod Entries
+pub mod Identity
+pub mod LendingZone
 pub mod ListLines
+pub mod Permission
+pub mod Prerequisites
+pub mod Prescan
 pub mod Readers
+pub mod Refusals
+pub mod SetsByRecord
+pub mod TransferAnswers
+pub mod UpdatableZone
+pub mod WorkedUpdates

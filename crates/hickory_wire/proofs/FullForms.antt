@@ -6,13 +6,16 @@ use Rattle.std.specs.List.{AllByRecursion}
 use Rattle.std.specs.Int.{w16, w32, to_be_bytes}
 use Rattle.hickory_wire.specs.Bytes.{BytesAt}
 use Rattle.hickory_wire.specs.DomainName.{DomainName, IsLabel, AreLabels, wire_form, name_len}
-use Rattle.hickory_wire.specs.FullForm.{name_octets, data_octets, record_octets, HasNames}
+use Rattle.hickory_wire.specs.FullForm.{name_octets, data_octets, record_octets, EndsInFull, HasNames}
 use Rattle.hickory_wire.specs.NameLayout.{LabelsAt, NameAt}
 use Rattle.hickory_wire.specs.NameLayout.LabelsAt.{at_end, at_label}
+use Rattle.hickory_wire.specs.QuestionForm.{question_octets}
+use Rattle.hickory_wire.specs.QuestionLayout.{QuestionAt}
 use Rattle.hickory_wire.specs.RecordData.{soa_numbers, tsig_fields, type_of}
 use Rattle.hickory_wire.specs.RecordLayout.{OctetsAt, DataAt, FormAt, fixed_fields}
 use Rattle.hickory_wire.specs.RecordSize.{data_len, full_size, form_fault}
 use Rattle.hickory_wire.specs.Writing.{Puts}
+use Rattle.hickory_wire.specs.declared.query.Query.{Query}
 use Rattle.hickory_wire.specs.declared.rdata.RData.{RData}
 use Rattle.hickory_wire.specs.declared.rdata.RData.TheVariants as rdata
 use Rattle.hickory_wire.specs.declared.record.Record.{Record}
@@ -116,7 +119,7 @@ record_octets-len r =
     omega (arith, length-append (name ++ fixed) (data_octets r.rdata), length-append name fixed, name_octets-len r.name.labels, data_octets-len r.rdata)
 
 -- a record stands where it stands in full
-record_stands : (bytes : List ℕ) (floor place next : ℕ) (r : Record RData) → AreLabels r.name.labels → HasNames r.rdata → data_len r.rdata < 2 ^ 16 → floor ≤ place → BytesAt bytes place (record_octets r) → next ≡ place + full_size r → FormAt floor bytes place r next
+pub record_stands : (bytes : List ℕ) (floor place next : ℕ) (r : Record RData) → AreLabels r.name.labels → HasNames r.rdata → data_len r.rdata < 2 ^ 16 → floor ≤ place → BytesAt bytes place (record_octets r) → next ≡ place + full_size r → FormAt floor bytes place r next
 record_stands bytes floor place next r owner names small low s e =
     let name = name_octets r.name.labels in
     let fixed = fixed_fields r (data_len r.rdata) in
@@ -133,6 +136,11 @@ record_stands bytes floor place next r owner names small low s e =
       counted = omega arith;
     }
 
+-- octets that end in data in full do so whatever the data
+ends_in_full : (d : RData) (front : List ℕ) → EndsInFull d (front ++ data_octets d)
+ends_in_full (rdata.TSIG signature) front = (front, refl)
+ends_in_full content front = tt
+
 -- a record that is put in full is put
 pub puts_full : (limit : ℕ) (old new : List ℕ) (r : Record RData) → 12 ≤ length old → AreLabels r.name.labels → HasNames r.rdata → form_fault r.rdata ≡ None → data_len r.rdata < 2 ^ 16 → new ≡ old ++ record_octets r → length old + full_size r ≤ limit → Puts limit old r new
 puts_full limit old new r low owner names formed small e within =
@@ -142,6 +150,7 @@ puts_full limit old new r low owner names formed small e within =
       more = record_octets r;
       formed = formed;
       appended = e;
+      in_full = ends_in_full r.rdata (name_octets r.name.labels ++ fixed_fields r (data_len r.rdata));
       small = omega (arith, size);
       within = omega arith;
       form = record_stands new 12 (length old) (length new) r owner names small low (subst (λ b. BytesAt b (length old) (record_octets r)) (sym e) (BytesAt-append old (record_octets r))) all;
@@ -158,3 +167,27 @@ put_parts limit old named fixed new r kind class ttl len low owner names formed 
     e3 ∙ ap (λ b. b ++ data_octets r.rdata) (fields ∙ ap (λ b. b ++ fixed_fields r (data_len r.rdata)) e1 ∙ append_assoc old name (fixed_fields r (data_len r.rdata)))
     ∙ append_assoc old (name ++ fixed_fields r (data_len r.rdata)) (data_octets r.rdata) in
     puts_full limit old new r low owner names formed.0 (omega (arith, formed.1)) whole (omega (arith, formed.1))
+
+-- a question is as long in full as it says
+pub question_octets-len : (q : Query) → length (question_octets q) ≡ name_len q.name.labels + 4
+question_octets-len q =
+    let name = name_octets q.name.labels in
+    let kind = to_be_bytes w16 q.query_type in
+    omega (arith, length-append (name ++ kind) (to_be_bytes w16 q.query_class), length-append name kind, name_octets-len q.name.labels)
+
+-- a question stands where it stands in full
+pub question_stands : (bytes : List ℕ) (floor place : ℕ) (q : Query) → AreLabels q.name.labels → floor ≤ place → BytesAt bytes place (question_octets q) → QuestionAt floor bytes place q (place + length (question_octets q))
+question_stands bytes floor place q are low s =
+    let name = name_octets q.name.labels in
+    let kind = to_be_bytes w16 q.query_type in
+    let class = to_be_bytes w16 q.query_class in
+    let parts : BytesAt bytes place (name ++ (kind ++ class)) = subst (λ t. BytesAt bytes place t) (append_assoc name kind class) s in
+    let len = name_octets-len q.name.labels in
+    let size = question_octets-len q in
+    let middle = place + name_len q.name.labels in
+    record {
+      middle = middle;
+      name = name_stands bytes floor place middle q.name are low (BytesAt-left bytes place name (kind ++ class) parts) refl;
+      fields = subst (λ p. BytesAt bytes p (kind ++ class)) (omega (arith, len)) (BytesAt-right bytes place name (kind ++ class) parts);
+      after = omega (arith, size);
+    }

@@ -1,13 +1,15 @@
 -- That records and data which compare as equal are the same, and the other way round.
 use Rattle.std.proofs.Common.{◌≡◌, ℕ, Bool, true, false, ◌&&◌, nat_eq, List, [], ◌∷◌, refl, ap, ◌∙◌}
-use Rattle.std.specs.Bool.{IsTrue}
+use Rattle.std.specs.Bool.{IsTrue, beq}
 use Rattle.std.specs.Cmp.Lexicographic.{pointwise}
 use Rattle.std.proofs.lemmas.Bool.{eq-eqb, eqb-true}
 use Rattle.hickory_wire.specs.DomainName.{DomainName}
 use Rattle.hickory_wire.specs.NameHash.{same_from_eq}
 use Rattle.hickory_wire.specs.NameOrder.{lower_name, lower_labels, name_eq, SameName}
 use Rattle.hickory_wire.proofs.SameNames.{eq_from_same}
+use Rattle.hickory_wire.specs.RecordSameness.{lower_tsig}
 use Rattle.hickory_wire.specs.declared.edns.EdnsOption.{EdnsOption}
+use Rattle.hickory_wire.specs.declared.tsig.TSIG.{TSIG}
 
 -- two tests hold where their conjunction does
 pub both_hold : (a b : Bool) → (a && b) ≡ true → (a ≡ true) × (b ≡ true)
@@ -63,6 +65,20 @@ number_from_eq a b = eqb-true a b
 pub number_equal : (a b : ℕ) → a ≡ b → nat_eq a b ≡ true
 number_equal a b = eq-eqb a b
 
+-- flags that compare as equal are one
+pub flag_from_eq : (a b : Bool) → beq a b ≡ true → a ≡ b
+flag_from_eq true true h = refl
+flag_from_eq true false h = absurd (cc)
+flag_from_eq false true h = absurd (cc)
+flag_from_eq false false h = refl
+
+flag_itself : (a : Bool) → beq a a ≡ true
+flag_itself true = refl
+flag_itself false = refl
+
+pub flag_equal : (a b : Bool) → a ≡ b → beq a b ≡ true
+flag_equal a b e = rw (← e) (flag_itself a)
+
 abbrev pub option_eq : EdnsOption → EdnsOption → Bool
 option_eq a b = nat_eq a.code b.code && pointwise nat_eq a.bytes b.bytes
 
@@ -77,3 +93,35 @@ options_from_eq = list_from_eq option_eq option_from_eq
 
 pub options_equal : (xs : List EdnsOption) → pointwise option_eq xs xs ≡ true
 options_equal xs = eq_from_list option_eq (λ a. hold_both _ _ (number_equal a.code a.code refl) (octets_equal a.bytes)) xs xs refl
+
+-- data of signatures that compare as equal are one in lower case
+abbrev pub signature_eq : TSIG → TSIG → Bool
+signature_eq a b = name_eq a.algorithm b.algorithm && (nat_eq a.time b.time && (nat_eq a.fudge b.fudge && (pointwise nat_eq a.mac b.mac && (nat_eq a.oid b.oid && (nat_eq a.error b.error && pointwise nat_eq a.other b.other)))))
+
+pub signature_from_eq : (a b : TSIG) → signature_eq a b ≡ true → lower_tsig a ≡ lower_tsig b
+signature_from_eq a b h =
+    let b0 : (name_eq a.algorithm b.algorithm ≡ true) × ((nat_eq a.time b.time && (nat_eq a.fudge b.fudge && (pointwise nat_eq a.mac b.mac && (nat_eq a.oid b.oid && (nat_eq a.error b.error && pointwise nat_eq a.other b.other))))) ≡ true) = both_hold _ _ h in
+    let b1 : (nat_eq a.time b.time ≡ true) × ((nat_eq a.fudge b.fudge && (pointwise nat_eq a.mac b.mac && (nat_eq a.oid b.oid && (nat_eq a.error b.error && pointwise nat_eq a.other b.other)))) ≡ true) = both_hold _ _ b0.1 in
+    let b2 : (nat_eq a.fudge b.fudge ≡ true) × ((pointwise nat_eq a.mac b.mac && (nat_eq a.oid b.oid && (nat_eq a.error b.error && pointwise nat_eq a.other b.other))) ≡ true) = both_hold _ _ b1.1 in
+    let b3 : (pointwise nat_eq a.mac b.mac ≡ true) × ((nat_eq a.oid b.oid && (nat_eq a.error b.error && pointwise nat_eq a.other b.other)) ≡ true) = both_hold _ _ b2.1 in
+    let b4 : (nat_eq a.oid b.oid ≡ true) × ((nat_eq a.error b.error && pointwise nat_eq a.other b.other) ≡ true) = both_hold _ _ b3.1 in
+    let b5 : (nat_eq a.error b.error ≡ true) × ((pointwise nat_eq a.other b.other) ≡ true) = both_hold _ _ b4.1 in
+    let p0 : lower_name a.algorithm ≡ lower_name b.algorithm = lower_from_eq _ _ b0.0 in
+    let p1 : a.time ≡ b.time = number_from_eq _ _ b1.0 in
+    let p2 : a.fudge ≡ b.fudge = number_from_eq _ _ b2.0 in
+    let p3 : a.mac ≡ b.mac = octets_from_eq _ _ b3.0 in
+    let p4 : a.oid ≡ b.oid = number_from_eq _ _ b4.0 in
+    let p5 : a.error ≡ b.error = number_from_eq _ _ b5.0 in
+    let p6 : a.other ≡ b.other = octets_from_eq _ _ b5.1 in
+    cc
+
+pub signature_equal : (a b : TSIG) → lower_tsig a ≡ lower_tsig b → signature_eq a b ≡ true
+signature_equal a b e =
+    let p0 : lower_name a.algorithm ≡ lower_name b.algorithm = ap (λ (t : TSIG). t.algorithm) e in
+    let p1 : a.time ≡ b.time = ap (λ (t : TSIG). t.time) e in
+    let p2 : a.fudge ≡ b.fudge = ap (λ (t : TSIG). t.fudge) e in
+    let p3 : a.mac ≡ b.mac = ap (λ (t : TSIG). t.mac) e in
+    let p4 : a.oid ≡ b.oid = ap (λ (t : TSIG). t.oid) e in
+    let p5 : a.error ≡ b.error = ap (λ (t : TSIG). t.error) e in
+    let p6 : a.other ≡ b.other = ap (λ (t : TSIG). t.other) e in
+    hold_both _ _ (eq_from_lower _ _ p0) (hold_both _ _ (number_equal _ _ p1) (hold_both _ _ (number_equal _ _ p2) (hold_both _ _ (rw (← p3) (octets_equal a.mac)) (hold_both _ _ (number_equal _ _ p4) (hold_both _ _ (number_equal _ _ p5) (rw (← p6) (octets_equal a.other)))))))

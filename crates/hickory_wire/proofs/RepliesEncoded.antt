@@ -11,7 +11,7 @@ use Rattle.hickory_wire.specs.Writing.{Encoded, fallback_header}
 use Rattle.hickory_wire.specs.Writing.Encoded.{written, too_large, formless}
 use Rattle.hickory_wire.specs.declared.error.ProtoError.{ProtoError}
 use Rattle.hickory_wire.specs.declared.header.Header.{Header}
-use Rattle.hickory_wire.proofs.WrittenMessage.{written_reads}
+use Rattle.hickory_wire.proofs.WrittenMessage.{message_stands, written_reads}
 
 pub encoded_written : (limit : ℕ) (reply : Reply) (bytes : List ℕ) (header : Header) → ReplyWritten limit reply bytes header → Encoded limit reply bytes header
 encoded_written limit reply bytes header w = subst (λ (h : Header). Encoded limit reply bytes h) (sym w.header_is) (written w.written)
@@ -24,7 +24,7 @@ pub encoded_fallback : (limit : ℕ) (reply : Reply) (bytes : List ℕ) (header 
 encoded_fallback limit reply bytes header e h is r = subst (λ (x : Header). Encoded limit reply bytes x) (sym h) (instead limit reply bytes e is r)
 
 pub reply_encoded : (limit : ℕ) (reply : Reply) (bytes : List ℕ) (header : Header) → limit < 2 ^ 16 → AreBytes bytes → Encoded limit reply bytes header → ReplyEncoded limit reply bytes header
-reply_encoded limit reply bytes header small are e = record { encoded = e; reads = λ fronts queries w d. written_reads limit reply bytes fronts queries small w d are }
+reply_encoded limit reply bytes header small are e = record { encoded = e; stands = λ fronts queries w d. message_stands limit reply bytes fronts queries small w d; reads = λ fronts queries w d. written_reads limit reply bytes fronts queries small w d are }
 
 -- the elements of a vector of bytes are bytes
 pub are_bytes : (bytes : List ℕ) → ((i d : ℕ) → i < length bytes → get_or bytes i d < 256) → AreBytes bytes

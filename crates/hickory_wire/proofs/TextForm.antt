@@ -1,5 +1,5 @@
 -- Names as text, label by label.
-use Rattle.std.proofs.Common.{◌≡◌, ◌∙◌, ℕ, zero, suc, ◌+◌, ◌<◌, List, [], ◌∷◌, ◌++◌, length, take, get_or, ap, sym, arith, Bool, true, false, flat_map, append-nil, codes, if◌then◌else◌, ◌≤◌, refl}
+use Rattle.std.proofs.Common.{◌≡◌, ◌∙◌, ℕ, zero, suc, ◌+◌, ◌<◌, List, [], ◌∷◌, ◌++◌, length, take, get_or, ap, sym, arith, Bool, false, flat_map, append-nil, codes, if◌then◌else◌, ◌≤◌, refl}
 use Rattle.std.proofs.lemmas.List.{take_more, flat_map_more, take_all}
 use Rattle.hickory_wire.specs.DomainName.{DomainName, wire_form, label_offset}
 use Rattle.hickory_wire.specs.TextForm.{bytes_text, labels_text, spelled_name}

@@ -45,7 +45,7 @@ whole_list limit old records new front true e formed fits w =
     let k = w.ends in
     absurd (omega (arith, k.large, fits, puts_small limit (take front.count records) old new w.puts, front_and_next records front.count k.next k.rest k.is))
 
-formless_none : {limit : ℕ} {old : List ℕ} {records : List (Record RData)} {new : List ℕ} {count : ℕ} {e : ProtoError} → AllByRecursion HasForm records → ListWritten limit old records new count (writing.Ending.stuck e) → ⊥
+pub formless_none : {limit : ℕ} {old : List ℕ} {records : List (Record RData)} {new : List ℕ} {count : ℕ} {e : ProtoError} → AllByRecursion HasForm records → ListWritten limit old records new count (writing.Ending.stuck e) → ⊥
 formless_none {records = records} {count = count} {e = e} formed w =
     let k = w.ends in
     let none : None ≡ Some e = sym (next_formed records count k.next k.rest formed k.is) ∙ k.formless in

@@ -20,7 +20,7 @@ use Rattle.hickory_wire.specs.declared.record.Record.{Record}
 abbrev pub without_proof : {R : Type 0} → Record R → Record R
 without_proof r = record r { proof = Indeterminate }
 
--- a record of a section that reads back as itself, but for its proof
+-- a record of a section that reads back as itself where it is written, but for its proof
 pub record IsReadable (r : Record RData) : Type 0 where
   pub formed : IsFormedRecord (without_proof r)
   pub section : IsSectionRecord r
@@ -39,8 +39,8 @@ pub record IsFormedMetadata (m : Metadata) : Type 0 where
   pub op_code : m.op_code < 2 ^ 4
   pub response_code : m.response_code < 2 ^ 12
 
--- The reply reads back: its questions stand behind the header in just the bytes that are repeated, and none of their names leads
--- into the header; each record reads back as itself; no OPT, TSIG or SIG stands in a section.
+-- What is written of the reply reads back: its questions stand behind the header in just the bytes that are repeated, and none of their names leads
+-- into the header; each record, where it is written, reads back as itself; no OPT, TSIG or SIG stands in a section.
 pub record IsDecodable (reply : Reply) (queries : List Query) : Type 0 where
   pub metadata : IsFormedMetadata reply.metadata
   pub asked : ItemsAt (QuestionAt 12 (asked_bytes reply)) 12 queries (length (asked_bytes reply))

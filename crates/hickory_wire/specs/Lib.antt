@@ -22,7 +22,9 @@ pub mod NameText
 pub mod OptionReading
 pub mod QuestionForm
 pub mod QuestionLayout
+pub mod QuestionSameness
 pub mod Reading
+pub mod ReadingBack
 pub mod RecordData
 pub mod RecordFaults
 pub mod RecordLayout

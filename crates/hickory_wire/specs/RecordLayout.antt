@@ -72,7 +72,7 @@ pub record FormAt (floor : ℕ) (bytes : List ℕ) (place : ℕ) (r : Record RDa
   pub rdata : DataAt floor bytes (middle + 10) r.rdata next
   pub counted : next ≡ middle + 10 + len
 
--- Data that the form of their type reads back as themselves: each number in its range, names fully qualified, octets without a form
+-- Data that the form of their type reads as themselves where they stand: each number in its range, names fully qualified, octets without a form
 -- only for types that have none, and no octets at all only as data of an update or as an OPT without options.
 abbrev pub IsFormed : RData → Type 0
 IsFormed (rdata.A address) = IsIpv4 address
@@ -89,7 +89,7 @@ IsFormed (rdata.NULL octets) = octets ≢ []
 IsFormed (rdata.Update0 code) = (code < 2 ^ 16) × (code ≢ 41) × (code ≢ 250)
 IsFormed (rdata.Unknown code octets) = (code < 2 ^ 16) × (octets ≢ []) × (code ≢ 1) × (code ≢ 2) × (code ≢ 5) × (code ≢ 6) × (code ≢ 10) × (code ≢ 12) × (code ≢ 15) × (code ≢ 16) × (code ≢ 28) × (code ≢ 41) × (code ≢ 250)
 
--- A record that reads back as itself.
+-- A record whose numbers, names and octets are such as are read. It reads back as itself where its octets keep their lengths too.
 pub record IsFormedRecord (r : Record RData) : Type 0 where
   pub name : IsFullyQualified r.name
   pub class : r.dns_class < 2 ^ 16

@@ -1,5 +1,5 @@
 -- How large a resource record is with every name in full, and which records have no form in bytes (RFC 1035 sections 3.3 and 4.1.3).
-use Rattle.std.specs.Prelude.{ℕ, ◌+◌, ◌^◌, length, Option, Some, None, nat_lt, nat_le, if◌then◌else◌}
+use Rattle.std.specs.Prelude.{◌≡◌, ℕ, ◌+◌, ◌<◌, ◌^◌, length, Option, Some, None, nat_lt, nat_le, if◌then◌else◌}
 use Rattle.std.specs.List.{flat_map, list_any}
 use Rattle.std.specs.Net.Addr.{ipv4_octets, ipv6_octets}
 use Rattle.hickory_wire.specs.DomainName.{name_len}
@@ -29,6 +29,11 @@ data_len (rdata.Unknown code octets) = length octets
 -- owner name, type, class, TTL, length of the data, and the data
 abbrev pub full_size : Record RData → ℕ
 full_size r = name_len r.name.labels + 10 + data_len r.rdata
+
+-- what is left of a room behind so many bytes, or none where they do not fit
+abbrev pub Leaves : ℕ → ℕ → Option ℕ → Type 0
+Leaves room size (Some left) = left + size ≡ room
+Leaves room size None = room < size
 
 -- the data's length has 16 bits
 abbrev pub length_fault : ℕ → Option ProtoError

@@ -4,6 +4,7 @@ use Rattle.std.specs.Borrow.{Bor}
 use Rattle.std.specs.Option.{option_copied}
 use Rattle.hickory_wire.specs.Decoding.{IsDecodable, decoded_message}
 use Rattle.hickory_wire.specs.Endings.{GivesRecords}
+use Rattle.hickory_wire.specs.MessageLayout.{MessageAt}
 use Rattle.hickory_wire.specs.MessageReading.{Reads}
 use Rattle.hickory_wire.specs.Reply.{Reply, reply_lists}
 use Rattle.hickory_wire.specs.Writing.{ListFront, ListsWritten, Fronts, fronts_list, is_any_cut, Written, GetsStuck, Encoded, written_header}
@@ -70,16 +71,19 @@ header_with metadata question_count f = record {
   counts = record { queries = question_count; answers = f.answers.count; authorities = f.authorities.count; additionals = f.additionals.count + f.opt.count + f.signature.count };
 }
 
--- The bytes are the reply, this is their header, and they read back as what was written.
+-- The bytes are the reply, this is their header, and what was written stands in them as a message and reads back.
 pub record ReplyWritten (limit : ℕ) (reply : Reply) (bytes : List ℕ) (header : Header) : Type 0 where
   pub fronts : Fronts
   pub written : Written limit reply bytes fronts
   pub header_is : header ≡ written_header reply fronts
+  pub stands : (queries : List Query) → IsDecodable reply queries → MessageAt bytes (decoded_message reply queries fronts)
   pub reads : (queries : List Query) → IsDecodable reply queries → Reads bytes (decoded_message reply queries fronts)
 
--- The bytes are the reply or what stands for it, this is their header, and a reply reads back as what was written.
+-- The bytes are the reply or what stands for it, this is their header, and what was written of a reply stands in them as a message and
+-- reads back.
 pub record ReplyEncoded (limit : ℕ) (reply : Reply) (bytes : List ℕ) (header : Header) : Type 0 where
   pub encoded : Encoded limit reply bytes header
+  pub stands : (fronts : Fronts) (queries : List Query) → Written limit reply bytes fronts → IsDecodable reply queries → MessageAt bytes (decoded_message reply queries fronts)
   pub reads : (fronts : Fronts) (queries : List Query) → Written limit reply bytes fronts → IsDecodable reply queries → Reads bytes (decoded_message reply queries fronts)
 
 -- Why a reply is not written: header and questions pass the limit, or a record without a form is met.

@@ -1,6 +1,7 @@
 -- What bytes a reply may be written as under a limit (RFC 1035 sections 4.1.1, 4.1.4 and 4.2.1).
 -- Records are left out one by one, and TC tells of any that were: also of additionals, which RFC 2181 section 9 would let go silently.
 use Rattle.std.specs.Prelude.{◌≡◌, ℕ, ◌+◌, ◌<◌, ◌≤◌, List, [], ◌∷◌, ◌++◌, length, take, drop, replicate, Bool, true, false, ◌||◌, Option, Some, None}
+use Rattle.hickory_wire.specs.FullForm.{EndsInFull}
 use Rattle.hickory_wire.specs.HeaderLayout.{header_octets}
 use Rattle.hickory_wire.specs.Metadata.{bare_metadata}
 use Rattle.hickory_wire.specs.RecordLayout.{FormAt}
@@ -13,11 +14,13 @@ use Rattle.hickory_wire.specs.declared.rdata.RData.{RData}
 use Rattle.hickory_wire.specs.declared.record.Record.{Record}
 
 -- new is old with the record behind it, in at most its full size and within the limit. Names in it may be compressed by pointers to
--- earlier places outside the header at which the same labels stand (RFC 1035 section 4.1.4); a pointer reaches places below 2 ^ 14.
+-- earlier places outside the header at which the same labels stand (RFC 1035 section 4.1.4); a pointer reaches places below 2 ^ 14. The data of
+-- a TSIG are in full.
 pub record Puts (limit : ℕ) (old : List ℕ) (r : Record RData) (new : List ℕ) : Type 0 where
   pub more : List ℕ
   pub formed : form_fault r.rdata ≡ None
   pub appended : new ≡ old ++ more
+  pub in_full : EndsInFull r.rdata more
   pub small : length more ≤ full_size r
   pub within : length new ≤ limit
   pub form : FormAt 12 new (length old) r (length new)

@@ -2,6 +2,7 @@
 
 ghost use Rattle.std.specs.Prelude.{◌≡◌, ◌≢◌, IfOk, IfErr, ◌+◌, ◌^◌, ◌≤◌, ◌<◌, length, slice_range, ℕ};
 ghost use Rattle.std.specs.Int.{w8, w16, w32};
+ghost use Rattle.hickory_wire.specs.Bytes.{AreBytes};
 ghost use Rattle.hickory_wire.specs.Cursor.{Cursor};
 ghost use Rattle.hickory_wire.specs.DomainName.{DomainName};
 ghost use Rattle.hickory_wire.specs.Reading.{Gives, number, octets, rest_of};
@@ -28,7 +29,8 @@ impl<'a> Model for BinDecoder<'a> {
 
     ghost view = { λ decoder. record { bytes = decoder.bytes.now; place = decoder.index } };
 
-    ghost invariant = { λ decoder. decoder.index ≤ length decoder.bytes.now };
+    // The numbers of a message are those of bytes.
+    ghost invariant = { λ decoder. (decoder.index ≤ length decoder.bytes.now) × AreBytes decoder.bytes.now };
 }
 
 impl<'a> BinDecoder<'a> {
@@ -66,8 +68,17 @@ impl<'a> BinDecoder<'a> {
         self.bytes.len() - self.index
     }
 
+    /// The whole message.
+    pub(crate) fn message(&self) -> &'a [u8]
+        ensures value { result.now ≡ self.now.bytes }
+        ensures bytes { AreBytes self.now.bytes }
+    {
+        self.bytes
+    }
+
     pub(crate) fn read_u8(&mut self) -> Result<u8, DecodeError>
-        ensures { Gives (λ n. n) result self.old self.new (number w8) }
+        ensures exact { Gives (λ n. n) result self.old self.new (number w8) }
+        ensures fault { IfErr result (λ e. e ≡ InsufficientBytes) }
     {
         let mut rest = &self.bytes[self.index..];
         match rest.try_get_u8() {
@@ -80,7 +91,8 @@ impl<'a> BinDecoder<'a> {
     }
 
     pub(crate) fn read_u16(&mut self) -> Result<u16, DecodeError>
-        ensures { Gives (λ n. n) result self.old self.new (number w16) }
+        ensures exact { Gives (λ n. n) result self.old self.new (number w16) }
+        ensures fault { IfErr result (λ e. e ≡ InsufficientBytes) }
     {
         let mut rest = &self.bytes[self.index..];
         match rest.try_get_u16() {
@@ -93,7 +105,8 @@ impl<'a> BinDecoder<'a> {
     }
 
     pub(crate) fn read_u32(&mut self) -> Result<u32, DecodeError>
-        ensures { Gives (λ n. n) result self.old self.new (number w32) }
+        ensures exact { Gives (λ n. n) result self.old self.new (number w32) }
+        ensures fault { IfErr result (λ e. e ≡ InsufficientBytes) }
     {
         let mut rest = &self.bytes[self.index..];
         match rest.try_get_u32() {
@@ -107,7 +120,8 @@ impl<'a> BinDecoder<'a> {
 
     /// The next `count` bytes, which stay where they are.
     pub(crate) fn read_slice(&mut self, count: usize) -> Result<&'a [u8], DecodeError>
-        ensures { Gives (λ s. s.now) result self.old self.new (octets count) }
+        ensures exact { Gives (λ s. s.now) result self.old self.new (octets count) }
+        ensures fault { IfErr result (λ e. e ≡ InsufficientBytes) }
     {
         let rest = &self.bytes[self.index..];
         if rest.len() < count {

@@ -1,13 +1,14 @@
 //! Laws of replies that are written, each the contract of a function with nothing to do.
 
-ghost use Rattle.std.specs.Prelude.{ℕ, List, ◌<◌, ◌≤◌, ◌^◌, length, max};
+ghost use Rattle.std.specs.Prelude.{◌≡◌, ◌+◌, ℕ, List, ◌<◌, ◌≤◌, ◌^◌, length, max};
 ghost use Rattle.hickory_wire.specs.Bytes.{AreBytes};
 ghost use Rattle.hickory_wire.specs.Decoding.{IsDecodable, decoded_message};
 ghost use Rattle.hickory_wire.specs.MessageLayout.{MessageAt};
 ghost use Rattle.hickory_wire.specs.MessageReading.{Reads};
+ghost use Rattle.hickory_wire.specs.ReadingBack.{ReplyReadsBack};
 ghost use Rattle.hickory_wire.specs.Reply.{Reply};
 ghost use Rattle.hickory_wire.specs.WholeReply.{FitsWhole, IsWhole};
-ghost use Rattle.hickory_wire.specs.Writing.{Encoded, Fronts, GetsStuck, Written};
+ghost use Rattle.hickory_wire.specs.Writing.{Encoded, Fronts, GetsStuck, Written, written_header};
 ghost use Rattle.hickory_wire.specs.declared.error.ProtoError.{ProtoError};
 ghost use Rattle.hickory_wire.specs.declared.header.Header.{Header};
 ghost use Rattle.hickory_wire.specs.declared.query.Query.{Query};
@@ -35,4 +36,12 @@ pub fn what_is_written_is_read()
         Written limit reply bytes fronts → IsDecodable reply queries → MessageAt bytes (decoded_message reply queries fronts) }
     ensures reads { (limit : ℕ) (reply : Reply) (bytes : List ℕ) (fronts : Fronts) (queries : List Query) → limit < 2 ^ 16 → AreBytes bytes →
         Written limit reply bytes fronts → IsDecodable reply queries → Reads bytes (decoded_message reply queries fronts) }
+{}
+
+/// A reply that reads back, and whose header and questions fit the limit, is encoded as what was written of it: no ServFail header stands in
+/// its place. Its bytes are a message of its header, its questions and the fronts of its lists.
+pub fn what_reads_back_is_written()
+    ensures { (limit : ℕ) (reply : Reply) (bytes : List ℕ) (header : Header) (queries : List Query) → limit < 2 ^ 16 → ReplyReadsBack reply queries →
+        12 + length reply.question ≤ limit → Encoded limit reply bytes header →
+        (fronts : Fronts) × Written limit reply bytes fronts × (header ≡ written_header reply fronts) × MessageAt bytes (decoded_message reply queries fronts) }
 {}

@@ -1,9 +1,10 @@
 //! Reading headers (RFC 1035 section 4.1.1).
 
-ghost use Rattle.std.specs.Prelude.{◌≡◌, ◌<◌, IfOk};
+ghost use Rattle.std.specs.Prelude.{◌≡◌, ◌<◌, IfOk, IfErr};
 ghost use Rattle.hickory_wire.specs.HeaderLayout.{bit, metadata_of};
 ghost use Rattle.hickory_wire.specs.Reading.{Gives};
 ghost use Rattle.hickory_wire.specs.SectionReading.{header};
+ghost use Rattle.hickory_wire.specs.declared.error.DecodeError.TheVariants.{InsufficientBytes};
 
 use crate::decoder::BinDecoder;
 use crate::error::DecodeError;
@@ -51,6 +52,7 @@ impl<'a> BinDecoder<'a> {
     #[tactic(auto, unfolding(crate::specs::SectionReading::header))]
     pub fn read_header(&mut self) -> Result<Header, DecodeError>
         ensures exact { Gives (λ h. h) result self.old self.new header }
+        ensures fault { IfErr result (λ e. e ≡ InsufficientBytes) }
         ensures low { IfOk result (λ h. h.metadata.response_code < 16) }
     {
         let id = self.read_u16()?;

@@ -1,6 +1,8 @@
 //! Reading sections and whole messages (RFC 1035 section 4.1).
 
 ghost use Rattle.std.specs.Prelude.{◌≡◌, ◌≢◌, ◌<◌, [], IfOk, IfErr, MatchResult};
+ghost use Rattle.hickory_wire.specs.MessageFaults.{MessageFault};
+ghost use Rattle.hickory_wire.specs.MessageLayout.{MessageAt};
 ghost use Rattle.hickory_wire.specs.MessageReading.{message, high_code, with_high_code, Reads, Fault};
 ghost use Rattle.hickory_wire.specs.Reading.{Gives};
 ghost use Rattle.hickory_wire.specs.RecordReading.{question};
@@ -155,6 +157,10 @@ impl Message {
         ensures only { (m : Message) → Reads bytes.now m → MatchResult result (λ n. n ≡ m) (λ e. e ≡ Memory) }
         // An error is the first fault.
         ensures fault { IfErr result (λ e. e ≢ Memory → Fault bytes.now e) }
+        // The same by the places at which the parts of a message stand, and at which its first fault lies.
+        ensures stands { IfOk result (λ m. MessageAt bytes.now m) }
+        ensures standing { (m : Message) → MessageAt bytes.now m → MatchResult result (λ n. n ≡ m) (λ e. e ≡ Memory) }
+        ensures faulty { IfErr result (λ e. e ≢ Memory → MessageFault bytes.now e) }
     {
         BinDecoder::new(bytes).read_message(alloc)
     }

@@ -1,9 +1,16 @@
 //! Reading records and questions (RFC 1035 sections 4.1.2 and 4.1.3).
 
-ghost use Rattle.std.specs.Prelude.{◌≡◌, ◌+◌, ◌^◌, ◌<◌};
+ghost use Rattle.std.specs.Prelude.{◌≡◌, ◌≢◌, ◌+◌, ◌^◌, ◌<◌, ℕ, Ok, Err, IfOk, IfErr};
 ghost use Rattle.std.specs.Int.{w16};
 ghost use Rattle.hickory_wire.specs.Reading.{Gives, octets};
 ghost use Rattle.hickory_wire.specs.RecordReading.{string, strings_until, counted_octets, soa, mx, tsig, form, record_data, resource, question};
+ghost use Rattle.hickory_wire.specs.MessageLayout.{QuestionRead};
+ghost use Rattle.hickory_wire.specs.RecordFaults.{QuestionFault, RecordFault};
+ghost use Rattle.hickory_wire.specs.RecordLayout.{RecordAt};
+ghost use Rattle.hickory_wire.specs.declared.error.DecodeError.TheVariants.{InsufficientBytes, Memory};
+ghost use Rattle.hickory_wire.specs.declared.query.Query.{Query as Question};
+ghost use Rattle.hickory_wire.specs.declared.rdata.RData.{RData as Data};
+ghost use Rattle.hickory_wire.specs.declared.record.Record.{Record as ResourceRecord};
 
 use crate::boxed::Boxed;
 use crate::decoder::BinDecoder;
@@ -23,7 +30,8 @@ use std::net::{Ipv4Addr, Ipv6Addr};
 impl<'a> BinDecoder<'a> {
     /// The next `N` bytes.
     fn read_array<const N: usize>(&mut self) -> Result<[u8; N], DecodeError>
-        ensures { Gives (λ bytes. bytes) result self.old self.new (octets N) }
+        ensures exact { Gives (λ bytes. bytes) result self.old self.new (octets N) }
+        ensures fault { IfErr result (λ e. e ≡ InsufficientBytes) }
     {
         let mut array = [0; N];
         array.copy_from_slice(self.read_slice(N)?);
@@ -33,7 +41,8 @@ impl<'a> BinDecoder<'a> {
     /// A character string (RFC 1035 section 3.3).
     #[tactic(auto, unfolding(crate::specs::RecordReading::string))]
     fn read_string(&mut self) -> Result<&'a [u8], DecodeError>
-        ensures { Gives (λ s. s.now) result self.old self.new string }
+        ensures exact { Gives (λ s. s.now) result self.old self.new string }
+        ensures fault { IfErr result (λ e. e ≡ InsufficientBytes) }
     {
         let len = self.read_u8()?;
         self.read_slice(usize::from(len))
@@ -186,19 +195,8 @@ impl<'a> BinDecoder<'a> {
         Ok(rdata)
     }
 
-    /// The record at this place (RFC 1035 section 4.1.3): its owner name, type, class and TTL, and its data in the form of
-    /// their type. Nothing is known of its proof.
-    ///
-    /// Data of no bytes are those of a dynamic update, of whatever type (RFC 2136 section 2.4), but for an OPT record,
-    /// which then has no options. Data of a type with no form here are kept as bytes (RFC 3597). Options that are
-    /// malformed are left out, all of them, and are no fault.
-    ///
-    /// Then the place is the one behind the record. An error is the first fault from left to right: those of a name;
-    /// `InsufficientBytes` where a field, or as many bytes as the length says, are not there; those of the data;
-    /// `IncorrectDataLength` where the data end elsewhere than their length says, or a TSIG record has none. `Memory`
-    /// comes only where memory was refused. After an error the place is left open.
     #[tactic(auto, unfolding(crate::specs::RecordReading::resource))]
-    pub fn read_record(&mut self, alloc: Global) -> Result<Record, DecodeError>
+    fn next_record(&mut self, alloc: Global) -> Result<Record, DecodeError>
         ensures { Gives (λ r. r) result self.old self.new resource }
     {
         let name = self.read_name(alloc)?;
@@ -216,12 +214,30 @@ impl<'a> BinDecoder<'a> {
         })
     }
 
-    /// The question at this place (RFC 1035 section 4.1.2): a name, a type and a class.
+    /// The record at this place (RFC 1035 section 4.1.3): its owner name, type, class and TTL, and its data in the form of
+    /// their type. Nothing is known of its proof.
     ///
-    /// Then the place is the one behind it. An error is the first fault from left to right, those of a name or
-    /// `InsufficientBytes`, or it is `Memory` where memory was refused. After an error the place is left open.
+    /// Data of no bytes are those of a dynamic update, of whatever type (RFC 2136 section 2.4), but for an OPT record,
+    /// which then has no options. Data of a type with no form here are kept as bytes (RFC 3597). Options that are
+    /// malformed are left out, all of them, and are no fault.
+    ///
+    /// Then the place is the one behind the record. An error is the first fault from left to right: those of a name;
+    /// `InsufficientBytes` where a field, or as many bytes as the length says, are not there; those of the data;
+    /// `IncorrectDataLength` where the data end elsewhere than their length says, or a TSIG record has none. `Memory`
+    /// comes only where memory was refused. After an error the place is left open.
+    pub fn read_record(&mut self, alloc: Global) -> Result<Record, DecodeError>
+        ensures exact { Gives (λ r. r) result self.old self.new resource }
+        ensures found { IfOk result (λ r. RecordAt self.old.bytes self.old.place r self.new.place) }
+        ensures only { (r : ResourceRecord Data) (next : ℕ) → RecordAt self.old.bytes self.old.place r next → result ≢ Err Memory → (result ≡ Ok r) × (self.new.place ≡ next) }
+        ensures fault { IfErr result (λ e. e ≢ Memory → RecordFault self.old.bytes self.old.place e) }
+    {
+        // That the message is made of bytes is known once it is looked at.
+        let _message = self.message();
+        self.next_record(alloc)
+    }
+
     #[tactic(auto, unfolding(crate::specs::RecordReading::question))]
-    pub fn read_query(&mut self, alloc: Global) -> Result<Query, DecodeError>
+    fn next_query(&mut self, alloc: Global) -> Result<Query, DecodeError>
         ensures { Gives (λ q. q) result self.old self.new question }
     {
         let name = self.read_name(alloc)?;
@@ -232,5 +248,20 @@ impl<'a> BinDecoder<'a> {
             query_type: RecordType::new(kind),
             query_class: DNSClass::new(class),
         })
+    }
+
+    /// The question at this place (RFC 1035 section 4.1.2): a name, a type and a class.
+    ///
+    /// Then the place is the one behind it. An error is the first fault from left to right, those of a name or
+    /// `InsufficientBytes`, or it is `Memory` where memory was refused. After an error the place is left open.
+    pub fn read_query(&mut self, alloc: Global) -> Result<Query, DecodeError>
+        ensures exact { Gives (λ q. q) result self.old self.new question }
+        ensures found { IfOk result (λ q. QuestionRead self.old.bytes self.old.place q self.new.place) }
+        ensures only { (q : Question) (next : ℕ) → QuestionRead self.old.bytes self.old.place q next → result ≢ Err Memory → (result ≡ Ok q) × (self.new.place ≡ next) }
+        ensures fault { IfErr result (λ e. e ≢ Memory → QuestionFault self.old.bytes self.old.place e) }
+    {
+        // That the message is made of bytes is known once it is looked at.
+        let _message = self.message();
+        self.next_query(alloc)
     }
 }

@@ -1,12 +1,19 @@
 //! Laws of records and questions, each the contract of a function with nothing to do: how they stand in bytes is how they are read.
 
-ghost use Rattle.std.specs.Prelude.{◌≡◌, ◌≤◌, ◌⊎◌, ◌↔◌, ℕ, List, [], Ok};
-ghost use Rattle.hickory_wire.specs.Bytes.{AreBytes, KeepsFrom};
+ghost use Rattle.std.specs.Prelude.{◌≡◌, ◌≤◌, ◌+◌, ◌⊎◌, ◌↔◌, ◌++◌, ℕ, List, [], length, replicate, slice_range, None, Ok};
+ghost use Rattle.std.specs.List.{AllByRecursion, flat_map};
+ghost use Rattle.hickory_wire.specs.Bytes.{AreBytes, BytesAt, KeepsFrom};
 ghost use Rattle.hickory_wire.specs.Cursor.{Cursor};
+ghost use Rattle.hickory_wire.specs.DomainName.{AreLabels, name_len};
+ghost use Rattle.hickory_wire.specs.FullForm.{HasNames, record_octets};
+ghost use Rattle.hickory_wire.specs.MessageLayout.{ItemsAt};
+ghost use Rattle.hickory_wire.specs.QuestionForm.{question_octets};
 ghost use Rattle.hickory_wire.specs.QuestionLayout.{QuestionAt, IsFormedQuestion};
+ghost use Rattle.hickory_wire.specs.ReadingBack.{ReadsBack};
 ghost use Rattle.hickory_wire.specs.RecordData.{OptionsOf};
 ghost use Rattle.hickory_wire.specs.RecordLayout.{FormAt, IsFormedRecord, RecordAt};
 ghost use Rattle.hickory_wire.specs.RecordReading.{options_of, question, resource};
+ghost use Rattle.hickory_wire.specs.RecordSize.{form_fault, full_size};
 ghost use Rattle.hickory_wire.specs.declared.edns.EdnsOption.{EdnsOption};
 ghost use Rattle.hickory_wire.specs.declared.query.Query.{Query};
 ghost use Rattle.hickory_wire.specs.declared.rdata.RData.{RData};
@@ -54,4 +61,33 @@ pub fn read_is_question_at()
     ensures stands { (bytes : List ℕ) (floor place next : ℕ) (q : Query) → IsFormedQuestion q → QuestionAt floor bytes place q next → question (record { bytes = bytes; place = place }) ≡ Ok (q, record { bytes = bytes; place = next }) }
     ensures at { (c : Cursor) (q : Query) (next : ℕ) → AreBytes c.bytes → (QuestionAt 0 c.bytes c.place q next × IsFormedQuestion q) ↔ (question c ≡ Ok (q, record c { place = next })) }
     ensures kept { (c next : Cursor) (q : Query) → AreBytes c.bytes → question c ≡ Ok (q, next) → next.bytes ≡ c.bytes }
+{}
+
+/// A record in full has its full size, and where its names are names and its data have a form, it stands where its octets stand
+/// (RFC 1035 section 4.1.3).
+pub fn full_forms()
+    ensures size { (r : Record RData) → length (record_octets r) ≡ full_size r }
+    ensures stands { (bytes : List ℕ) (floor place : ℕ) (r : Record RData) → AreLabels r.name.labels → HasNames r.rdata → form_fault r.rdata ≡ None → floor ≤ place →
+        BytesAt bytes place (record_octets r) → FormAt floor bytes place r (place + full_size r) }
+{}
+
+/// A question in full stands where its octets stand (RFC 1035 section 4.1.2).
+pub fn question_forms()
+    ensures size { (q : Query) → length (question_octets q) ≡ name_len q.name.labels + 4 }
+    ensures stands { (bytes : List ℕ) (floor place : ℕ) (q : Query) → AreLabels q.name.labels → floor ≤ place → BytesAt bytes place (question_octets q) →
+        QuestionAt floor bytes place q (place + length (question_octets q)) }
+{}
+
+/// Which records read back as themselves: those whose parts are such as are read, whose names are names, and whose octets have a form in
+/// bytes, their lengths told in the fields that are there for them.
+pub fn reading_back()
+    ensures { (r : Record RData) → ReadsBack r ↔ (IsFormedRecord r × AreLabels r.name.labels × HasNames r.rdata × (form_fault r.rdata ≡ None)) }
+{}
+
+/// A question that was read behind the header of a request, with no byte of its name in the header, stands at that place in a reply that
+/// repeats the bytes of the question; so do questions that a reply has in full (RFC 1035 sections 4.1.1 and 4.1.2).
+pub fn questions_of_replies()
+    ensures repeated { (bytes : List ℕ) (q : Query) (stop : ℕ) → QuestionAt 12 bytes 12 q stop → QuestionAt 12 (replicate 12 0 ++ slice_range bytes 12 stop) 12 q stop }
+    ensures in_full { (bytes : List ℕ) (floor place : ℕ) (queries : List Query) → AllByRecursion (λ q. AreLabels q.name.labels) queries → floor ≤ place → BytesAt bytes place (flat_map question_octets queries) →
+        ItemsAt (QuestionAt floor bytes) place queries (place + length (flat_map question_octets queries)) }
 {}

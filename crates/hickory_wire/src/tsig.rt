@@ -49,7 +49,7 @@ pub enum TsigError {
 }
 
 /// How a request's signature was judged, as the signer of its reply has to know it.
-#[derive(Debug, Drop, PartialEq, Eq)]
+#[derive(Debug, Drop)]
 pub enum TSigResponseKind {
     /// The server has no key of that name.
     UnknownKey,
@@ -65,7 +65,7 @@ pub enum TSigResponseKind {
 }
 
 /// What the signer of a reply has to know (RFC 8945 section 5.3).
-#[derive(Debug, Drop, PartialEq, Eq)]
+#[derive(Debug, Drop)]
 pub struct TSigResponseContext {
     /// The request's id.
     pub request_id: u16,

@@ -14,7 +14,7 @@ use Rattle.hickory_base.specs.RequestReading.{IsFaultOf, IsQuestionSection, mess
 use Rattle.hickory_base.specs.Requests.{ReceivedRequest}
 use Rattle.hickory_base.specs.declared.zone_store.handler.ZoneHandler.{Ghosts}
 use Rattle.hickory_catalog.specs.Requests.{RequestReply}
-use Rattle.zone_reply.specs.EncodedReplies.{IsEncodingOf}
+use Rattle.hickory_base.specs.EncodingSinks.{IsEncodingOf}
 use Rattle.zone_reply.specs.Command.{transport_of, refusal_line, refusal_status}
 use Rattle.zone_reply.specs.declared.command.Refusal.{Refusal}
 use Rattle.zone_reply.specs.declared.command.Refusal.TheVariants.{Usage, NotHex, Unreadable, Memory}

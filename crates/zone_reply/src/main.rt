@@ -3,7 +3,6 @@
 #![tactic(auto)]
 
 mod command;
-mod encoded_replies;
 mod input;
 mod run;
 mod signer;

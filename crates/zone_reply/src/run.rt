@@ -7,9 +7,9 @@ ghost use Rattle.zone_reply.specs.declared.command.Refusal.{Refusal};
 ghost use Rattle.zone_reply.specs.declared.command.Refusal.TheVariants.{Memory};
 
 use crate::command::{Refusal, print, transport};
-use crate::encoded_replies::EncodedReplies;
 use crate::input::message;
 use hickory_server::proto::{Octets, ProtoError, Protocol};
+use hickory_server::server::serve::EncodingSink;
 use hickory_server::server::{Request, RequestHandler};
 use hickory_server::zone_handler::{Catalog, ReplySigner, ZoneHandler};
 use std::alloc::{AllocError, Global};
@@ -49,13 +49,28 @@ fn reply<S: ReplySigner, H: ZoneHandler>(
     ensures ok { IfOk result (λ bytes. IsReplyToRequest H.ZoneHandler catalog.old.zones catalog.old.nsid protocol request.now bytes) }
     ensures err { IfErr result (λ e. e ≡ Memory) }
 {
-    let mut sink = EncodedReplies::new(alloc, protocol);
+    let mut sink = EncodingSink::new(alloc, protocol);
     catalog.handle_request(alloc, request, 0, &mut sink)?;
     match sink.into_last() {
         Some(bytes) => Ok(bytes),
         // The sink has no reply only where it was refused the memory for one.
         None => Err(Refusal::Memory),
     }
+}
+
+/// The line for the reply to a request that came over this transport.
+fn request_line<S: ReplySigner, H: ZoneHandler>(
+    alloc: Global,
+    catalog: &mut Catalog<S, H>,
+    protocol: Protocol,
+    request: &Request,
+) -> Result<Vec<u8>, Refusal>
+    ensures kept { catalog.new ≡ catalog.old }
+    ensures ok { IfOk result (λ line. (bytes : List ℕ) × IsReplyToRequest H.ZoneHandler catalog.old.zones catalog.old.nsid protocol request.now bytes × (line.items ≡ hex_line bytes)) }
+    ensures err { IfErr result (λ e. e ≡ Memory) }
+{
+    let bytes = reply(alloc, catalog, protocol, request)?;
+    Ok(hex_line(alloc, bytes.as_slice())?)
 }
 
 /// The line for the reply to a message that came over this transport.
@@ -70,8 +85,7 @@ fn reply_line<S: ReplySigner, H: ZoneHandler>(
     ensures err { IfErr result (λ e. IsRefusedMessage message.items e) }
 {
     let request = request(alloc, protocol, message)?;
-    let bytes = reply(alloc, catalog, protocol, &request)?;
-    Ok(hex_line(alloc, bytes.as_slice())?)
+    request_line(alloc, catalog, protocol, &request)
 }
 
 /// The line for arguments and an input.

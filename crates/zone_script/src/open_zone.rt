@@ -102,12 +102,17 @@ impl OpenZone {
         }
     }
 
-    /// Puts a record last into the set of its name and type.
-    pub(crate) fn put(&mut self, alloc: Global, record: Record) -> Result<(), Fault> {
-        let key = key_of(alloc, &record)?;
-        self.judge(&record, &key)?;
-        let set = self.sets.entry(key)?.or_insert(Vec::new(alloc));
-        set.push(record)?;
+    /// The records of the set under a key, which may be none.
+    fn set_mut(&mut self, alloc: Global, key: RrKey) -> Result<&mut Vec<Record>, AllocError> {
+        Ok(self.sets.entry(key)?.or_insert(Vec::new(alloc)))
+    }
+
+    /// Puts a copy of a record last into the set of its name and type.
+    pub(crate) fn put(&mut self, alloc: Global, record: &Record) -> Result<(), Fault> {
+        let key = key_of(alloc, record)?;
+        self.judge(record, &key)?;
+        let set = self.set_mut(alloc, key)?;
+        set.push(record.clone()?)?;
         Ok(())
     }
 

@@ -2,7 +2,7 @@
 
 use crate::fault::Fault;
 use crate::text::name;
-use crate::words::setting;
+use crate::words::{octets, setting};
 use hickory_server::proto::{
     DNSClass, Edns, EdnsOption, MessageType, Metadata, Octets, OpCode, Record, RecordType,
     ReplyParts, encode_message_parts,
@@ -26,9 +26,10 @@ pub(crate) struct Question {
     record_type: RecordType,
     class: DNSClass,
     wish: Option<Wish>,
-    /// Whether a lookup is given EDNS with DO for its reply.
-    pub(crate) replies_dnssec_ok: bool,
 }
+
+/// Says that a lookup is given EDNS with DO for its reply.
+pub(crate) const REPLY_DNSSEC_OK: &str = "reply-do";
 
 /// How the words of a query are written.
 pub(crate) const QUESTION_USAGE: &str =
@@ -42,7 +43,6 @@ impl Question {
             record_type,
             class: DNSClass::IN,
             wish: None,
-            replies_dnssec_ok: false,
         }
     }
 
@@ -103,7 +103,8 @@ impl Question {
         match (key, value) {
             ("id", Some(number)) => self.metadata.id = number.parse::<u16>()?,
             ("opcode", Some(number)) => self.set_op_code(number)?,
-            ("reply-do", None) => self.replies_dnssec_ok = true,
+            // It is said of a lookup, and not of its message.
+            (REPLY_DNSSEC_OK, None) => (),
             (class, None) => self.class = class.parse::<DNSClass>()?,
             _ => return Err(Fault::Usage(QUESTION_USAGE)),
         }
@@ -145,6 +146,22 @@ impl Question {
         let question = self.question_bytes(alloc, name.as_wire())?;
         let edns = self.edns(alloc)?;
         written(alloc, self.metadata, &question, edns.as_ref())
+    }
+}
+
+/// The bytes of the query for a name and a type that further words describe.
+fn query(alloc: Global, name: &str, record_type: &str, words: &[&str]) -> Result<Vec<u8>, Fault> {
+    let mut question = Question::new(record_type.parse::<RecordType>()?);
+    question.read(words)?;
+    question.bytes(alloc, name)
+}
+
+/// The bytes of a message that words tell: as hex digits, or as a query.
+pub(crate) fn message(alloc: Global, words: &[&str]) -> Result<Vec<u8>, Fault> {
+    match words {
+        [digits] => octets(alloc, &[digits]),
+        [name, record_type, words @ ..] => query(alloc, name, record_type, words),
+        [] => Err(Fault::Usage(QUESTION_USAGE)),
     }
 }
 

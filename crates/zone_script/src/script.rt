@@ -11,7 +11,7 @@ use crate::settings::Settings;
 use crate::signer::NoSigner;
 use crate::text::record;
 use hickory_server::access::AccessControl;
-use hickory_server::proto::LowerName;
+use hickory_server::proto::{LowerName, Record};
 use hickory_server::zone_handler::Catalog;
 use std::alloc::{AllocError, Global};
 use std::collections::BTreeSet;
@@ -89,14 +89,13 @@ impl Script {
         self.is_obeyed
     }
 
-    /// Puts a record where the last section command says.
-    fn put(&mut self, alloc: Global, line: &str) -> Result<(), Fault> {
-        let record = record(alloc, line)?;
+    /// Puts a copy of a record where the last section command says.
+    fn put(&mut self, alloc: Global, record: &Record) -> Result<(), Fault> {
         match self.place {
             Place::Nothing => Err(Fault::NoSection),
             Place::Zone => commands::zones::put(self, alloc, record),
             Place::Answer(section) => commands::chains::put(self, section, record),
-            Place::Reply(section) => Ok(self.reply.push(section, record)?),
+            Place::Reply(section) => Ok(self.reply.push(section, record.clone()?)?),
         }
     }
 
@@ -104,7 +103,7 @@ impl Script {
     fn obey(&mut self, alloc: Global, line: &str, out: &mut String) -> Result<(), Fault> {
         let words: Vec<&str> = line.split_whitespace().collect(alloc)?;
         if is_record(&words) {
-            self.put(alloc, line)
+            self.put(alloc, &record(alloc, line)?)
         } else if commands::obey(self, alloc, &words, line.trim(), out)? {
             Ok(())
         } else {

@@ -16,7 +16,10 @@ use std::collections::BTreeMap;
 use std::rc::Rc;
 
 /// The records under a key.
-fn set_under<'m>(sets: &'m BTreeMap<RrKey, Rc<RecordSet>>, key: &RrKey) -> Option<&'m [Record]>
+pub(crate) fn set_under<'m>(
+    sets: &'m BTreeMap<RrKey, Rc<RecordSet>>,
+    key: &RrKey,
+) -> Option<&'m [Record]>
     ensures { option_copied result ≡ lookup (is_key key.now.name key.now.record_type) (sets_of sets.now) }
 {
     match sets.get(key) {
@@ -39,7 +42,7 @@ pub(crate) fn first_under<'m>(
 }
 
 /// Whether there is a set of the key's name. No type is below that of the key.
-fn is_in_use(sets: &BTreeMap<RrKey, Rc<RecordSet>>, first: &RrKey) -> bool
+pub(crate) fn is_in_use(sets: &BTreeMap<RrKey, Rc<RecordSet>>, first: &RrKey) -> bool
     requires { first.now.record_type ≡ 0 }
     ensures { result ≡ is_in_use first.now.name (sets_of sets.now) }
 {

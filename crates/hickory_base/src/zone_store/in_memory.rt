@@ -1,6 +1,7 @@
 //! A zone that is held in memory.
 
 mod answers;
+mod records;
 
 ghost use Rattle.std.specs.Prelude.{◌≡◌, ◌↔◌, IsTrue};
 ghost use Rattle.std.specs.Option.{option_copied};

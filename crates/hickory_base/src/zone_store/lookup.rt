@@ -10,8 +10,8 @@ use hickory_wire::{Edns, Items, Query, Record};
 use std::mem;
 use std::slice::Iter;
 
-/// What a lookup is to take care of.
-#[derive(Clone, Copy, Debug, PartialEq, Eq)]
+/// What a lookup is to take care of; nothing by default.
+#[derive(Clone, Copy, Debug, Default, PartialEq, Eq)]
 pub struct LookupOptions {
     /// Whether DNSSEC records are asked for (RFC 3225).
     pub dnssec_ok: bool,

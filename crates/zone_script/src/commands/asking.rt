@@ -2,13 +2,13 @@
 
 use crate::commands::zones::type_word;
 use crate::fault::Fault;
+use crate::handler::Handler;
 use crate::printing::print_reply;
-use crate::question::{QUESTION_USAGE, Question};
+use crate::question::{REPLY_DNSSEC_OK, message};
 use crate::script::Script;
 use crate::text::lower_name;
-use crate::words::octets;
 use hickory_base::encoding_sink::EncodingSink;
-use hickory_server::proto::{Edns, RecordType};
+use hickory_server::proto::Edns;
 use hickory_server::server::{Request, RequestHandler};
 use hickory_server::zone_handler::{CatalogError, ZoneHandler};
 use std::alloc::Global;
@@ -61,66 +61,86 @@ pub(crate) fn received(script: &Script, alloc: Global, bytes: Vec<u8>) -> Result
     Ok(Request::from_bytes(alloc, bytes, settings.source, settings.protocol)?)
 }
 
-/// Hands a message to the server.
-fn ask(script: &mut Script, alloc: Global, bytes: Vec<u8>, out: &mut String) -> Result<(), Fault> {
-    let request = received(script, alloc, bytes)?;
+/// Hands a request to the server.
+fn answer(
+    script: &mut Script,
+    alloc: Global,
+    request: &Request,
+    out: &mut String,
+) -> Result<(), Fault> {
     let mut sink = EncodingSink::new(alloc, script.settings.protocol);
     let now = script.settings.now;
     let told = script
         .catalog
-        .handle_request(alloc, &request, now, &mut sink)
+        .handle_request(alloc, request, now, &mut sink)
         .err();
     print_outcome(script, alloc, told, &sink, out)
 }
 
-/// Hands a message to the lookup of the server, with this EDNS for the reply.
-fn look_up(
+/// Hands a message to the server.
+fn ask(script: &mut Script, alloc: Global, words: &[&str], out: &mut String) -> Result<(), Fault> {
+    let bytes = message(alloc, words)?;
+    let request = received(script, alloc, bytes)?;
+    answer(script, alloc, &request, out)
+}
+
+/// Hands a request to the lookup of the server, with this EDNS for the reply.
+fn answer_lookup(
     script: &Script,
     alloc: Global,
-    bytes: Vec<u8>,
+    request: &Request,
     edns: Option<&Edns>,
     out: &mut String,
 ) -> Result<(), Fault> {
-    let request = received(script, alloc, bytes)?;
     let mut sink = EncodingSink::new(alloc, script.settings.protocol);
     let now = script.settings.now;
     let told = script
         .catalog
-        .lookup(alloc, &request, edns, now, &mut sink)
+        .lookup(alloc, request, edns, now, &mut sink)
         .err();
     print_outcome(script, alloc, told, &sink, out)
 }
 
-/// Hands a query to the lookup of the server.
-fn look_up_question(
+/// Hands a request to the lookup of the server, with EDNS that has DO for the reply, or without EDNS.
+fn answer_with(
     script: &Script,
     alloc: Global,
-    name: &str,
-    question: &Question,
+    request: &Request,
+    dnssec_ok: bool,
     out: &mut String,
 ) -> Result<(), Fault> {
-    let bytes = question.bytes(alloc, name)?;
+    if !dnssec_ok {
+        return answer_lookup(script, alloc, request, None, out);
+    }
     let mut edns = Edns::new(alloc);
     edns.set_dnssec_ok(true);
-    let edns = if question.replies_dnssec_ok {
-        Some(&edns)
-    } else {
-        None
-    };
-    look_up(script, alloc, bytes, edns, out)
+    answer_lookup(script, alloc, request, Some(&edns), out)
 }
 
-/// Tells which handlers answer for a name.
-fn find(script: &Script, alloc: Global, name: &str, out: &mut String) -> Result<(), Fault> {
-    let name = lower_name(alloc, name)?;
-    let Some(chain) = script.catalog.find(alloc, &name)? else {
-        return Ok(out.push_str("no zone\n")?);
-    };
+/// Hands a message to the lookup of the server.
+fn look_up(script: &Script, alloc: Global, words: &[&str], out: &mut String) -> Result<(), Fault> {
+    let dnssec_ok = words.iter().any(|word| *word == REPLY_DNSSEC_OK);
+    let bytes = message(alloc, words)?;
+    let request = received(script, alloc, bytes)?;
+    answer_with(script, alloc, &request, dnssec_ok, out)
+}
+
+/// Puts the handlers of a chain behind a text.
+fn print_chain(chain: &[Handler], out: &mut String) -> Result<(), Fault> {
     for handler in chain {
         let kind = type_word(handler.zone_type());
         writeln!(out, "{kind} {}", handler.origin())?;
     }
     Ok(())
+}
+
+/// Tells which handlers answer for a name.
+fn find(script: &Script, alloc: Global, name: &str, out: &mut String) -> Result<(), Fault> {
+    let name = lower_name(alloc, name)?;
+    match script.catalog.find(alloc, &name)? {
+        Some(chain) => print_chain(chain, out),
+        None => Ok(out.push_str("no zone\n")?),
+    }
 }
 
 /// Obeys a command that asks, and tells whether it is one.
@@ -131,20 +151,10 @@ pub(crate) fn obey(
     out: &mut String,
 ) -> Result<bool, Fault> {
     match words {
-        ["ask", digits] => ask(script, alloc, octets(alloc, &[digits])?, out)?,
-        ["ask", name, record_type, words @ ..] => {
-            let mut question = Question::new(record_type.parse::<RecordType>()?);
-            question.read(words)?;
-            ask(script, alloc, question.bytes(alloc, name)?, out)?;
-        }
-        ["lookup", digits] => look_up(script, alloc, octets(alloc, &[digits])?, None, out)?,
-        ["lookup", name, record_type, words @ ..] => {
-            let mut question = Question::new(record_type.parse::<RecordType>()?);
-            question.read(words)?;
-            look_up_question(script, alloc, name, &question, out)?;
-        }
-        ["ask" | "lookup"] => return Err(Fault::Usage(QUESTION_USAGE)),
+        ["ask", words @ ..] => ask(script, alloc, words, out)?,
+        ["lookup", words @ ..] => look_up(script, alloc, words, out)?,
         ["find", name] => find(script, alloc, name, out)?,
+        ["find", ..] => return Err(Fault::Usage("find NAME")),
         _ => return Ok(false),
     }
     Ok(true)

@@ -5,10 +5,9 @@ use crate::commands::asking::{print_calls, received};
 use crate::fault::Fault;
 use crate::handler::Handler;
 use crate::printing::print_records;
-use crate::question::Question;
+use crate::question::message;
 use crate::script::Script;
 use crate::text::lower_name;
-use crate::words::octets;
 use hickory_server::proto::{LowerName, RecordType, TSigResponseContext};
 use hickory_server::server::Request;
 use hickory_server::zone_handler::{
@@ -30,40 +29,48 @@ fn print_fault(out: &mut String, fault: &LookupError) -> Result<(), AllocError> 
     }
 }
 
-/// Puts what was found behind a text: the answers, and then the additionals.
-fn print_found(out: &mut String, mut found: AuthLookup) -> Result<(), AllocError> {
-    out.push_str(match &found {
-        AuthLookup::Empty => "empty\n",
-        AuthLookup::Resolved(_) => "resolved\n",
-        AuthLookup::Records { .. } => "found\n",
-    })?;
-    for record in found.iter() {
-        writeln!(out, "{record}")?;
-    }
-    match found.take_additionals() {
-        Some(additionals) => print_records(out, additionals.as_slice()),
-        None => Ok(()),
-    }
-}
-
-/// The word for whether the next handler may look at an answer.
-fn flow_word(answer: &LookupControlFlow<AuthLookup>) -> &'static str {
-    if answer.is_continue() {
-        "continue: "
-    } else if answer.is_break() {
-        "break: "
-    } else {
-        "skip\n"
+/// Puts what was found behind a text: the answers, and then what is beside records of a zone.
+fn print_found(out: &mut String, found: &AuthLookup) -> Result<(), AllocError> {
+    match found {
+        AuthLookup::Empty => out.push_str("empty\n"),
+        AuthLookup::Resolved(found) => {
+            out.push_str("resolved\n")?;
+            print_records(out, found.answers.as_slice())
+        }
+        AuthLookup::Records {
+            answers,
+            additionals,
+        } => {
+            out.push_str("found\n")?;
+            print_records(out, answers.as_slice())?;
+            print_records(out, additionals.as_slice())
+        }
     }
 }
 
-/// Puts an answer with its flow behind a text.
-fn print_flow(out: &mut String, answer: LookupControlFlow<AuthLookup>) -> Result<(), AllocError> {
-    out.push_str(flow_word(&answer))?;
-    match answer.map_result() {
-        None => Ok(()),
-        Some(Ok(found)) => print_found(out, found),
-        Some(Err(fault)) => print_fault(out, &fault),
+/// Puts an answer behind a text, or why there is none.
+fn print_outcome(
+    out: &mut String,
+    outcome: &Result<AuthLookup, LookupError>,
+) -> Result<(), AllocError> {
+    match outcome {
+        Ok(found) => print_found(out, found),
+        Err(fault) => print_fault(out, fault),
+    }
+}
+
+/// Puts an answer behind a text, and whether the next handler may look at it.
+fn print_flow(out: &mut String, answer: &LookupControlFlow<AuthLookup>) -> Result<(), AllocError> {
+    match answer {
+        LookupControlFlow::Skip => out.push_str("skip\n"),
+        LookupControlFlow::Continue(outcome) => {
+            out.push_str("continue: ")?;
+            print_outcome(out, outcome)
+        }
+        LookupControlFlow::Break(outcome) => {
+            out.push_str("break: ")?;
+            print_outcome(out, outcome)
+        }
     }
 }
 
@@ -75,6 +82,34 @@ fn print_context(
     match context {
         None => Ok(()),
         Some(context) => writeln!(out, "to be signed, id {}", context.request_id),
+    }
+}
+
+/// Puts an answer behind a text, and what a signer has to know.
+fn print_answer(
+    out: &mut String,
+    answer: &(LookupControlFlow<AuthLookup>, Option<TSigResponseContext>),
+) -> Result<(), AllocError> {
+    print_flow(out, &answer.0)?;
+    print_context(out, &answer.1)
+}
+
+/// Puts a transfer behind a text, if there is one, and what a signer has to know.
+fn print_transferred(
+    out: &mut String,
+    answer: &Option<
+        (
+            Result<ZoneTransfer, LookupError>,
+            Option<TSigResponseContext>,
+        ),
+    >,
+) -> Result<(), AllocError> {
+    match answer {
+        None => out.push_str("no transfer\n"),
+        Some((outcome, context)) => {
+            print_transfer(out, outcome)?;
+            print_context(out, context)
+        }
     }
 }
 
@@ -104,82 +139,33 @@ fn options(words: &[&str]) -> Result<LookupOptions, Fault> {
 const CALL_USAGE: &str =
     "call search HEX|NAME TYPE, call lookup|consult NAME TYPE [do], call transfer NAME, call nsec NAME [do], call nsec3 NAME TYPE [do]";
 
-/// Calls `search`.
-fn search(
+/// Calls `search` with a request.
+fn search_for(
     handler: &Handler,
     alloc: Global,
     request: &Request,
     out: &mut String,
 ) -> Result<(), Fault> {
     let options = LookupOptions::from_edns(request.message().edns.as_ref());
-    let (answer, context) = handler.search(alloc, request, options);
-    print_flow(out, answer)?;
-    Ok(print_context(out, &context)?)
+    let answer = handler.search(alloc, request, options);
+    Ok(print_answer(out, &answer)?)
 }
 
-/// Calls `lookup`, which is told of no request.
-fn look_up(
-    handler: &Handler,
+/// Calls `search`.
+fn search(
+    script: &Script,
     alloc: Global,
-    name: &LowerName,
-    record_type: RecordType,
-    options: LookupOptions,
+    handler: &Handler,
+    words: &[&str],
     out: &mut String,
 ) -> Result<(), Fault> {
-    let answer = handler.lookup(alloc, name, record_type, None, options);
-    Ok(print_flow(out, answer)?)
+    let bytes = message(alloc, words)?;
+    let request = received(script, alloc, bytes)?;
+    search_for(handler, alloc, &request, out)
 }
 
-/// Calls `consult` about an empty answer that stands.
-fn consult(
-    handler: &Handler,
-    alloc: Global,
-    name: &LowerName,
-    record_type: RecordType,
-    options: LookupOptions,
-    out: &mut String,
-) -> Result<(), Fault> {
-    let last = LookupControlFlow::Break(Ok(AuthLookup::Empty));
-    let (answer, context) = handler.consult(alloc, name, record_type, None, options, last);
-    print_flow(out, answer)?;
-    Ok(print_context(out, &context)?)
-}
-
-/// Calls `nsec_records`.
-fn nsec(
-    handler: &Handler,
-    alloc: Global,
-    name: &LowerName,
-    options: LookupOptions,
-    out: &mut String,
-) -> Result<(), Fault> {
-    let answer = handler.nsec_records(alloc, name, options);
-    Ok(print_flow(out, answer)?)
-}
-
-/// Calls `nsec3_records`, with 10 iterations and no salt.
-fn nsec3(
-    handler: &Handler,
-    alloc: Global,
-    name: &LowerName,
-    record_type: RecordType,
-    options: LookupOptions,
-    out: &mut String,
-) -> Result<(), Fault> {
-    let info = Nsec3QueryInfo {
-        qname: name,
-        qtype: record_type,
-        has_wildcard_match: false,
-        algorithm: 1,
-        salt: &[],
-        iterations: 10,
-    };
-    let answer = handler.nsec3_records(alloc, info, options);
-    Ok(print_flow(out, answer)?)
-}
-
-/// Calls `zone_transfer`.
-fn transfer(
+/// Calls `zone_transfer` with a request.
+fn transfer_for(
     handler: &Handler,
     alloc: Global,
     request: &Request,
@@ -187,94 +173,133 @@ fn transfer(
     out: &mut String,
 ) -> Result<(), Fault> {
     let options = LookupOptions::from_edns(request.message().edns.as_ref());
-    let Some((outcome, context)) = handler.zone_transfer(alloc, request, options, now) else {
-        return Ok(out.push_str("no transfer\n")?);
-    };
-    print_transfer(out, &outcome)?;
-    Ok(print_context(out, &context)?)
+    let answer = handler.zone_transfer(alloc, request, options, now);
+    Ok(print_transferred(out, &answer)?)
 }
 
-/// The message that a call of `search` is about, by its words: hex digits, or a query.
-fn searched(alloc: Global, words: &[&str]) -> Result<Vec<u8>, Fault> {
-    match words {
-        [digits] => octets(alloc, &[digits]),
-        [name, record_type, words @ ..] => {
-            let mut question = Question::new(record_type.parse::<RecordType>()?);
-            question.read(words)?;
-            question.bytes(alloc, name)
-        }
-        [] => Err(Fault::Usage(CALL_USAGE)),
+/// Calls `zone_transfer`.
+fn transfer(
+    script: &Script,
+    alloc: Global,
+    handler: &Handler,
+    name: &str,
+    out: &mut String,
+) -> Result<(), Fault> {
+    let bytes = message(alloc, &[name, "AXFR"])?;
+    let request = received(script, alloc, bytes)?;
+    transfer_for(handler, alloc, &request, script.settings.now, out)
+}
+
+/// Calls `lookup`, which is told of no request.
+fn look_up(
+    handler: &Handler,
+    alloc: Global,
+    name: &str,
+    record_type: &str,
+    words: &[&str],
+    out: &mut String,
+) -> Result<(), Fault> {
+    let record_type = record_type.parse::<RecordType>()?;
+    let options = options(words)?;
+    let name = lower_name(alloc, name)?;
+    let answer = handler.lookup(alloc, &name, record_type, None, options);
+    Ok(print_flow(out, &answer)?)
+}
+
+/// Calls `consult` about an empty answer that stands.
+fn consult(
+    handler: &Handler,
+    alloc: Global,
+    name: &str,
+    record_type: &str,
+    words: &[&str],
+    out: &mut String,
+) -> Result<(), Fault> {
+    let record_type = record_type.parse::<RecordType>()?;
+    let options = options(words)?;
+    let name = lower_name(alloc, name)?;
+    let last = LookupControlFlow::Break(Ok(AuthLookup::Empty));
+    let answer = handler.consult(alloc, &name, record_type, None, options, last);
+    Ok(print_answer(out, &answer)?)
+}
+
+/// Calls `nsec_records`.
+fn nsec(
+    handler: &Handler,
+    alloc: Global,
+    name: &str,
+    words: &[&str],
+    out: &mut String,
+) -> Result<(), Fault> {
+    let options = options(words)?;
+    let name = lower_name(alloc, name)?;
+    let answer = handler.nsec_records(alloc, &name, options);
+    Ok(print_flow(out, &answer)?)
+}
+
+/// What is told of a denial by NSEC3 records: 10 iterations and no salt.
+fn nsec3_info(name: &LowerName, record_type: RecordType) -> Nsec3QueryInfo<'_> {
+    Nsec3QueryInfo {
+        qname: name,
+        qtype: record_type,
+        has_wildcard_match: false,
+        algorithm: 1,
+        salt: &[],
+        iterations: 10,
     }
 }
 
-/// Makes a call that is about a request.
-fn call_with_request(
+/// Calls `nsec3_records`.
+fn nsec3(
+    handler: &Handler,
+    alloc: Global,
+    name: &str,
+    record_type: &str,
+    words: &[&str],
+    out: &mut String,
+) -> Result<(), Fault> {
+    let record_type = record_type.parse::<RecordType>()?;
+    let options = options(words)?;
+    let name = lower_name(alloc, name)?;
+    let answer = handler.nsec3_records(alloc, nsec3_info(&name, record_type), options);
+    Ok(print_flow(out, &answer)?)
+}
+
+/// Makes a call of a handler.
+fn make_call(
     script: &Script,
     alloc: Global,
     handler: &Handler,
     words: &[&str],
     out: &mut String,
-) -> Result<bool, Fault> {
-    match words {
-        ["search", words @ ..] => {
-            let request = received(script, alloc, searched(alloc, words)?)?;
-            search(handler, alloc, &request, out)?;
-        }
-        ["transfer", name] => {
-            let bytes = Question::new(RecordType::AXFR).bytes(alloc, name)?;
-            let request = received(script, alloc, bytes)?;
-            transfer(handler, alloc, &request, script.settings.now, out)?;
-        }
-        _ => return Ok(false),
-    }
-    Ok(true)
-}
-
-/// Makes a call that is about a name.
-fn call_with_name(
-    handler: &Handler,
-    alloc: Global,
-    words: &[&str],
-    out: &mut String,
 ) -> Result<(), Fault> {
-    let [what, name, words @ ..] = words else {
-        return Err(Fault::Usage(CALL_USAGE));
-    };
-    let name = lower_name(alloc, name)?;
-    match (*what, words) {
-        ("nsec", words) => nsec(handler, alloc, &name, options(words)?, out),
-        ("lookup", [kind, words @ ..]) => {
-            look_up(handler, alloc, &name, kind.parse()?, options(words)?, out)
-        }
-        ("consult", [kind, words @ ..]) => {
-            consult(handler, alloc, &name, kind.parse()?, options(words)?, out)
-        }
-        ("nsec3", [kind, words @ ..]) => {
-            nsec3(handler, alloc, &name, kind.parse()?, options(words)?, out)
-        }
+    match words {
+        ["search", words @ ..] => search(script, alloc, handler, words, out),
+        ["transfer", name] => transfer(script, alloc, handler, name, out),
+        ["lookup", name, kind, words @ ..] => look_up(handler, alloc, name, kind, words, out),
+        ["consult", name, kind, words @ ..] => consult(handler, alloc, name, kind, words, out),
+        ["nsec", name, words @ ..] => nsec(handler, alloc, name, words, out),
+        ["nsec3", name, kind, words @ ..] => nsec3(handler, alloc, name, kind, words, out),
         _ => Err(Fault::Usage(CALL_USAGE)),
     }
 }
 
 /// Makes a call of the handler last begun.
-fn make_call(
+fn call_begun(
     script: &Script,
     alloc: Global,
     words: &[&str],
     out: &mut String,
 ) -> Result<(), Fault> {
     let begun = last_begun(script, alloc)?;
-    if call_with_request(script, alloc, begun.handler(), words, out)? {
-        return Ok(());
-    }
-    call_with_name(begun.handler(), alloc, words, out)
+    make_call(script, alloc, begun.handler(), words, out)
 }
 
 /// Puts the calls that a scripted handler got behind a text, and then what was told. That memory was refused is what is
 /// told where a scripted handler was to answer so.
 fn call(script: &Script, alloc: Global, words: &[&str], out: &mut String) -> Result<(), Fault> {
     let mut told = String::new(alloc);
-    let made = make_call(script, alloc, words, &mut told);
+    let made = call_begun(script, alloc, words, &mut told);
     let wants_memory = print_calls(script, alloc, out)?;
     match made {
         Ok(()) => Ok(out.push_str(told.as_str())?),

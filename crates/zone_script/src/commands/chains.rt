@@ -78,25 +78,35 @@ impl PartWords {
     }
 }
 
-/// Begins a scripted handler.
-fn begin(script: &mut Script, alloc: Global, origin: &str, words: &[&str]) -> Result<(), Fault> {
-    let words = PartWords::read(words)?;
-    let origin = lower_name(alloc, origin)?;
-    close(script, alloc)?;
+/// A scripted handler at the place behind those that are begun.
+fn part_handler(
+    script: &Script,
+    alloc: Global,
+    origin: LowerName,
+    words: PartWords,
+) -> Result<Handler, Fault> {
     let part = Part {
         place: script.chain.len(),
         signs: words.signs,
         answers: Vec::new(alloc),
         log: script.log.share()?,
     };
-    let handler = Handler {
+    Ok(Handler {
         zone_type: words.zone_type,
         axfr_policy: AxfrPolicy::Deny,
         origin,
         validates: words.validates,
         proof_kind: words.proof_kind(alloc)?,
         source: Source::Part(part),
-    };
+    })
+}
+
+/// Begins a scripted handler.
+fn begin(script: &mut Script, alloc: Global, origin: &str, words: &[&str]) -> Result<(), Fault> {
+    let words = PartWords::read(words)?;
+    let origin = lower_name(alloc, origin)?;
+    close(script, alloc)?;
+    let handler = part_handler(script, alloc, origin, words)?;
     script.chain.push(handler)?;
     script.place = Place::Nothing;
     Ok(())
@@ -173,11 +183,12 @@ fn begin_answer(script: &mut Script, alloc: Global, words: &[&str]) -> Result<()
     Ok(())
 }
 
-/// Puts a record into a section of the answer last begun, of the part last begun.
-pub(crate) fn put(script: &mut Script, section: Section, record: Record) -> Result<(), Fault> {
-    match last_part(script)?.answers.last_mut() {
+/// Puts a copy of a record into a section of the answer last begun, of the part last begun.
+pub(crate) fn put(script: &mut Script, section: Section, record: &Record) -> Result<(), Fault> {
+    let part = last_part(script)?;
+    match part.answers.last_mut() {
         None => Err(Fault::NoSection),
-        Some(answer) => Ok(answer.records.push(section, record)?),
+        Some(answer) => Ok(answer.records.push(section, record.clone()?)?),
     }
 }
 

@@ -83,18 +83,27 @@ pub(crate) fn close(script: &mut Script, alloc: Global) -> Result<(), Fault> {
     Ok(())
 }
 
-/// Begins a zone.
-fn begin(script: &mut Script, alloc: Global, origin: &str, words: &[&str]) -> Result<(), Fault> {
-    let (zone_type, policy) = zone_words(words)?;
-    let origin = lower_name(alloc, origin)?;
+/// Goes on with another zone, to which the records that follow belong.
+fn open(script: &mut Script, alloc: Global, zone: OpenZone) -> Result<(), Fault> {
     close(script, alloc)?;
-    script.zone = Some(OpenZone::new(alloc, origin, zone_type, policy));
+    script.zone = Some(zone);
     script.place = Place::Zone;
     Ok(())
 }
 
+/// Begins a zone.
+fn begin(script: &mut Script, alloc: Global, origin: &str, words: &[&str]) -> Result<(), Fault> {
+    let (zone_type, policy) = zone_words(words)?;
+    let origin = lower_name(alloc, origin)?;
+    open(
+        script,
+        alloc,
+        OpenZone::new(alloc, origin, zone_type, policy),
+    )
+}
+
 /// Puts a record into the open zone.
-pub(crate) fn put(script: &mut Script, alloc: Global, record: Record) -> Result<(), Fault> {
+pub(crate) fn put(script: &mut Script, alloc: Global, record: &Record) -> Result<(), Fault> {
     match &mut script.zone {
         None => Err(Fault::NoZone),
         Some(zone) => zone.put(alloc, record),
@@ -110,24 +119,21 @@ fn zone_of(alloc: Global, origin: LowerName, records: &[Record]) -> Result<OpenZ
     };
     let mut zone = OpenZone::new(alloc, origin, ZoneType::Primary, AxfrPolicy::Deny);
     for record in records {
-        zone.put(alloc, record.clone()?)?;
+        zone.put(alloc, record)?;
     }
     Ok(zone)
 }
 
-/// Begins a zone whose records are the answers of a message.
-fn load(script: &mut Script, alloc: Global, origin: &str, digits: &[&str]) -> Result<(), Fault> {
+/// The zone whose records are the answers of a message.
+fn zone_of_message(alloc: Global, origin: LowerName, bytes: &[u8]) -> Result<OpenZone, Fault> {
+    let message = Message::read(alloc, bytes)?;
+    zone_of(alloc, origin, message.answers.as_slice())
+}
+
+/// The zone whose records are the answers of a message in hex digits.
+fn loaded(alloc: Global, origin: &str, digits: &[&str]) -> Result<OpenZone, Fault> {
     let bytes = octets(alloc, digits)?;
-    let message = Message::read(alloc, &bytes)?;
-    let zone = zone_of(
-        alloc,
-        lower_name(alloc, origin)?,
-        message.answers.as_slice(),
-    )?;
-    close(script, alloc)?;
-    script.zone = Some(zone);
-    script.place = Place::Zone;
-    Ok(())
+    zone_of_message(alloc, lower_name(alloc, origin)?, &bytes)
 }
 
 /// The zone in memory that a handler is.
@@ -225,7 +231,8 @@ fn print_accepted(
     record_type: &str,
     out: &mut String,
 ) -> Result<(), Fault> {
-    let key = RrKey::new(lower_name(alloc, name)?, record_type.parse::<RecordType>()?);
+    let record_type = record_type.parse::<RecordType>()?;
+    let key = RrKey::new(lower_name(alloc, name)?, record_type);
     let (is_set, is_zone) = accepted(alloc, &key, &script.reply.answers)?;
     let set = if is_set { "a set" } else { "no set" };
     let zone = if is_zone { "a zone" } else { "no zone" };
@@ -242,7 +249,10 @@ pub(crate) fn obey(
     match words {
         ["zone", origin, words @ ..] => begin(script, alloc, origin, words)?,
         ["zone"] => return Err(Fault::Usage(ZONE_USAGE)),
-        ["load", origin, digits @ ..] => load(script, alloc, origin, digits)?,
+        ["load", origin, digits @ ..] => {
+            let zone = loaded(alloc, origin, digits)?;
+            open(script, alloc, zone)?;
+        }
         ["accepts", name, kind] => print_accepted(script, alloc, name, kind, out)?,
         ["show", apex] => print_zones(out, chain_of(script, alloc, apex)?)?,
         [what @ ("show" | "serial" | "message")] => tell(script, alloc, what, out)?,

@@ -1,11 +1,8 @@
-use Rattle.std.proofs.Common.{◌≡◌, ◌∙◌, refl, sym, List, ℕ, rules}
+use Rattle.std.proofs.Common.{◌≡◌, List, ℕ, refl, sym}
 use Rattle.std.specs.Option.{option_copied}
 use Rattle.hickory_wire.specs.Reply.{Reply}
 use Rattle.hickory_wire.specs.ReplyParts.{ReplyEncoded}
 use Rattle.hickory_wire.specs.declared.header.Header.{Header}
-use Rattle.std.proofs.lemmas.Iterator.{YieldsList-from_slice, YieldsList-from_map_by}
-use Rattle.std.proofs.lemmas.Iterator.Consumers.{YieldsList-at}
-use Rattle.hickory_base.proofs.RecordSlices.{given_by}
 use Rattle.hickory_base.proofs.response_encoding.encode_response.Goals as goal
 
 -- the reply that was encoded, at the limit and with the header that the contract names
@@ -32,11 +29,11 @@ returns-clause-encoded g c =
         question = c.as_bytes.ensures;
         question_count = c.count.ensures;
         edns = refl;
-        answers = rw (given_by w.1.answers_given (YieldsList-from_map_by _ (λ r. r.now) g.A.Item.RecordRef.record_of (YieldsList-at c.map.ensures.source (YieldsList-from_slice _ (c.iter.ensures.rest ∙ c.deref.ensures.value))) c.map.ensures.closure (λ x r q k. search rules))) c.in_ok-answers.ensures;
-        authorities = rw (given_by w.1.authorities_given (YieldsList-from_map_by _ (λ r. r.now) g.N.Item.RecordRef.record_of (YieldsList-at c.map-2.ensures.source (YieldsList-from_slice _ (c.iter-2.ensures.rest ∙ c.deref-2.ensures.value))) c.map-2.ensures.closure (λ x r q k. search rules))) c.in_ok-authorities.ensures;
-        soa = rw (given_by w.1.soa_given (YieldsList-from_map_by _ (λ r. r.now) g.S.Item.RecordRef.record_of (YieldsList-at c.map-3.ensures.source (YieldsList-from_slice _ (c.iter-3.ensures.rest ∙ c.deref-3.ensures.value))) c.map-3.ensures.closure (λ x r q k. search rules))) c.in_ok-soa.ensures;
-        additionals = rw (given_by w.1.additionals_given (YieldsList-from_map_by _ (λ r. r.now) g.D.Item.RecordRef.record_of (YieldsList-at c.map-4.ensures.source (YieldsList-from_slice _ (c.iter-4.ensures.rest ∙ c.deref-4.ensures.value))) c.map-4.ensures.closure (λ x r q k. search rules))) c.in_ok-additionals.ensures;
+        answers = w.1;
+        authorities = w.2;
+        soa = w.3;
+        additionals = w.4;
         signature = c.borrowed.ensures;
       },
-      encoded_at c.size_limit-limit.ensures c.from.ensures w.2,
+      encoded_at c.size_limit.ensures c.from.ensures w.5,
     )

@@ -1,67 +1,27 @@
 //! How a zone that is held in memory answers.
 
-ghost use Rattle.std.specs.Prelude.{◌≡◌, ◌++◌, Err, None, Some, false, OnOk, cond, drop, IfOk};
-ghost use Rattle.std.specs.List.{flat_map};
-ghost use Rattle.hickory_base.specs.ZoneAnswers.{LookedUp, OrMemory, Searched, Transferred, transfer_answer, whole_zone};
-ghost use Rattle.hickory_base.specs.ZoneSets.{is_key, sets_of};
+ghost use Rattle.std.specs.Prelude.{◌≡◌, Err, None, Some, false};
+ghost use Rattle.hickory_base.specs.ZoneAnswers.{LookedUp, OrMemory, Searched, Transferred, transfer_answer};
 ghost use Rattle.hickory_base.specs.declared.errors.UpdateFault.TheVariants.{Code};
 ghost use Rattle.hickory_base.specs.declared.zone_store.lookup.LookupControlFlow.TheVariants.{Skip};
 
 use crate::errors::{LookupError, UpdateFault};
 use crate::server::{Request, RequestInfo};
-use crate::zone_store::copies::append_copies;
 use crate::zone_store::find::find;
 use crate::zone_store::handler::{AxfrPolicy, Nsec3QueryInfo, NxProofKind, ZoneHandler, ZoneType};
 use crate::zone_store::in_memory::InMemoryZoneHandler;
 use crate::zone_store::lookup::{AuthLookup, LookupControlFlow, LookupOptions, ZoneTransfer};
-use crate::zone_store::record_set::{RecordSet, RrKey};
-use hickory_wire::{Items, LowerName, Record, RecordType, ResponseCode, TSigResponseContext};
-use std::alloc::{AllocError, Global};
-use std::collections::BTreeMap;
-use std::rc::Rc;
-
-/// Puts copies of all records last but for the first under a key. Where memory is refused, those of a front of them may
-/// have been put.
-fn append_others(
-    all: &mut Vec<Record>,
-    sets: &BTreeMap<RrKey, Rc<RecordSet>>,
-    apex: &RrKey,
-) -> Result<(), AllocError>
-    ensures { OnOk result (all.new.items ≡ all.old.items ++ flat_map (λ e. cond (is_key apex.now.name apex.now.record_type e.0) (drop 1 e.1) e.1) (sets_of sets.now)) }
-{
-    for (key, set) in sets {
-        let records = set.records();
-        let others = if apex == key { &records[1..] } else { records };
-        append_copies(all, others)?;
-    }
-    Ok(())
-}
+use hickory_wire::{LowerName, RecordType, ResponseCode, TSigResponseContext};
+use std::alloc::Global;
 
 impl InMemoryZoneHandler {
-    /// The SOA record, all other records in the order of the sets, and the SOA record again.
-    fn all_records(&self, alloc: Global, soa: &Record) -> Result<ZoneTransfer, AllocError>
-        ensures { IfOk result (λ transfer. whole_zone self.now (Some soa.now) ≡ Ok transfer) }
-    {
-        let mut records = Vec::new(alloc);
-        records.push(soa.clone()?)?;
-        append_others(&mut records, &self.records, &self.apex)?;
-        records.push(soa.clone()?)?;
-        Ok(ZoneTransfer {
-            records: Items::from_vec(records),
-        })
-    }
-
     /// The zone's records for whoever may have them.
     fn transfer(&self, alloc: Global) -> Result<ZoneTransfer, LookupError>
         ensures { OrMemory (transfer_answer self.now) result }
     {
         match self.axfr_policy {
-            AxfrPolicy::AllowAll => {}
-            _ => return Err(LookupError::ResponseCode(ResponseCode::REFUSED)),
-        }
-        match self.soa() {
-            None => Err(LookupError::ResponseCode(ResponseCode::SERV_FAIL)),
-            Some(soa) => Ok(self.all_records(alloc, soa)?),
+            AxfrPolicy::AllowAll => self.whole_zone(alloc),
+            _ => Err(LookupError::ResponseCode(ResponseCode::REFUSED)),
         }
     }
 }

@@ -6,16 +6,16 @@ use Rattle.hickory_catalog.proofs.queries.answer_query.Goals as goal
 
 pub returns-in-Err-clause-replied : goal.returns-in-Err-clause-replied
 returns-in-Err-clause-replied g c = (
-  error_reply c.args.request.now.message c.args.edns 1,
+  error_reply c.args.request.now.message c.args.edns.now 1,
   other_count c.in-Err.ensures.err refl,
-  rw c.message-message.ensures at c.send_error.ensures,
+  rw (c.message-message.ensures, c.take.ensures.value) at c.send_error.ensures,
 )
 
 pub returns-in-None-clause-replied : goal.returns-in-None-clause-replied
 returns-in-None-clause-replied g c = (
-  error_reply c.args.request.now.message c.args.edns 5,
+  error_reply c.args.request.now.message c.args.edns.now 5,
   no_zone c.in-Ok.ensures.query (finds_none c.args.zones.now (λ chain. chain.now.items) c.name.result.now _ c.in_ok-find.field-0 c.in_ok-find.ensures.found c.in-None.is c.name.ensures) refl,
-  rw c.message-message.ensures at c.send_error-in-None.ensures,
+  rw (c.message-message.ensures, c.take-in-None.ensures.value) at c.send_error-in-None.ensures,
 )
 
 pub returns-in-Some-clause-replied : goal.returns-in-Some-clause-replied

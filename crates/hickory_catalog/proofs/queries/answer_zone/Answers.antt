@@ -10,18 +10,18 @@ pub returns-in-None-clause-replied : goal.returns-in-None-clause-replied
 returns-in-None-clause-replied g c =
     let plain : (c.args.query.now.query_type == 252) ≡ false = search rules in
     let info : information_of c.new-info.result ≡ information c.args.request.now c.args.query.now = search rules in
-    let options : c.from_edns-options.result ≡ consult_options c.args.edns = search rules in
+    let options : c.from_edns-options.result ≡ consult_options c.args.edns.now = search rules in
     let answers = rw (info, options) at c.chain_answer-answer.ensures.answers in (
-      error_reply c.args.request.now.message c.args.edns 2,
+      error_reply c.args.request.now.message c.args.edns.now 2,
       unanswered plain answers (sym c.map_result.ensures ∙ c.in-None.is) refl,
-      rw c.message-in-None.ensures at c.send_error.ensures,
+      rw (c.message-in-None.ensures, c.take.ensures.value) at c.send_error.ensures,
     )
 
 pub returns-in-Some-clause-replied : goal.returns-in-Some-clause-replied
 returns-in-Some-clause-replied g c =
     let plain : (c.args.query.now.query_type == 252) ≡ false = search rules in
     let info : information_of c.new-info.result ≡ information c.args.request.now c.args.query.now = search rules in
-    let options : c.from_edns-options.result ≡ consult_options c.args.edns = search rules in
+    let options : c.from_edns-options.result ≡ consult_options c.args.edns.now = search rules in
     let answers = rw (info, options) at c.chain_answer-answer.ensures.answers in
     let some = sym c.map_result.ensures ∙ c.in-Some.is in
     let within = c.chain_answer-answer.ensures.place (ap is_some some) in

@@ -10,7 +10,7 @@ use Rattle.hickory_wire.specs.declared.error.ProtoError.TheVariants.{MaxSizeExce
 use Rattle.hickory_wire.specs.declared.query.Query.{Query}
 use Rattle.hickory_wire.proofs.WritingFaults.{stuck_kinds}
 use Rattle.hickory_wire.proofs.RepliesEncoded.{are_bytes}
-use Rattle.hickory_wire.proofs.WrittenMessage.{written_reads}
+use Rattle.hickory_wire.proofs.WrittenMessage.{message_stands, written_reads}
 use Rattle.hickory_wire.proofs.message_encoder.write_reply.Goals as goal
 use Rattle.hickory_wire.proofs.message_encoder.write_reply.Goals.{In_ok-sections}
 
@@ -62,7 +62,7 @@ returns-clause-written g c =
     let small : c.args.limit < 2 ^ 16 = search rules in
     let are : AreBytes bytes = are_bytes bytes c.type_inv.bytes in
     let back : (queries : List Query) → IsDecodable reply queries → Reads bytes (decoded_message reply queries fronts) = λ queries d. written_reads c.args.limit reply bytes fronts queries small whole d are in
-    (w.0, w.1, record { fronts = fronts; written = whole; header_is = c.header_of-header.ensures; reads = back })
+    (w.0, w.1, record { fronts = fronts; written = whole; header_is = c.header_of-header.ensures; stands = λ queries d. message_stands c.args.limit reply bytes fronts queries small whole d; reads = back })
 
 pub returns-clause-bytes : goal.returns-clause-bytes
 returns-clause-bytes g c = are_bytes c.put_header.new.bytes.items c.type_inv.bytes

@@ -2,15 +2,14 @@ use Rattle.std.proofs.Common.{◌≡◌, ℕ, true, ◌&&◌, nat_eq, List, ap}
 use Rattle.std.proofs.lemmas.Bool.{eq-eqb, eqb-true, false≢true}
 use Rattle.hickory_wire.specs.NameOrder.{name_eq, lower_name}
 use Rattle.hickory_wire.specs.NameHash.{same_from_eq}
-use Rattle.hickory_wire.specs.RecordSameness.{lower_mx, lower_soa, lower_tsig}
+use Rattle.hickory_wire.specs.RecordSameness.{lower_mx, lower_soa}
 use Rattle.hickory_wire.specs.declared.rdata.MX.{MX}
 use Rattle.hickory_wire.specs.declared.rdata.SOA.{SOA}
-use Rattle.hickory_wire.specs.declared.tsig.TSIG.{TSIG}
 use Rattle.hickory_wire.proofs.SameNames.{eq_from_same}
 use Rattle.std.specs.Cmp.Lexicographic.{pointwise}
 use Rattle.hickory_wire.specs.declared.rdata.RData.{RData}
 use Rattle.hickory_wire.specs.declared.rdata.RData.TheVariants as rdata
-use Rattle.hickory_wire.proofs.RecordComparing.{both_hold, hold_both, lower_from_eq, eq_from_lower, octets_from_eq, octets_equal, texts_from_eq, texts_equal, options_from_eq, options_equal, number_from_eq, number_equal}
+use Rattle.hickory_wire.proofs.RecordComparing.{both_hold, hold_both, lower_from_eq, eq_from_lower, octets_from_eq, octets_equal, texts_from_eq, texts_equal, options_from_eq, options_equal, number_from_eq, number_equal, signature_from_eq, signature_equal}
 use Rattle.std.specs.declared.net.ipv4_addr.Ipv4Addr.{Ipv4Addr}
 use Rattle.std.specs.declared.net.ipv6_addr.Ipv6Addr.{Ipv6Addr}
 use Rattle.hickory_wire.proofs.record_sameness.record_comparisons.Goals as goal
@@ -74,32 +73,7 @@ returns-clause-rdata c (rdata.SOA x) (rdata.SOA y) = (
 )
 returns-clause-rdata c (rdata.TXT x) (rdata.TXT y) = (λ h. ap rdata.TXT (texts_from_eq x y h), λ e. let f : x ≡ y = cc in rw (← f) (texts_equal x))
 returns-clause-rdata c (rdata.OPT x) (rdata.OPT y) = (λ h. ap rdata.OPT (options_from_eq x y h), λ e. let f : x ≡ y = cc in rw (← f) (options_equal x))
-returns-clause-rdata c (rdata.TSIG x) (rdata.TSIG y) = (
-  λ h.
-      let b0 : (name_eq x.algorithm y.algorithm ≡ true) × ((nat_eq x.time y.time && (nat_eq x.fudge y.fudge && (pointwise nat_eq x.mac y.mac && (nat_eq x.oid y.oid && (nat_eq x.error y.error && pointwise nat_eq x.other y.other))))) ≡ true) = both_hold _ _ h in
-      let b1 : (nat_eq x.time y.time ≡ true) × ((nat_eq x.fudge y.fudge && (pointwise nat_eq x.mac y.mac && (nat_eq x.oid y.oid && (nat_eq x.error y.error && pointwise nat_eq x.other y.other)))) ≡ true) = both_hold _ _ b0.1 in
-      let b2 : (nat_eq x.fudge y.fudge ≡ true) × ((pointwise nat_eq x.mac y.mac && (nat_eq x.oid y.oid && (nat_eq x.error y.error && pointwise nat_eq x.other y.other))) ≡ true) = both_hold _ _ b1.1 in
-      let b3 : (pointwise nat_eq x.mac y.mac ≡ true) × ((nat_eq x.oid y.oid && (nat_eq x.error y.error && pointwise nat_eq x.other y.other)) ≡ true) = both_hold _ _ b2.1 in
-      let b4 : (nat_eq x.oid y.oid ≡ true) × ((nat_eq x.error y.error && pointwise nat_eq x.other y.other) ≡ true) = both_hold _ _ b3.1 in
-      let b5 : (nat_eq x.error y.error ≡ true) × ((pointwise nat_eq x.other y.other) ≡ true) = both_hold _ _ b4.1 in
-      let p0 : lower_name x.algorithm ≡ lower_name y.algorithm = lower_from_eq _ _ b0.0 in
-      let p1 : x.time ≡ y.time = number_from_eq _ _ b1.0 in
-      let p2 : x.fudge ≡ y.fudge = number_from_eq _ _ b2.0 in
-      let p3 : x.mac ≡ y.mac = octets_from_eq _ _ b3.0 in
-      let p4 : x.oid ≡ y.oid = number_from_eq _ _ b4.0 in
-      let p5 : x.error ≡ y.error = number_from_eq _ _ b5.0 in
-      let p6 : x.other ≡ y.other = octets_from_eq _ _ b5.1 in cc,
-  λ e.
-      let m : lower_tsig x ≡ lower_tsig y = cc in
-      let p0 : lower_name x.algorithm ≡ lower_name y.algorithm = ap (λ (r : TSIG). r.algorithm) m in
-      let p1 : x.time ≡ y.time = ap (λ (r : TSIG). r.time) m in
-      let p2 : x.fudge ≡ y.fudge = ap (λ (r : TSIG). r.fudge) m in
-      let p3 : x.mac ≡ y.mac = ap (λ (r : TSIG). r.mac) m in
-      let p4 : x.oid ≡ y.oid = ap (λ (r : TSIG). r.oid) m in
-      let p5 : x.error ≡ y.error = ap (λ (r : TSIG). r.error) m in
-      let p6 : x.other ≡ y.other = ap (λ (r : TSIG). r.other) m in
-      hold_both _ _ (eq_from_lower _ _ p0) (hold_both _ _ (number_equal _ _ p1) (hold_both _ _ (number_equal _ _ p2) (hold_both _ _ (rw (← p3) (octets_equal x.mac)) (hold_both _ _ (number_equal _ _ p4) (hold_both _ _ (number_equal _ _ p5) (rw (← p6) (octets_equal x.other))))))),
-)
+returns-clause-rdata c (rdata.TSIG x) (rdata.TSIG y) = (λ h. ap rdata.TSIG (signature_from_eq x y h), λ e. signature_equal x y (cc))
 returns-clause-rdata c (rdata.NULL x) (rdata.NULL y) = (λ h. ap rdata.NULL (octets_from_eq x y h), λ e. let f : x ≡ y = cc in rw (← f) (octets_equal x))
 returns-clause-rdata c (rdata.Update0 x) (rdata.Update0 y) = (λ h. ap rdata.Update0 (eqb-true x y h), λ e. eq-eqb x y (cc))
 returns-clause-rdata c (rdata.Unknown x xs) (rdata.Unknown y ys) = (

@@ -1,5 +1,5 @@
 -- Replies, one list of records after the other.
-use Rattle.std.proofs.Common.{◌≡◌, ℕ, List, [], ◌∷◌, ◌++◌, length, drop, replicate, codes, None, refl, sym, ap, arith}
+use Rattle.std.proofs.Common.{◌≡◌, ℕ, List, [], ◌∷◌, ◌++◌, length, drop, take, replicate, codes, None, refl, sym, ap, arith}
 use Rattle.hickory_wire.specs.MessageLayout.{tsig_record}
 use Rattle.hickory_wire.specs.Reply.{opt_record}
 use Rattle.hickory_wire.specs.Worked.{a_record, signature_record}
@@ -30,6 +30,7 @@ answer_compressed = record {
   more = drop 33 www_reply_compressed;
   formed = refl;
   appended = refl;
+  in_full = tt;
   small = omega arith;
   within = omega arith;
   form = record {
@@ -111,6 +112,7 @@ dnssec_ok_put = record {
   more = drop 12 dnssec_ok_bytes;
   formed = refl;
   appended = refl;
+  in_full = tt;
   small = omega arith;
   within = omega arith;
   form = record { middle = 13; len = 0; owner = root_at 12 refl refl refl; fixed = stands _ _ _ refl refl; small = omega arith; rdata = octets_at 23 [] refl refl refl; counted = refl };
@@ -131,6 +133,7 @@ bad_version_put = record {
   more = drop 12 bad_version_bytes;
   formed = refl;
   appended = refl;
+  in_full = tt;
   small = omega arith;
   within = omega arith;
   form = record { middle = 13; len = 0; owner = root_at 12 refl refl refl; fixed = stands _ _ _ refl refl; small = omega arith; rdata = octets_at 23 [] refl refl refl; counted = refl };
@@ -151,6 +154,7 @@ signature_put = record {
   more = drop 12 signed_bytes;
   formed = refl;
   appended = refl;
+  in_full = (take 11 (drop 12 signed_bytes), refl);
   small = omega arith;
   within = omega arith;
   form = record {

@@ -7,11 +7,11 @@ pub returns-in_err-string : goal.returns-in_err-string
 returns-in_err-string c =
     let p = err_from_is_err_and c.from_residual.result c.from_residual.ensures.1 in
     let lt : c.strings.self.place < c.args.stop = omega arith in
-    rw (p.1, p.2) (strings_fail _ _ c.strings.self _ c.strings.invariant.so_far _ lt c.in_err-string.ensures.0, c.in_err-string.ensures.1 ∙ c.strings.invariant.kept)
+    rw (p.1, p.2) (strings_fail _ _ c.strings.self _ c.strings.invariant.so_far _ lt c.in_err-string.ensures.exact.0, c.in_err-string.ensures.exact.1 ∙ c.strings.invariant.kept)
 
 pub strings-smaller : goal.strings-smaller
 strings-smaller c =
-    let m = string_moves c.strings.self (_, c.read_string.new.self) c.in_ok-string.ensures.0 in
+    let m = string_moves c.strings.self (_, c.read_string.new.self) c.in_ok-string.ensures.exact.0 in
     let lt : c.strings.self.place < c.args.stop = omega arith in
     omega arith
 
@@ -19,8 +19,8 @@ pub strings-preserved : goal.strings-preserved
 strings-preserved c =
     let lt : c.strings.self.place < c.args.stop = omega arith in
     let pushed : c.push.new.self ≡ c.strings.strings ++ c.in_ok-string.string.now ∷ [] = c.in_ok-push.ensures.ok ∙ ap (λ s. c.strings.strings ++ s ∷ []) c.in_ok-from_slice.ensures in
-    let next = strings_go_on _ _ c.strings.self _ c.strings.invariant.so_far _ c.in_ok-string.string.now lt c.in_ok-string.ensures.0 in
-    record { so_far = rw pushed next; kept = c.in_ok-string.ensures.1 ∙ c.strings.invariant.kept }
+    let next = strings_go_on _ _ c.strings.self _ c.strings.invariant.so_far _ c.in_ok-string.string.now lt c.in_ok-string.ensures.exact.0 in
+    record { so_far = rw pushed next; kept = c.in_ok-string.ensures.exact.1 ∙ c.strings.invariant.kept }
 
 pub returns : goal.returns
 returns c =

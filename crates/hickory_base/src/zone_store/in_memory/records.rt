@@ -1,0 +1,80 @@
+//! The records of a zone that is held in memory: by name and type, and as a whole.
+
+ghost use Rattle.std.specs.Prelude.{◌≡◌, ◌++◌, OnOk, IfOk, Some, Ok, cond, drop};
+ghost use Rattle.std.specs.List.{flat_map, list_any};
+ghost use Rattle.std.specs.Option.{option_copied};
+ghost use Rattle.hickory_base.specs.ZoneAnswers.{OrMemory, whole_zone, zone_soa};
+ghost use Rattle.hickory_base.specs.ZoneRecords.{existing, is_at, rrset};
+ghost use Rattle.hickory_base.specs.ZoneSets.{is_key, sets_of, zone_records};
+
+use crate::errors::LookupError;
+use crate::zone_store::copies::append_copies;
+use crate::zone_store::find::{is_in_use, set_under};
+use crate::zone_store::in_memory::InMemoryZoneHandler;
+use crate::zone_store::lookup::ZoneTransfer;
+use crate::zone_store::record_set::{RecordSet, RrKey};
+use hickory_wire::{Items, LowerName, Record, RecordType, ResponseCode};
+use std::alloc::{AllocError, Global};
+use std::collections::BTreeMap;
+use std::rc::Rc;
+
+/// Puts copies of all records last but for the first under a key. Where memory is refused, those of a front of them may
+/// have been put.
+fn append_others(
+    all: &mut Vec<Record>,
+    sets: &BTreeMap<RrKey, Rc<RecordSet>>,
+    apex: &RrKey,
+) -> Result<(), AllocError>
+    ensures { OnOk result (all.new.items ≡ all.old.items ++ flat_map (λ e. cond (is_key apex.now.name apex.now.record_type e.0) (drop 1 e.1) e.1) (sets_of sets.now)) }
+{
+    for (key, set) in sets {
+        let records = set.records();
+        let others = if apex == key { &records[1..] } else { records };
+        append_copies(all, others)?;
+    }
+    Ok(())
+}
+
+impl InMemoryZoneHandler {
+    /// The records of a name and type (RFC 2181 section 5), if there are any. It needs no memory, and time by the depth
+    /// of the zone's map.
+    pub fn record_set(&self, key: &RrKey) -> Option<&[Record]>
+        ensures { option_copied result ≡ existing (rrset (zone_records self.now.sets) key.now.name key.now.record_type) }
+    {
+        // That the keys are in order is known of a map whose length was read.
+        let _ = self.records.len();
+        set_under(&self.records, key)
+    }
+
+    /// Whether there are records of this name, of whatever type. It needs no memory, and time by the depth of the zone's map.
+    pub fn is_in_use(&self, name: LowerName) -> bool
+        ensures { result ≡ list_any (is_at name) (zone_records self.now.sets) }
+    {
+        let first = RrKey::new(name, RecordType::new(0));
+        is_in_use(&self.records, &first)
+    }
+
+    /// The SOA record, all other records in the order of the sets, and the SOA record again.
+    fn all_records(&self, alloc: Global, soa: &Record) -> Result<ZoneTransfer, AllocError>
+        ensures { IfOk result (λ transfer. whole_zone self.now (Some soa.now) ≡ Ok transfer) }
+    {
+        let mut records = Vec::new(alloc);
+        records.push(soa.clone()?)?;
+        append_others(&mut records, &self.records, &self.apex)?;
+        records.push(soa.clone()?)?;
+        Ok(ZoneTransfer {
+            records: Items::from_vec(records),
+        })
+    }
+
+    /// The whole zone as a transfer, whoever may have it: the SOA record at the origin, all other records in the order
+    /// of the sets, and that SOA record again (RFC 5936 section 2.2). Without an SOA it is ServFail.
+    pub fn whole_zone(&self, alloc: Global) -> Result<ZoneTransfer, LookupError>
+        ensures { OrMemory (whole_zone self.now (zone_soa self.now)) result }
+    {
+        match self.soa() {
+            None => Err(LookupError::ResponseCode(ResponseCode::SERV_FAIL)),
+            Some(soa) => Ok(self.all_records(alloc, soa)?),
+        }
+    }
+}

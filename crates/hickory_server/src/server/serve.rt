@@ -1,0 +1,3 @@
+//! What serving needs beside the catalog.
+
+pub use hickory_base::encoding_sink::EncodingSink;

@@ -1,0 +1,3 @@
+//! Zones that take dynamic updates.
+
+pub use hickory_store::sqlite::{SqliteZoneHandler, Verifier, VerifyError};

@@ -1,0 +1,19 @@
+use Rattle.std.proofs.Common.{ℕ, ap, ◌∙◌}
+use Rattle.hickory_wire.specs.DomainName.{DomainName}
+use Rattle.hickory_wire.specs.NameOrder.{lower_name}
+use Rattle.hickory_wire.specs.RecordData.{type_of}
+use Rattle.hickory_base.specs.ZoneRecords.{existing, rrset}
+use Rattle.hickory_base.specs.ZoneSets.{zone_records}
+use Rattle.hickory_base.specs.declared.zone_store.record_set.RrKey.{RrKey}
+use Rattle.hickory_store.proofs.NamedSets.{rrset_at}
+use Rattle.hickory_store.proofs.sqlite.required_sets.find_set.Goals as goal
+
+pub returns : goal.returns
+returns c =
+    let records = zone_records c.args.zone.now.sets in
+    let r = c.args.r.now in
+    c.record_set.ensures
+    ∙ ap (λ (k : RrKey). existing (rrset records k.name k.record_type)) c.new-key.ensures
+    ∙ ap (λ (n : DomainName). existing (rrset records n c.record_type.result)) c.in_ok-name.ensures
+    ∙ ap (λ (t : ℕ). existing (rrset records (lower_name r.name) t)) c.record_type.ensures
+    ∙ ap existing (rrset_at r.name (type_of r.rdata) records)

@@ -1,0 +1,11 @@
+use Rattle.std.proofs.Common.{sym, ◌∙◌}
+use Rattle.std.specs.Prelude.{◌==◌}
+use Rattle.hickory_wire.specs.RecordData.{type_of}
+use Rattle.hickory_base.specs.ZoneRecords.{is_of}
+use Rattle.hickory_store.proofs.NamedSets.{any_filter}
+use Rattle.hickory_store.proofs.sqlite.required_sets.names_set.Goals as goal
+
+pub returns : goal.returns
+returns c =
+    let r = c.args.r.now in
+    c.require_of_set.ensures ∙ sym (any_filter (λ q. q.dns_class == c.args.class) (is_of r.name (type_of r.rdata)) c.args.prerequisites.now)

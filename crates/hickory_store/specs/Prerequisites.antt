@@ -1,0 +1,67 @@
+-- What an update requires of a zone (RFC 2136 sections 2.4 and 3.2).
+use Rattle.std.specs.Prelude.{ℕ, ◌==◌, ◌&&◌, Bool, true, false, not, cond, List, [], filter, Option, Some}
+use Rattle.std.specs.List.{list_all, list_any}
+use Rattle.std.specs.Option.{option_or}
+use Rattle.hickory_wire.specs.DomainName.{DomainName}
+use Rattle.hickory_wire.specs.RecordData.{type_of}
+use Rattle.hickory_wire.specs.declared.rdata.RData.{RData}
+use Rattle.hickory_wire.specs.declared.rdata.RData.TheVariants.{NULL, Update0}
+use Rattle.hickory_wire.specs.declared.record.Record.{Record}
+use Rattle.hickory_base.specs.ZoneRecords.{is_at, is_of, rrset}
+use Rattle.hickory_store.specs.Identity.{is_in_zone, same_record}
+use Rattle.hickory_store.specs.Refusals.{first_refusal, unless}
+
+-- data of no bytes (RDLENGTH 0)
+abbrev pub has_no_data : Record RData → Bool
+has_no_data r = is_empty r.rdata where
+  is_empty : RData → Bool
+  is_empty (Update0 record_type) = true
+  is_empty (NULL []) = true
+  is_empty other = false
+
+-- The name has at least one record (section 2.4.4).
+abbrev pub name_is_in_use : List (Record RData) → DomainName → Bool
+name_is_in_use zone name = list_any (is_at name) zone
+
+-- At least one record has the name and type (section 2.4.1).
+abbrev pub rrset_exists : List (Record RData) → DomainName → ℕ → Bool
+rrset_exists zone name record_type = list_any (is_of name record_type) zone
+
+-- Two RRsets have the same records: each record of one is in the other, and TTLs do not count (section 2.4.2).
+abbrev pub same_rrset : List (Record RData) → List (Record RData) → Bool
+same_rrset records others = list_all (λ r. list_any (same_record r) others) records && list_all (λ q. list_any (same_record q) records) others
+
+-- class ANY, 255: the name is in use (section 2.4.4, type ANY, 255), or the RRset exists, value independent (section 2.4.1)
+abbrev pub existence_refusal : List (Record RData) → Record RData → Option ℕ
+existence_refusal zone r =
+    cond (type_of r.rdata == 255) (unless (name_is_in_use zone r.name) 3) (unless (rrset_exists zone r.name (type_of r.rdata)) 8)
+
+-- class NONE, 254: the name is not in use (section 2.4.5, type ANY), or the RRset does not exist (section 2.4.3)
+abbrev pub absence_refusal : List (Record RData) → Record RData → Option ℕ
+absence_refusal zone r =
+    cond (type_of r.rdata == 255) (unless (not (name_is_in_use zone r.name)) 6) (unless (not (rrset_exists zone r.name (type_of r.rdata))) 7)
+
+-- the test of a record by its class: a record of the zone's class is collected, and any other class is a format error (section 3.2.5)
+abbrev pub class_refusal : ℕ → List (Record RData) → Record RData → Option ℕ
+class_refusal class zone r =
+    cond (r.dns_class == 255) (cond (has_no_data r) (existence_refusal zone r) (Some 1))
+    (cond (r.dns_class == 254) (cond (has_no_data r) (absence_refusal zone r) (Some 1))
+    (unless (r.dns_class == class) 1))
+
+-- a TTL but 0 is a format error, and the name lies in the zone
+abbrev pub prerequisite_refusal : DomainName → ℕ → List (Record RData) → Record RData → Option ℕ
+prerequisite_refusal origin class zone r =
+    cond (r.ttl == 0) (cond (is_in_zone origin r.name) (class_refusal class zone r) (Some 10)) (Some 1)
+
+-- the records of the RRsets that shall exist, value dependent (section 2.4.2)
+abbrev pub collected : ℕ → List (Record RData) → List (Record RData)
+collected class records = filter (λ r. r.dns_class == class) records
+
+-- Each RRset that was collected is the zone's RRset of its name and type.
+abbrev pub sets_match : List (Record RData) → List (Record RData) → Bool
+sets_match zone required = list_all (λ r. same_rrset (rrset required r.name (type_of r.rdata)) (rrset zone r.name (type_of r.rdata))) required
+
+-- the records one by one, and in the end the sets that were collected (section 3.2.5)
+abbrev pub prerequisites_refusal : DomainName → ℕ → List (Record RData) → List (Record RData) → Option ℕ
+prerequisites_refusal origin class zone records =
+    option_or (first_refusal (prerequisite_refusal origin class zone) records) (unless (sets_match zone (collected class records)) 8)

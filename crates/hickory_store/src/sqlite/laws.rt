@@ -1,0 +1,20 @@
+//! Laws of the definitions, each the contract of a function with nothing to do.
+
+ghost use Rattle.std.specs.Prelude.{◌≡◌, ◌↔◌, IsTrue};
+ghost use Rattle.hickory_wire.specs.DomainName.{DomainName};
+ghost use Rattle.hickory_wire.specs.NameOrder.{Encloses};
+ghost use Rattle.hickory_wire.specs.RecordSameness.{SameRecord};
+ghost use Rattle.hickory_wire.specs.declared.rdata.RData.{RData as Data};
+ghost use Rattle.hickory_wire.specs.declared.record.Record.{Record as ResourceRecord};
+ghost use Rattle.hickory_store.specs.Identity.{is_in_zone, same_record};
+
+use hickory_wire::record_comparisons;
+
+/// Records of one identity are those that are the same, and a name lies in a zone where the zone's origin equals or
+/// encloses it.
+pub fn identities()
+    ensures records { (a b : ResourceRecord Data) → IsTrue (same_record a b) ↔ SameRecord a b }
+    ensures zones { (origin name : DomainName) → IsTrue (is_in_zone origin name) ↔ Encloses origin.labels name.labels }
+{
+    record_comparisons();
+}

@@ -1,0 +1,148 @@
+//! Whether RRsets that an update requires are those of the zone.
+
+ghost use Rattle.std.specs.Prelude.{◌≡◌, ◌==◌, ◌&&◌, IfOk};
+ghost use Rattle.std.specs.List.{list_any};
+ghost use Rattle.std.specs.Option.{option_copied};
+ghost use Rattle.hickory_wire.specs.RecordData.{type_of};
+ghost use Rattle.hickory_base.specs.ZoneRecords.{existing, is_of, rrset};
+ghost use Rattle.hickory_base.specs.ZoneSets.{zone_records};
+ghost use Rattle.hickory_store.specs.Identity.{same_record};
+ghost use Rattle.hickory_store.specs.Prerequisites.{collected, sets_match};
+ghost use Rattle.hickory_store.specs.SetsByRecord.{are_matched, are_required, is_matched, is_matched_by};
+
+use crate::sqlite::laws::identities;
+use hickory_base::zone_store::{InMemoryZoneHandler, RrKey};
+use hickory_wire::{DNSClass, LowerName, Record};
+use std::alloc::{AllocError, Global};
+
+/// The zone's records of the name and type of a record, if there are any.
+pub(crate) fn find_set<'z>(
+    alloc: Global,
+    zone: &'z InMemoryZoneHandler,
+    r: &Record,
+) -> Result<Option<&'z [Record]>, AllocError>
+    ensures { IfOk result (λ found. option_copied found ≡ existing (rrset (zone_records zone.now.sets) r.now.name (type_of r.now.rdata))) }
+{
+    let name = LowerName::new(alloc, &r.name)?;
+    let key = RrKey::new(name, r.rdata.record_type());
+    Ok(zone.record_set(&key))
+}
+
+/// Whether one of the records is of this identity.
+fn has_record(records: &[Record], r: &Record) -> bool
+    ensures { result ≡ list_any (same_record r.now) records.now }
+{
+    records.iter().any(|q| r == q)
+}
+
+/// Whether a record is required, and of this identity.
+fn requires_record(class: DNSClass, r: &Record, q: &Record) -> bool
+    ensures { result ≡ ((r.now.dns_class == class) && same_record q.now r.now) }
+{
+    r.dns_class == class && q == r
+}
+
+/// Whether one of the records is required, and of this identity.
+fn require_record(class: DNSClass, prerequisites: &[Record], q: &Record) -> bool
+    ensures { result ≡ list_any (λ r. (r.dns_class == class) && same_record q.now r) prerequisites.now }
+{
+    prerequisites.iter().any(|r| requires_record(class, r, q))
+}
+
+/// Whether a required record is of this identity.
+fn is_required(class: DNSClass, prerequisites: &[Record], q: &Record) -> bool
+    ensures { result ≡ list_any (same_record q.now) (collected class prerequisites.now) }
+{
+    require_record(class, prerequisites, q)
+}
+
+/// Whether each of these records is required.
+fn are_required(class: DNSClass, prerequisites: &[Record], records: &[Record]) -> bool
+    ensures { result ≡ are_required (collected class prerequisites.now) records.now }
+{
+    records.iter().all(|q| is_required(class, prerequisites, q))
+}
+
+/// Whether a record is required, and of the RRset of another.
+fn requires_of_set(class: DNSClass, q: &Record, r: &Record) -> bool
+    ensures { result ≡ ((q.now.dns_class == class) && is_of r.now.name (type_of r.now.rdata) q.now) }
+{
+    q.dns_class == class && r.name == q.name && r.rdata.record_type() == q.rdata.record_type()
+}
+
+/// Whether one of the records is required, and of the RRset of this one.
+fn require_of_set(class: DNSClass, prerequisites: &[Record], r: &Record) -> bool
+    ensures { result ≡ list_any (λ q. (q.dns_class == class) && is_of r.now.name (type_of r.now.rdata) q) prerequisites.now }
+{
+    prerequisites.iter().any(|q| requires_of_set(class, q, r))
+}
+
+/// Whether a required record is of the RRset of this one.
+fn names_set(class: DNSClass, prerequisites: &[Record], r: &Record) -> bool
+    ensures { result ≡ list_any (is_of r.now.name (type_of r.now.rdata)) (collected class prerequisites.now) }
+{
+    require_of_set(class, prerequisites, r)
+}
+
+/// Whether a required record is among these of its RRset, and with it all that is required of them; of several records of
+/// one RRset the last one answers for that.
+fn is_matched_by(
+    class: DNSClass,
+    records: &[Record],
+    prerequisites: &[Record],
+    later: &[Record],
+    r: &Record,
+) -> bool
+    ensures { result ≡ is_matched_by records.now (collected class prerequisites.now) (collected class later.now) r.now }
+{
+    has_record(records, r)
+        && (names_set(class, later, r) || are_required(class, prerequisites, records))
+}
+
+/// Whether a required record is in the zone, and with it all that is required of its RRset.
+fn is_matched(
+    alloc: Global,
+    zone: &InMemoryZoneHandler,
+    prerequisites: &[Record],
+    later: &[Record],
+    r: &Record,
+) -> Result<bool, AllocError>
+    ensures { IfOk result (λ matched. matched ≡ is_matched (zone_records zone.now.sets) (collected 1 prerequisites.now) (collected 1 later.now) r.now) }
+{
+    match find_set(alloc, zone, r)? {
+        None => Ok(false),
+        Some(records) => Ok(is_matched_by(zone.class(), records, prerequisites, later, r)),
+    }
+}
+
+/// Whether each required record is matched by the zone.
+fn are_matched(
+    alloc: Global,
+    zone: &InMemoryZoneHandler,
+    prerequisites: &[Record],
+) -> Result<bool, AllocError>
+    ensures { IfOk result (λ matched. matched ≡ are_matched (zone_records zone.now.sets) (collected 1 prerequisites.now) (collected 1 prerequisites.now)) }
+{
+    let class = zone.class();
+    let mut rest = prerequisites;
+    while let [r, later @ ..] = rest {
+        if r.dns_class == class && !is_matched(alloc, zone, prerequisites, later, r)? {
+            return Ok(false);
+        }
+        rest = later;
+    }
+    Ok(true)
+}
+
+/// Whether each required RRset is that of the zone.
+pub(crate) fn sets_match(
+    alloc: Global,
+    zone: &InMemoryZoneHandler,
+    prerequisites: &[Record],
+) -> Result<bool, AllocError>
+    ensures { IfOk result (λ matched. matched ≡ sets_match (zone_records zone.now.sets) (collected 1 prerequisites.now)) }
+{
+    identities();
+    let matched = are_matched(alloc, zone, prerequisites)?;
+    Ok(matched)
+}

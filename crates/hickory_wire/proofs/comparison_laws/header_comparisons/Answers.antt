@@ -1,0 +1,19 @@
+use Rattle.std.proofs.Common.{◌≡◌, Bool, true, ◌&&◌, nat_eq, ap, refl}
+use Rattle.std.specs.Bool.{beq}
+use Rattle.hickory_wire.specs.declared.header.Header.{Header}
+use Rattle.hickory_wire.specs.declared.header.HeaderCounts.{HeaderCounts}
+use Rattle.hickory_wire.specs.declared.header.Metadata.{Metadata}
+use Rattle.hickory_wire.proofs.MetadataComparing.{metadata_eq, counts_eq, metadata_from_eq, metadata_equal, counts_from_eq, counts_equal, header_from_parts}
+use Rattle.hickory_wire.proofs.RecordComparing.{both_hold, hold_both}
+use Rattle.hickory_wire.proofs.comparison_laws.header_comparisons.Goals as goal
+
+pub returns-clause-metadata : goal.returns-clause-metadata
+returns-clause-metadata c = λ a b. (metadata_from_eq a b, metadata_equal a b)
+
+pub returns-clause-headers : goal.returns-clause-headers
+returns-clause-headers c = λ a b. (
+  λ h.
+      let both : (metadata_eq a.metadata b.metadata ≡ true) × (counts_eq a.counts b.counts ≡ true) = both_hold _ _ h in
+      header_from_parts a b (metadata_from_eq _ _ both.0) (counts_from_eq _ _ both.1),
+  λ e. hold_both _ _ (metadata_equal _ _ (ap (λ (f : Header). f.metadata) e)) (counts_equal _ _ (ap (λ (f : Header). f.counts) e)),
+)

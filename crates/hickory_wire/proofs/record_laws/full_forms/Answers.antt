@@ -1,0 +1,10 @@
+use Rattle.std.proofs.Common.{refl}
+use Rattle.hickory_wire.proofs.FullForms.{record_octets-len, record_stands}
+use Rattle.hickory_wire.proofs.FormLengths.{small_form}
+use Rattle.hickory_wire.proofs.record_laws.full_forms.Goals as goal
+
+pub returns-clause-size : goal.returns-clause-size
+returns-clause-size c = record_octets-len
+
+pub returns-clause-stands : goal.returns-clause-stands
+returns-clause-stands c = λ bytes floor place r owner names formed low s. record_stands bytes floor place _ r owner names (small_form r.rdata formed) low s refl

@@ -1,0 +1,3 @@
+//! Lists of blocked names: readers that fail, and implementations at concrete types.
+
+mod blocklist;

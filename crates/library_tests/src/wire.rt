@@ -1,0 +1,5 @@
+//! Messages in bytes: reading, writing, and the values that they are made of.
+
+mod decoding;
+mod encoding;
+mod values;

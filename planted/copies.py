@@ -1,0 +1,76 @@
+"""A copy of a crate, which the prover checks with wrong edits in it."""
+import os
+import shutil
+import signal
+import subprocess
+import sys
+import threading
+
+import crates
+import edits
+import verdicts
+
+# The groups of the processes that run now, each of which ends with this driver, and whether it is about to end.
+running, ending = set(), threading.Event()
+
+
+def end_all():
+    """Ends all checks that still run, and starts no other."""
+    ending.set()
+    for group in list(running):
+        try:
+            os.killpg(group, signal.SIGKILL)
+        except ProcessLookupError:
+            pass
+
+
+def output_in(folder, words):
+    """Runs a command in a folder, and returns what it says and the status it ends with."""
+    if ending.is_set():
+        sys.exit(1)
+    how = {"stdin": subprocess.DEVNULL, "stdout": subprocess.PIPE, "stderr": subprocess.STDOUT, "errors": "replace"}
+    with subprocess.Popen(words, cwd=folder, start_new_session=True, **how) as ran:
+        running.add(ran.pid)
+        output = ran.stdout.read()
+    running.discard(ran.pid)
+    return output, ran.returncode
+
+
+class Copy:
+    """A copy of a crate in a folder of its own. Its checks keep there what they proved, which makes the later ones short. What they say goes to files of
+    `output` too, where that is a folder."""
+
+    def __init__(self, name, texts, room, words, output, tell):
+        self.name, self.texts, self.room, self.words, self.output, self.tell = name, texts, room, words, output, tell
+        self.checks = 0
+        os.makedirs(f"{room}/kept")
+
+    def write(self, batch):
+        """Writes the crate's files anew, with the edits of a batch in them."""
+        shutil.rmtree(f"{self.room}/crate", ignore_errors=True)
+        for part in crates.PARTS:
+            if os.path.isdir(f"{crates.ROOT}/crates/{self.name}/{part}"):
+                shutil.copytree(f"{crates.ROOT}/crates/{self.name}/{part}", f"{self.room}/crate/{part}")
+        for path, text in edits.with_edits(self.texts, batch).items():
+            with open(f"{self.room}/crate/{path}", "w", encoding="utf-8") as file:
+                file.write(text)
+
+    def check(self, batch, more):
+        """Returns what the prover says of the crate with the edits of a batch in it."""
+        self.write(batch)
+        output, status = output_in(f"{self.room}/crate", [*self.words, "--incremental", f"{self.room}/kept", *more])
+        self.checks += 1
+        if self.output:
+            with open(f"{self.output}/{self.name}.{self.checks}", "w", encoding="utf-8") as file:
+                file.write(output)
+        return verdicts.read_output(output, status)
+
+    def prove(self, batch, is_whole):
+        """Checks the whole crate with these edits, or what judges them and what that calls."""
+        asked = sorted({path for edit in batch for path in edit.judges if not path.startswith("proofs/")})
+        self.tell(f"-- {self.name}: {len(batch)} tried together{'' if is_whole else f', by {len(asked)} functions'}")
+        return self.check(batch, [] if is_whole else [word for path in asked for word in ("--only", path)])
+
+    def reads(self, batch):
+        """Asks the front end alone, in seconds."""
+        return self.check(batch, ["--only", ""])

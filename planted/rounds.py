@@ -1,0 +1,114 @@
+"""Tries the wrong edits of a crate in rounds: in each as many together as change different functions, and in the end one by one what no round has shown."""
+from dataclasses import dataclass
+
+
+@dataclass
+class Answer:
+    """What became of an edit: whether the prover refuses it, as it must, and where, or what is wrong with it."""
+
+    edit: str
+    is_refused: bool
+    text: str
+
+
+def together(edits, most):
+    """Returns edits that can be tried at once, at most so many: no function is changed by two of them, and one that bears on functions that it does not
+    change is tried by itself."""
+    taken, batch = set(), []
+    for edit in edits:
+        if not edit.is_apart and not edit.functions & taken and len(batch) < most:
+            taken |= edit.functions
+            batch.append(edit)
+    return batch or edits[:1]
+
+
+def unreadable(batch, reads):
+    """Returns the edits of a batch whose text the front end refuses by itself, found by halves, each with what it said."""
+    said = reads(batch)
+    if said.is_judged:
+        return []
+    if len(batch) == 1:
+        return [(batch[0], said)]
+    half = len(batch) // 2
+    return unreadable(batch[:half], reads) + unreadable(batch[half:], reads)
+
+
+def answer_of(edit, said):
+    """Returns what a check says of an edit, whose functions no other edit of it changes. None where it says nothing."""
+    for path in sorted(edit.judges & said.refused.keys()):
+        return Answer(edit.name, True, f"refused at {path}: {said.refused[path]}")
+    for path in sorted(edit.judges & said.uncovered.keys()):
+        return Answer(edit.name, False, f"REFUSED BY NO GOAL: the borrow checker does not cover {path} with it, which says nothing of a contract")
+    return None
+
+
+def answer_alone(edit, said):
+    """Returns what the check of the whole crate with this edit alone says of it."""
+    answer = answer_of(edit, said)
+    if answer:
+        return answer
+    if not said.is_judged:
+        return Answer(edit.name, False, f"NOT TRIED: {said.first}")
+    if said.is_proved:
+        return Answer(edit.name, False, "NOT REFUSED: the crate is still proved with it")
+    for path, line in sorted(said.refused.items()):
+        return Answer(edit.name, False, f"REFUSED ELSEWHERE, in no function that it changes or names by `refused at:`: at {path}: {line}")
+    return Answer(edit.name, False, f"REFUSED BY NO GOAL: {said.first}")
+
+
+class Rounds:
+    """Tries edits. `prove(batch, is_whole)` checks the crate with the edits of a batch, the whole of it or what judges them, and `reads(batch)` asks the
+    front end alone."""
+
+    def __init__(self, prove, reads, tell):
+        self.prove, self.reads, self.tell = prove, reads, tell
+        self.answers, self.tried_once, self.alone = [], set(), []
+
+    def answer(self, answer):
+        self.answers.append(answer)
+        self.tell(answer)
+
+    def judged(self, batch, said):
+        """Takes in what a check says of a batch, and returns the edits of it that go into the next round, since it may have waited for another's proof."""
+        again = []
+        for edit in batch:
+            answer = answer_of(edit, said)
+            if answer:
+                self.answer(answer)
+            elif edit.name in self.tried_once or edit.judges <= said.proved:
+                self.alone.append(edit)
+            else:
+                self.tried_once.add(edit.name)
+                again.append(edit)
+        return again
+
+    def rejected(self, batch, said):
+        """Takes in that a batch came to no verdict, and returns the edits of it that can still be tried."""
+        bad = unreadable(batch, self.reads) if said.is_rejected else []
+        for edit, why in bad:
+            self.answer(Answer(edit.name, False, f"DOES NOT READ: {why.first}"))
+        if not bad and len(batch) == 1:
+            self.answer(Answer(batch[0].name, False, f"NOT TRIED: {said.first}"))
+            return []
+        return [it for it in batch if it not in [edit for edit, _ in bad]]
+
+    def run(self, edits, is_whole):
+        """Returns an answer for each of the edits. Where all edits of a crate are tried, `is_whole`, the first round checks the whole crate."""
+        for edit in edits:
+            if edit.fault:
+                self.answer(Answer(edit.name, False, edit.fault))
+        # (those that are tried by themselves come last: what the others have proved is kept by then)
+        left, most = sorted((it for it in edits if not it.fault), key=lambda it: it.is_apart), len(edits)
+        while left:
+            batch = together(left, most)
+            said = self.prove(batch, is_whole and len(batch) > 1)
+            left = [it for it in left if it not in batch]
+            if said.is_judged:
+                left, is_whole = left + self.judged(batch, said), False
+            else:
+                rest = self.rejected(batch, said)
+                most = most if len(rest) < len(batch) else max(1, len(batch) // 2)
+                left = rest + left
+        for edit in self.alone:
+            self.answer(answer_alone(edit, self.prove([edit], True)))
+        return self.answers
