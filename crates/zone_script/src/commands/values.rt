@@ -31,31 +31,33 @@ fn tell_class(word: &str, out: &mut String) -> Result<(), Fault> {
     Ok(())
 }
 
-/// The kind of request of a number.
-fn op_code(number: u8) -> Result<OpCode, Fault> {
+/// The kind of request of a number, if there is one.
+fn op_code(number: u8) -> Option<OpCode> {
     if number < 16 {
-        Ok(OpCode::new(number))
+        Some(OpCode::new(number))
     } else {
-        Err(Fault::Number)
+        None
     }
 }
 
 /// Tells of a kind of request.
 fn tell_op_code(word: &str, out: &mut String) -> Result<(), Fault> {
     let code = match word.parse::<u8>() {
-        Ok(number) => op_code(number)?,
-        Err(_) => word.parse::<OpCode>()?,
+        Ok(number) => op_code(number),
+        Err(_) => Some(word.parse::<OpCode>()?),
     };
-    writeln!(out, "{code}, number {}", code.value())?;
-    Ok(())
+    match code {
+        Some(code) => Ok(writeln!(out, "{code}, number {}", code.value())?),
+        None => Err(Fault::Number),
+    }
 }
 
-/// The response code of a number.
-fn response_code(number: u16) -> Result<ResponseCode, Fault> {
+/// The response code of a number, if there is one.
+fn response_code(number: u16) -> Option<ResponseCode> {
     if number < 4096 {
-        Ok(ResponseCode::new(number))
+        Some(ResponseCode::new(number))
     } else {
-        Err(Fault::Number)
+        None
     }
 }
 
@@ -68,10 +70,13 @@ fn put_status(code: ResponseCode, out: &mut String) -> Result<(), AllocError> {
 /// Tells of a response code.
 fn tell_status(word: &str, out: &mut String) -> Result<(), Fault> {
     let code = match word.parse::<u16>() {
-        Ok(number) => response_code(number)?,
-        Err(_) => word.parse::<ResponseCode>()?,
+        Ok(number) => response_code(number),
+        Err(_) => Some(word.parse::<ResponseCode>()?),
     };
-    Ok(put_status(code, out)?)
+    match code {
+        Some(code) => Ok(put_status(code, out)?),
+        None => Err(Fault::Number),
+    }
 }
 
 /// Tells of the response code of these high and low bits.
