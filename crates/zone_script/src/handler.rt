@@ -74,13 +74,15 @@ fn count(last: &LookupControlFlow<AuthLookup>) -> usize {
     }
 }
 
-/// An answer, unless the call could not be noted.
-fn noted(
-    noted: Result<(), LookupError>,
-    answer: LookupControlFlow<AuthLookup>,
+/// A part's answer to a call. One that could not be noted has none: want of memory is told, and not what the script says.
+fn given(
+    part: &Part,
+    alloc: Global,
+    asked: &Asked<'_>,
+    call: Call,
 ) -> LookupControlFlow<AuthLookup> {
-    match noted {
-        Ok(()) => answer,
+    match note(part, alloc, asked) {
+        Ok(()) => part.given(alloc, call),
         Err(e) => LookupControlFlow::Break(Err(e)),
     }
 }
@@ -101,17 +103,17 @@ fn search_part(
         ),
         _ => return part.given(alloc, Call::Search),
     };
-    noted(note(part, alloc, &asked), part.given(alloc, Call::Search))
+    given(part, alloc, &asked, Call::Search)
 }
 
 /// A part's answer for its denials.
 fn deny(part: &Part, alloc: Global, asked: &Asked<'_>) -> LookupControlFlow<AuthLookup> {
-    noted(note(part, alloc, asked), part.given(alloc, Call::Denial))
+    given(part, alloc, asked, Call::Denial)
 }
 
 /// A part's answer to a lookup.
 fn look_up(part: &Part, alloc: Global, asked: &Asked<'_>) -> LookupControlFlow<AuthLookup> {
-    noted(note(part, alloc, asked), part.given(alloc, Call::Lookup))
+    given(part, alloc, asked, Call::Lookup)
 }
 
 /// A part's answer to a consult.

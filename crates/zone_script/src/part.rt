@@ -140,7 +140,7 @@ fn first(alloc: Global, records: &[Record]) -> Result<Option<Boxed<Record>>, All
 }
 
 /// That there are no records.
-fn no_records(
+pub(crate) fn no_records(
     alloc: Global,
     records: &Sections,
     response_code: ResponseCode,

@@ -1,6 +1,6 @@
 //! Messages, names, questions and records in bytes.
 
-use crate::commands::records;
+use crate::commands::records::tell_record;
 use crate::fault::Fault;
 use crate::printing::print_message;
 use crate::reading::{put_fault, read_name, read_parts, read_question};
@@ -158,20 +158,52 @@ fn tell_copies(alloc: Global, bytes: &[u8], out: &mut String) -> Result<(), Faul
     }
 }
 
-/// Obeys a command that reads bytes, and tells whether it is one.
-fn decode(alloc: Global, words: &[&str], out: &mut String) -> Result<(), Fault> {
+/// What bytes are read as.
+#[derive(Clone, Copy)]
+enum Reading {
+    Message,
+    Name,
+    NameBehindHeader,
+    Question,
+    Record,
+    Parts,
+    Fronts,
+    Copies,
+}
+
+/// What bytes are read as by the words of a command, and the words with their digits.
+fn reading<'w>(words: &'w [&'w str]) -> (Reading, &'w [&'w str]) {
     match words {
-        ["name", "behind-header", digits @ ..] => {
-            tell_name(alloc, octets(alloc, digits)?.as_slice(), true, out)
-        }
-        ["name", digits @ ..] => tell_name(alloc, octets(alloc, digits)?.as_slice(), false, out),
-        ["question", digits @ ..] => tell_question(alloc, octets(alloc, digits)?.as_slice(), out),
-        ["parts", digits @ ..] => tell_parts(alloc, octets(alloc, digits)?.as_slice(), out),
-        ["fronts", digits @ ..] => tell_fronts(alloc, octets(alloc, digits)?.as_slice(), out),
-        ["copies", digits @ ..] => tell_copies(alloc, octets(alloc, digits)?.as_slice(), out),
-        ["record", digits @ ..] => records::decode(alloc, digits, out),
-        digits => tell_message(alloc, octets(alloc, digits)?.as_slice(), out),
+        ["name", "behind-header", digits @ ..] => (Reading::NameBehindHeader, digits),
+        ["name", digits @ ..] => (Reading::Name, digits),
+        ["question", digits @ ..] => (Reading::Question, digits),
+        ["record", digits @ ..] => (Reading::Record, digits),
+        ["parts", digits @ ..] => (Reading::Parts, digits),
+        ["fronts", digits @ ..] => (Reading::Fronts, digits),
+        ["copies", digits @ ..] => (Reading::Copies, digits),
+        digits => (Reading::Message, digits),
     }
+}
+
+/// Tells what bytes are read as.
+fn tell(alloc: Global, reading: Reading, bytes: &[u8], out: &mut String) -> Result<(), Fault> {
+    match reading {
+        Reading::Message => tell_message(alloc, bytes, out),
+        Reading::Name => tell_name(alloc, bytes, false, out),
+        Reading::NameBehindHeader => tell_name(alloc, bytes, true, out),
+        Reading::Question => tell_question(alloc, bytes, out),
+        Reading::Record => tell_record(alloc, bytes, out),
+        Reading::Parts => tell_parts(alloc, bytes, out),
+        Reading::Fronts => tell_fronts(alloc, bytes, out),
+        Reading::Copies => tell_copies(alloc, bytes, out),
+    }
+}
+
+/// Reads the bytes of words, and tells of them.
+fn decode(alloc: Global, words: &[&str], out: &mut String) -> Result<(), Fault> {
+    let (reading, digits) = reading(words);
+    let bytes = octets(alloc, digits)?;
+    tell(alloc, reading, bytes.as_slice(), out)
 }
 
 /// Obeys a command on messages, and tells whether it is one.

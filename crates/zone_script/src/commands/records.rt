@@ -3,7 +3,7 @@
 use crate::fault::Fault;
 use crate::reading::{put_fault, read_record};
 use crate::text;
-use crate::words::{behind_word, octets};
+use crate::words::behind_word;
 use hickory_server::proto::{
     BinEncoder, MessageType, Metadata, OpCode, ProtoError, Record, ReplyParts, emit_message_parts,
 };
@@ -69,14 +69,23 @@ fn put_record(alloc: Global, record: &Record, bytes: &[u8], out: &mut String) ->
     Ok(())
 }
 
-/// Tells of the record of a line: its text, and its bytes in full.
+/// Puts bytes in hex digits behind a text.
+fn put_wire(alloc: Global, bytes: &[u8], out: &mut String) -> Result<(), AllocError> {
+    let digits = hex::encode(alloc, bytes)?;
+    writeln!(out, ", wire {digits}")
+}
+
+/// Tells of a record, and of its bytes in full.
+fn put_described(alloc: Global, record: &Record, out: &mut String) -> Result<(), Fault> {
+    let bytes = wire(alloc, record)?;
+    put_record(alloc, record, bytes.as_slice(), out)?;
+    Ok(put_wire(alloc, bytes.as_slice(), out)?)
+}
+
+/// Tells of a copy of the record of a line: its text, and its bytes in full.
 fn describe(alloc: Global, line: &str, out: &mut String) -> Result<(), Fault> {
     let record = text::record(alloc, line)?.clone()?;
-    let bytes = wire(alloc, &record)?;
-    put_record(alloc, &record, bytes.as_slice(), out)?;
-    let digits = hex::encode(alloc, bytes)?;
-    writeln!(out, ", wire {digits}")?;
-    Ok(())
+    put_described(alloc, &record, out)
 }
 
 /// Tells of a record and where it ends.
@@ -88,9 +97,8 @@ fn put_read(alloc: Global, record: &Record, end: usize, out: &mut String) -> Res
 }
 
 /// Tells of the record that bytes begin with.
-pub(crate) fn decode(alloc: Global, digits: &[&str], out: &mut String) -> Result<(), Fault> {
-    let bytes = octets(alloc, digits)?;
-    match read_record(alloc, bytes.as_slice()) {
+pub(crate) fn tell_record(alloc: Global, bytes: &[u8], out: &mut String) -> Result<(), Fault> {
+    match read_record(alloc, bytes) {
         Ok((record, end)) => put_read(alloc, &record, end, out),
         Err(e) => put_fault(e, out),
     }

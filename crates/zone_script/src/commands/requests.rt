@@ -93,6 +93,16 @@ fn put_asked(request: &Request, out: &mut String) -> Result<(), AllocError> {
     }
 }
 
+/// Puts what is told of a request behind a text.
+fn put_request(alloc: Global, request: &Request, out: &mut String) -> Result<(), AllocError> {
+    let message = request.message();
+    put_origin(request, out)?;
+    put_metadata(request.metadata(), out)?;
+    put_questions(alloc, &message.queries, out)?;
+    put_rest(message, out)?;
+    put_asked(request, out)
+}
+
 /// Tells of a request.
 fn tell_request(
     script: &Script,
@@ -101,12 +111,7 @@ fn tell_request(
     out: &mut String,
 ) -> Result<(), Fault> {
     let request = request(script, alloc, digits)?;
-    put_origin(&request, out)?;
-    put_metadata(request.metadata(), out)?;
-    put_questions(alloc, &request.message().queries, out)?;
-    put_rest(request.message(), out)?;
-    put_asked(&request, out)?;
-    Ok(())
+    Ok(put_request(alloc, &request, out)?)
 }
 
 /// Puts a list of records behind a text, under a heading.
@@ -174,17 +179,12 @@ fn tell_questions(
     }
 }
 
-/// Tells whether two messages are equal, and whether their questions are.
-fn compare(
-    script: &Script,
-    alloc: Global,
-    first: &str,
-    second: &str,
+/// Puts whether two messages are equal behind a text, and whether their questions are.
+fn put_sameness(
+    first: &MessageRequest,
+    second: &MessageRequest,
     out: &mut String,
-) -> Result<(), Fault> {
-    let first = request(script, alloc, &[first])?;
-    let second = request(script, alloc, &[second])?;
-    let (first, second) = (first.message(), second.message());
+) -> Result<(), AllocError> {
     let questions = if first.queries == second.queries {
         "equal"
     } else {
@@ -195,8 +195,31 @@ fn compare(
     } else {
         "different"
     };
-    writeln!(out, "questions {questions}, messages {messages}")?;
-    Ok(())
+    writeln!(out, "questions {questions}, messages {messages}")
+}
+
+/// Tells how a message compares with another one.
+fn compare_with(
+    script: &Script,
+    alloc: Global,
+    first: &MessageRequest,
+    second: &str,
+    out: &mut String,
+) -> Result<(), Fault> {
+    let second = request(script, alloc, &[second])?;
+    Ok(put_sameness(first, second.message(), out)?)
+}
+
+/// Tells whether two messages are equal, and whether their questions are.
+fn compare(
+    script: &Script,
+    alloc: Global,
+    first: &str,
+    second: &str,
+    out: &mut String,
+) -> Result<(), Fault> {
+    let first = request(script, alloc, &[first])?;
+    compare_with(script, alloc, first.message(), second, out)
 }
 
 /// Writes a message within a limit.

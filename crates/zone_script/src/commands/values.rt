@@ -1,13 +1,12 @@
 //! The values that messages are made of.
 
 use crate::fault::Fault;
+use crate::part::no_records;
 use crate::reading::put_proto_fault;
 use crate::script::Script;
 use crate::sections::Sections;
 use crate::words::octets;
-use hickory_server::proto::{
-    Boxed, DNSClass, Items, NSIDPayload, OpCode, Record, RecordType, ResponseCode,
-};
+use hickory_server::proto::{DNSClass, NSIDPayload, OpCode, RecordType, ResponseCode};
 use hickory_server::zone_handler::{DnsError, LookupError};
 use std::alloc::{AllocError, Global};
 use std::fmt::Write;
@@ -99,42 +98,15 @@ fn tell_identifier(bytes: Vec<u8>, out: &mut String) -> Result<(), Fault> {
 
 /// Tells of the identifier of so many zero bytes.
 fn tell_long_identifier(alloc: Global, len: &str, out: &mut String) -> Result<(), Fault> {
-    let len = len.parse::<u32>()?;
-    tell_identifier(vec![in alloc; 0u8; len as usize]?, out)
-}
-
-/// Copies of records.
-fn copies(alloc: Global, records: &[Record]) -> Result<Items<Record>, AllocError> {
-    let mut copies = Items::new(alloc);
-    for record in records {
-        copies.push(record.clone()?)?;
-    }
-    Ok(copies)
-}
-
-/// The first of some records, if there is one.
-fn first(alloc: Global, records: &[Record]) -> Result<Option<Boxed<Record>>, AllocError> {
-    match records.first() {
-        None => Ok(None),
-        Some(record) => Ok(Some(Boxed::new(alloc, record.clone()?)?)),
-    }
-}
-
-/// That there are no records, with the authorities and the SOA of a reply.
-fn no_records(alloc: Global, reply: &Sections, code: ResponseCode) -> Result<LookupError, Fault> {
-    let authorities = copies(alloc, reply.authorities.as_slice())?;
-    Ok(LookupError::Net(DnsError::NoRecords {
-        response_code: code,
-        authorities,
-        soa: first(alloc, reply.soa.as_slice())?,
-    }))
+    let len = usize::from(len.parse::<u16>()?);
+    tell_identifier(vec![in alloc; 0u8; len]?, out)
 }
 
 /// The failure of these words.
 fn failure(alloc: Global, reply: &Sections, words: &[&str]) -> Result<LookupError, Fault> {
     match words {
         ["code", code] => Ok(LookupError::ResponseCode(code.parse::<ResponseCode>()?)),
-        ["no-records", code] => no_records(alloc, reply, code.parse::<ResponseCode>()?),
+        ["no-records", code] => Ok(no_records(alloc, reply, code.parse::<ResponseCode>()?)?),
         ["bogus"] => Ok(LookupError::Net(DnsError::DnssecBogus)),
         ["other"] => Ok(LookupError::Net(DnsError::Other)),
         ["questions", count] => Ok(LookupError::BadQueryCount(count.parse::<usize>()?)),
