@@ -36,6 +36,7 @@ pub mod ReplyParts
 pub mod SectionReading
 pub mod WholeReply
 pub mod Worked
+pub mod WorkedLists
 pub mod WorkedReplies
 pub mod Writing
 pub mod TextForm

@@ -22,6 +22,7 @@ ghost use Rattle.hickory_wire.specs.Worked.{a_record, address, a_record_of_five,
 ghost use Rattle.hickory_wire.specs.Worked.{header_with, with_counts, response, refused, authoritative, refused_update, truncated, status, recursion_available, authentic_data, checking_disabled, no_flags};
 ghost use Rattle.hickory_wire.specs.Worked.{saying, with_sig, opt_every_field, every_field, opt_record_at_root, opt_record_at_a, with_edns, with_signature, two_opts};
 ghost use Rattle.hickory_wire.specs.Worked.{www_query, www_question, asking, www_message, chaos_query, chaos_question, chaos_message, query_version_one, version_one_message, message_of_two_opts, bad_version, bad_version_message, empty_message};
+ghost use Rattle.hickory_wire.specs.WorkedLists.{additions_left_out, five_lists, five_lists_cut, five_lists_in_full, five_lists_truncated, five_lists_whole, formless_and_large};
 ghost use Rattle.hickory_wire.specs.WorkedReplies.{www_reply, www_reply_in_full, www_reply_compressed, www_reply_cut, serv_fail, one_answer, answer_left_out, opt_alone, signature_alone, dnssec_ok_reply, dnssec_ok_bytes, bad_version_reply, bad_version_bytes, signed_reply, signed_bytes, long_reply, one_of_three, long_reply_cut, hundred_answers, sixteen_of_hundred, sixteen_answers, formless_reply};
 ghost use Rattle.hickory_wire.specs.Writing.{Written, Encoded, written_header, fallback_header};
 ghost use Rattle.hickory_wire.specs.declared.error.DecodeError.TheVariants as decode_error;
@@ -196,6 +197,13 @@ pub fn worked_replies()
     ensures dnssec_ok { Written 512 dnssec_ok_reply dnssec_ok_bytes opt_alone }
     ensures bad_version { Written 512 bad_version_reply bad_version_bytes opt_alone }
     ensures signed { Written 512 signed_reply signed_bytes signature_alone }
+{}
+
+/// As which bytes a reply with all five lists may be written within a limit: in full, and without OPT and TSIG.
+pub fn worked_lists()
+    ensures in_full { Written 123 five_lists_truncated five_lists_in_full five_lists_whole }
+    ensures left_out { Written 84 five_lists five_lists_cut additions_left_out }
+    ensures no_form_first { Encoded 20 formless_and_large serv_fail (fallback_header 0x1234) }
 {}
 
 /// As which bytes replies may be encoded within a limit, what their headers say, and which limits there are.

@@ -32,7 +32,7 @@ impl LookupOptions {
 }
 
 /// What a handler answers, and whether the next handler of the chain may look at it.
-#[derive(Drop)]
+#[derive(Debug, Drop)]
 pub enum LookupControlFlow<T> {
     /// An answer that the other handlers of the chain are consulted about.
     Continue(Result<T, LookupError>),
@@ -70,7 +70,7 @@ impl<T> LookupControlFlow<T> {
 }
 
 /// What a resolver found for a question: the sections of the message that answered it.
-#[derive(Drop)]
+#[derive(Debug, Drop)]
 pub struct Lookup {
     /// The question.
     pub query: Query,
@@ -83,7 +83,7 @@ pub struct Lookup {
 }
 
 /// What a lookup found.
-#[derive(Drop)]
+#[derive(Debug, Drop)]
 pub enum AuthLookup {
     /// Nothing.
     Empty,
@@ -138,7 +138,7 @@ impl AuthLookup {
 }
 
 /// The records of a zone transfer, in the order in which they are sent (RFC 5936 section 2.2).
-#[derive(Drop)]
+#[derive(Debug, Drop)]
 pub struct ZoneTransfer {
     /// The SOA record, all other records, and the SOA record again.
     pub records: Items<Record>,

@@ -172,7 +172,7 @@ enum Reading {
 }
 
 /// What bytes are read as by the words of a command, and the words with their digits.
-fn reading<'w>(words: &'w [&'w str]) -> (Reading, &'w [&'w str]) {
+fn reading_of<'w>(words: &'w [&'w str]) -> (Reading, &'w [&'w str]) {
     match words {
         ["name", "behind-header", digits @ ..] => (Reading::NameBehindHeader, digits),
         ["name", digits @ ..] => (Reading::Name, digits),
@@ -201,7 +201,7 @@ fn tell(alloc: Global, reading: Reading, bytes: &[u8], out: &mut String) -> Resu
 
 /// Reads the bytes of words, and tells of them.
 fn decode(alloc: Global, words: &[&str], out: &mut String) -> Result<(), Fault> {
-    let (reading, digits) = reading(words);
+    let (reading, digits) = reading_of(words);
     let bytes = octets(alloc, digits)?;
     tell(alloc, reading, bytes.as_slice(), out)
 }

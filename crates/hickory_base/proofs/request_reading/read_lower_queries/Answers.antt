@@ -8,12 +8,12 @@ use Rattle.hickory_base.proofs.request_reading.read_lower_queries.Goals as goal
 pub returns-in_err-query-clause-exact : goal.returns-in_err-query-clause-exact
 returns-in_err-query-clause-exact c =
     let p = err_from_is_err_and c.from_residual.result c.from_residual.ensures.1 in
-    rw (p.1, p.2) (items_fail question c.args.count c.queries.counter c.queries.queries c.queries.decoder _ c.queries.invariant.so_far _ c.queries-test.true c.in_err-query.ensures.0, c.in_err-query.ensures.1 ∙ c.queries.invariant.kept)
+    rw (p.1, p.2) (items_fail question c.args.count c.queries.counter c.queries.queries c.queries.decoder _ c.queries.invariant.so_far _ c.queries-test.true c.in_err-query.ensures.exact.0, c.in_err-query.ensures.exact.1 ∙ c.queries.invariant.kept)
 
 pub queries-preserved : goal.queries-preserved
 queries-preserved c = record {
-  so_far = rw (c.in_ok-push.ensures.ok, c.in_ok-new.ensures) (items_go_on question c.args.count c.queries.counter c.queries.queries c.queries.decoder _ c.queries.invariant.so_far c.in_ok-query.query c.read_query.new.self c.queries-test.true c.in_ok-query.ensures.0);
-  kept = c.in_ok-query.ensures.1 ∙ c.queries.invariant.kept;
+  so_far = rw (c.in_ok-push.ensures.ok, c.in_ok-new.ensures) (items_go_on question c.args.count c.queries.counter c.queries.queries c.queries.decoder _ c.queries.invariant.so_far c.in_ok-query.query c.read_query.new.self c.queries-test.true c.in_ok-query.ensures.exact.0);
+  kept = c.in_ok-query.ensures.exact.1 ∙ c.queries.invariant.kept;
   number = rw c.in_ok-push.ensures.ok (omega (arith, length-append c.queries.queries (c.in_ok-new.field-0 ∷ []), c.queries.invariant.number));
 }
 

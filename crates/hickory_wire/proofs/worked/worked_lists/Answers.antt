@@ -1,0 +1,101 @@
+-- A reply with all five lists, each record put in full behind the one before.
+use Rattle.std.proofs.Common.{◌≡◌, ℕ, ◌+◌, ◌^◌, ◌<◌, ◌≤◌, List, [], ◌∷◌, ◌++◌, length, None, refl, sym, subst, arith}
+use Rattle.std.proofs.lemmas.List.Elements.{All-from_recursion}
+use Rattle.hickory_wire.specs.DomainName.{IsLabel, AreLabels}
+use Rattle.hickory_wire.specs.FullForm.{HasNames, record_octets}
+use Rattle.hickory_wire.specs.MessageLayout.{tsig_record}
+use Rattle.hickory_wire.specs.RecordSize.{data_len, form_fault, full_size}
+use Rattle.hickory_wire.specs.Reply.{opt_record}
+use Rattle.hickory_wire.specs.Worked.{root, record_of, address, signature_record}
+use Rattle.hickory_wire.specs.WorkedLists.{five_lists, formless_and_large, root_authority, root_pointer, root_server}
+use Rattle.hickory_wire.specs.WorkedReplies.{dnssec_ok_fields, too_long_string}
+use Rattle.hickory_wire.specs.Writing.{Puts, asked_bytes}
+use Rattle.hickory_wire.specs.Writing.Encoded.{formless}
+use Rattle.hickory_wire.specs.Writing.ListsWritten.{none_left, next_list, stuck_list}
+use Rattle.hickory_wire.specs.declared.error.ProtoError.TheVariants.{CharacterDataTooLong}
+use Rattle.hickory_wire.specs.declared.rdata.RData.{RData}
+use Rattle.hickory_wire.specs.declared.record.Record.{Record}
+use Rattle.hickory_wire.proofs.FullForms.{puts_full}
+use Rattle.hickory_wire.proofs.worked.worked_lists.Goals as goal
+
+no_labels : AreLabels []
+no_labels = record { each = All-from_recursion IsLabel [] tt; short = omega arith }
+
+-- a record of the root is put in full
+put_root : (limit : ℕ) (old : List ℕ) (r : Record RData) → 12 ≤ length old → r.name.labels ≡ [] → HasNames r.rdata → form_fault r.rdata ≡ None → data_len r.rdata < 2 ^ 16 → length old + full_size r ≤ limit → Puts limit old r (old ++ record_octets r)
+put_root limit old r low is names formed small fit = puts_full limit old (old ++ record_octets r) r low (subst AreLabels (sym is) no_labels) names formed small refl fit
+
+abbrev root_answer : Record RData
+root_answer = record_of root 1 0 address
+
+-- the bytes behind each record
+abbrev start : List ℕ
+start = asked_bytes five_lists
+
+abbrev one : List ℕ
+one = start ++ record_octets root_answer
+
+abbrev two : List ℕ
+two = one ++ record_octets root_server
+
+abbrev three : List ℕ
+three = two ++ record_octets root_authority
+
+abbrev four : List ℕ
+four = three ++ record_octets root_pointer
+
+abbrev five : List ℕ
+five = four ++ record_octets (opt_record dnssec_ok_fields)
+
+abbrev six : List ℕ
+six = five ++ record_octets (tsig_record signature_record)
+
+put_answer : (limit : ℕ) → 84 ≤ limit → Puts limit start root_answer one
+put_answer limit fit = put_root limit start root_answer (omega arith) refl tt refl (omega arith) (omega arith)
+
+put_server : (limit : ℕ) → 84 ≤ limit → Puts limit one root_server two
+put_server limit fit = put_root limit one root_server (omega arith) refl no_labels refl (omega arith) (omega arith)
+
+put_authority : (limit : ℕ) → 84 ≤ limit → Puts limit two root_authority three
+put_authority limit fit = put_root limit two root_authority (omega arith) refl (no_labels, no_labels) refl (omega arith) (omega arith)
+
+put_pointer : (limit : ℕ) → 84 ≤ limit → Puts limit three root_pointer four
+put_pointer limit fit = put_root limit three root_pointer (omega arith) refl no_labels refl (omega arith) (omega arith)
+
+put_opt : Puts 123 four (opt_record dnssec_ok_fields) five
+put_opt = put_root 123 four (opt_record dnssec_ok_fields) (omega arith) refl tt refl (omega arith) (omega arith)
+
+put_signature : Puts 123 five (tsig_record signature_record) six
+put_signature = put_root 123 five (tsig_record signature_record) (omega arith) refl no_labels refl (omega arith) (omega arith)
+
+pub returns-clause-in_full : goal.returns-clause-in_full
+returns-clause-in_full c = record {
+  body = six;
+  fits = omega arith;
+  lists = next_list (record { counted = omega arith; puts = (one, put_answer 123 (omega arith), refl); ends = refl })
+      (next_list (record { counted = omega arith; puts = (two, put_server 123 (omega arith), (three, put_authority 123 (omega arith), refl)); ends = refl })
+      (next_list (record { counted = omega arith; puts = (four, put_pointer 123 (omega arith), refl); ends = refl })
+      (next_list (record { counted = omega arith; puts = (five, put_opt, refl); ends = refl })
+      (next_list (record { counted = omega arith; puts = (six, put_signature, refl); ends = refl }) none_left))));
+  is = refl;
+}
+
+pub returns-clause-left_out : goal.returns-clause-left_out
+returns-clause-left_out c = record {
+  body = four;
+  fits = omega arith;
+  lists = next_list (record { counted = omega arith; puts = (one, put_answer 84 (omega arith), refl); ends = refl })
+      (next_list (record { counted = omega arith; puts = (two, put_server 84 (omega arith), (three, put_authority 84 (omega arith), refl)); ends = refl })
+      (next_list (record { counted = omega arith; puts = (four, put_pointer 84 (omega arith), refl); ends = refl })
+      (next_list (record { counted = omega arith; puts = refl; ends = record { next = opt_record dnssec_ok_fields; rest = []; is = refl; formed = refl; large = omega arith } })
+      (next_list (record { counted = omega arith; puts = refl; ends = record { next = tsig_record signature_record; rest = []; is = refl; formed = refl; large = omega arith } }) none_left))));
+  is = refl;
+}
+
+pub returns-clause-no_form_first : goal.returns-clause-no_form_first
+returns-clause-no_form_first c = formless {e = CharacterDataTooLong} (record {
+  body = asked_bytes formless_and_large;
+  fronts = [];
+  fits = omega arith;
+  lists = stuck_list {count = 0} (record { counted = omega arith; puts = refl; ends = record { next = too_long_string; rest = []; is = refl; formless = refl } });
+}) refl
