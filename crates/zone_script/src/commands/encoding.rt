@@ -56,18 +56,18 @@ fn set_word(metadata: &mut Metadata, word: &str) -> Result<(), Fault> {
     }
 }
 
-/// The header of these words, but for its counts.
-fn metadata_of(words: &[&str]) -> Result<Metadata, Fault> {
-    let mut metadata = Metadata::new(0, MessageType::Response, OpCode::QUERY);
+/// Sets what words say of a header.
+fn set_words(metadata: &mut Metadata, words: &[&str]) -> Result<(), Fault> {
     for word in words {
-        set_word(&mut metadata, word)?;
+        set_word(metadata, word)?;
     }
-    Ok(metadata)
+    Ok(())
 }
 
 /// Begins a reply.
 fn begin(script: &mut Script, alloc: Global, words: &[&str]) -> Result<(), Fault> {
-    let metadata = metadata_of(words)?;
+    let mut metadata = Metadata::new(0, MessageType::Response, OpCode::QUERY);
+    set_words(&mut metadata, words)?;
     script.draft = Draft::new(alloc);
     script.draft.metadata = metadata;
     script.reply = Sections::new(alloc);

@@ -31,31 +31,17 @@ fn tell_class(word: &str, out: &mut String) -> Result<(), Fault> {
     Ok(())
 }
 
-/// The kind of request of a number.
-fn op_code(number: u8) -> Result<OpCode, Fault> {
-    if number < 16 {
-        Ok(OpCode::new(number))
-    } else {
-        Err(Fault::Number)
-    }
+/// Puts a kind of request behind a text.
+fn put_op_code(code: OpCode, out: &mut String) -> Result<(), AllocError> {
+    writeln!(out, "{code}, number {}", code.value())
 }
 
 /// Tells of a kind of request.
 fn tell_op_code(word: &str, out: &mut String) -> Result<(), Fault> {
-    let code = match word.parse::<u8>() {
-        Ok(number) => op_code(number)?,
-        Err(_) => word.parse::<OpCode>()?,
-    };
-    writeln!(out, "{code}, number {}", code.value())?;
-    Ok(())
-}
-
-/// The response code of a number.
-fn response_code(number: u16) -> Result<ResponseCode, Fault> {
-    if number < 4096 {
-        Ok(ResponseCode::new(number))
-    } else {
-        Err(Fault::Number)
+    match word.parse::<u8>() {
+        Ok(number) if number < 16 => Ok(put_op_code(OpCode::new(number), out)?),
+        Ok(_) => Err(Fault::Number),
+        Err(_) => Ok(put_op_code(word.parse::<OpCode>()?, out)?),
     }
 }
 
@@ -67,11 +53,11 @@ fn put_status(code: ResponseCode, out: &mut String) -> Result<(), AllocError> {
 
 /// Tells of a response code.
 fn tell_status(word: &str, out: &mut String) -> Result<(), Fault> {
-    let code = match word.parse::<u16>() {
-        Ok(number) => response_code(number)?,
-        Err(_) => word.parse::<ResponseCode>()?,
-    };
-    Ok(put_status(code, out)?)
+    match word.parse::<u16>() {
+        Ok(number) if number < 4096 => Ok(put_status(ResponseCode::new(number), out)?),
+        Ok(_) => Err(Fault::Number),
+        Err(_) => Ok(put_status(word.parse::<ResponseCode>()?, out)?),
+    }
 }
 
 /// Tells of the response code of these high and low bits.
