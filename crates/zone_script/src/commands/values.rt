@@ -31,46 +31,17 @@ fn tell_class(word: &str, out: &mut String) -> Result<(), Fault> {
     Ok(())
 }
 
-<<<<<<< HEAD
-/// The kind of request of a number, if there is one.
-fn op_code(number: u8) -> Option<OpCode> {
-    if number < 16 {
-        Some(OpCode::new(number))
-    } else {
-        None
-    }
-=======
 /// Puts a kind of request behind a text.
 fn put_op_code(code: OpCode, out: &mut String) -> Result<(), AllocError> {
     writeln!(out, "{code}, number {}", code.value())
->>>>>>> 4a747eb783ca60bd23a33405c4f0b90a9e13c6f8
 }
 
 /// Tells of a kind of request.
 fn tell_op_code(word: &str, out: &mut String) -> Result<(), Fault> {
-<<<<<<< HEAD
-    let code = match word.parse::<u8>() {
-        Ok(number) => op_code(number),
-        Err(_) => Some(word.parse::<OpCode>()?),
-    };
-    match code {
-        Some(code) => Ok(writeln!(out, "{code}, number {}", code.value())?),
-        None => Err(Fault::Number),
-    }
-}
-
-/// The response code of a number, if there is one.
-fn response_code(number: u16) -> Option<ResponseCode> {
-    if number < 4096 {
-        Some(ResponseCode::new(number))
-    } else {
-        None
-=======
     match word.parse::<u8>() {
         Ok(number) if number < 16 => Ok(put_op_code(OpCode::new(number), out)?),
         Ok(_) => Err(Fault::Number),
         Err(_) => Ok(put_op_code(word.parse::<OpCode>()?, out)?),
->>>>>>> 4a747eb783ca60bd23a33405c4f0b90a9e13c6f8
     }
 }
 
@@ -82,20 +53,10 @@ fn put_status(code: ResponseCode, out: &mut String) -> Result<(), AllocError> {
 
 /// Tells of a response code.
 fn tell_status(word: &str, out: &mut String) -> Result<(), Fault> {
-<<<<<<< HEAD
-    let code = match word.parse::<u16>() {
-        Ok(number) => response_code(number),
-        Err(_) => Some(word.parse::<ResponseCode>()?),
-    };
-    match code {
-        Some(code) => Ok(put_status(code, out)?),
-        None => Err(Fault::Number),
-=======
     match word.parse::<u16>() {
         Ok(number) if number < 4096 => Ok(put_status(ResponseCode::new(number), out)?),
         Ok(_) => Err(Fault::Number),
         Err(_) => Ok(put_status(word.parse::<ResponseCode>()?, out)?),
->>>>>>> 4a747eb783ca60bd23a33405c4f0b90a9e13c6f8
     }
 }
 
