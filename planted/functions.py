@@ -52,7 +52,7 @@ def name_of_impl(head):
     trait, found, subject = head.rpartition(" for ")
     if not found:
         return words_of(subject.partition("<")[0], own), False
-    return words_of(subject, own) + words_of(trait, own), True
+    return words_of(subject, own) + words_of(re.sub(r"^\s*(\w+::)+", "", trait), own), True
 
 
 def head_of(rows, at):
@@ -87,7 +87,12 @@ def homes_of(texts):
     return {name: found[0] for name, found in homes.items() if len(found) == 1}
 
 
-def functions_of(path, text, homes):
+def generic_types_of(texts):
+    """Returns the names of the structs and enums of a crate that have types as parameters."""
+    return {name for text in texts.values() for name in re.findall(r"^ *(?:pub(?:\([^)]*\))? )?(?:struct|enum) (\w+)<(?!')", text, re.M)}
+
+
+def functions_of(path, text, homes, generic):
     """Returns the functions of a file of src/. A type's own functions go by the module of the type, wherever they stand."""
     rows, found, blocks, until = text.split("\n"), [], [], -1
     for at, row in enumerate(rows):
@@ -98,15 +103,17 @@ def functions_of(path, text, homes):
             above = blocks[-1].path if blocks else "::".join(module_of(path))
             found.append(Function(f"{above}::{start[2]}".removeprefix("::"), at, until))
         elif at > until and block:
-            name, of_trait = block[2] or block[3], True
+            name, is_own = block[2] or block[3], True
             if not name:
-                name, of_trait = name_of_impl(head_of(rows, at))
-            above = module_of(path) if of_trait else homes.get(name, module_of(path))
+                head = head_of(rows, at)
+                name, of_trait = name_of_impl(head)
+                is_own = of_trait or name in generic and not head.lstrip().startswith("impl<")
+            above = module_of(path) if is_own else homes.get(name, module_of(path))
             blocks.append(Function("::".join([*above, name]), at, ends_at(rows, at, block[1])))
     return found
 
 
 def functions_in(texts):
     """Returns the functions of each file of a crate, by the file's path."""
-    homes = homes_of(texts)
-    return {path: functions_of(path, text, homes) for path, text in texts.items()}
+    homes, generic = homes_of(texts), generic_types_of(texts)
+    return {path: functions_of(path, text, homes, generic) for path, text in texts.items()}
