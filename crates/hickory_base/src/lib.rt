@@ -2,15 +2,11 @@
 #![tactic(auto)]
 
 pub mod access;
-pub mod encoding_sink;
 pub mod errors;
-pub mod message_request;
-pub mod message_response;
-pub mod message_sameness;
-mod request_encoding;
-mod request_reading;
-mod response_encoding;
-mod response_handler;
+mod requests;
+mod responses;
 pub mod server;
-pub mod update_request;
 pub mod zone_store;
+
+pub use requests::{message_request, message_sameness, update_request};
+pub use responses::{encoding_sink, message_response};

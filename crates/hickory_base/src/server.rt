@@ -1,14 +1,14 @@
 //! Requests with where they came from.
 
 ghost use Rattle.std.specs.Prelude.{◌≡◌, IfOk, IfErr};
-ghost use Rattle.hickory_base.specs.Questions.{one_query};
-ghost use Rattle.hickory_base.specs.Requests.{ReceivedRequest, RequestInformation, information, information_of};
+ghost use Rattle.hickory_base.specs.requests.Questions.{one_query};
+ghost use Rattle.hickory_base.specs.requests.Requests.{ReceivedRequest, RequestInformation, information, information_of};
 
 use crate::errors::LookupError;
-use crate::message_request::MessageRequest;
-pub use crate::message_response::ResponseInfo;
-pub use crate::response_encoding::encode_response;
-pub use crate::response_handler::{RecordRef, RequestHandler, ResponseHandler};
+use crate::requests::message_request::MessageRequest;
+pub use crate::responses::message_response::ResponseInfo;
+pub use crate::responses::response_encoding::encode_response;
+pub use crate::responses::response_handler::{RecordRef, RequestHandler, ResponseHandler};
 use hickory_wire::{LowerQuery, Metadata, Octets, Protocol};
 use std::marker::Model;
 use std::net::SocketAddr;
@@ -23,7 +23,7 @@ pub struct Request {
 }
 
 impl Model for Request {
-    ghost use Rattle.hickory_base.specs.Requests.{ReceivedRequest};
+    ghost use Rattle.hickory_base.specs.requests.Requests.{ReceivedRequest};
 
     ghost Value = { ReceivedRequest };
 

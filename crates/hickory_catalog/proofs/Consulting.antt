@@ -2,10 +2,10 @@
 use Rattle.std.proofs.Common.{◌≡◌, ℕ, suc, ◌+◌, ◌-◌, ◌<◌, ◌≤◌, true, false, List, [], ◌∷◌, ◌++◌, length, drop, take, get_or, Option, None, Some, refl, ap, subst, ◌∙◌, arith}
 use Rattle.std.proofs.lemmas.List.{drop_all, length-drop, take_all}
 use Rattle.std.specs.Option.{option_or, IsSome}
-use Rattle.hickory_wire.specs.NameOrder.{lower_name}
-use Rattle.hickory_wire.specs.declared.tsig.TSigResponseContext.{TSigResponseContext}
-use Rattle.hickory_base.specs.Lookups.{Flow, is_continue, result_of}
-use Rattle.hickory_base.specs.Requests.{ReceivedRequest, RequestInformation}
+use Rattle.hickory_wire.specs.rr.domain.NameOrder.{lower_name}
+use Rattle.hickory_wire.specs.declared.rr.tsig.TSigResponseContext.{TSigResponseContext}
+use Rattle.hickory_base.specs.zone_store.Lookups.{Flow, is_continue, result_of}
+use Rattle.hickory_base.specs.requests.Requests.{ReceivedRequest, RequestInformation}
 use Rattle.hickory_base.specs.declared.zone_store.handler.ZoneHandler.{Ghosts}
 use Rattle.hickory_base.specs.declared.zone_store.lookup.LookupControlFlow.TheVariants.{Continue, Break, Skip}
 use Rattle.hickory_base.specs.declared.zone_store.lookup.LookupOptions.{LookupOptions}

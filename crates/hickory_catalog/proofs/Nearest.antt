@@ -6,8 +6,8 @@ use Rattle.std.specs.List.{All}
 use Rattle.std.specs.Map.{lookup}
 use Rattle.std.specs.BTreeMap.{is_at}
 use Rattle.std.proofs.lemmas.List.{length-map, map-append, take-append-drop}
-use Rattle.hickory_wire.specs.DomainName.{DomainName}
-use Rattle.hickory_wire.specs.NameOrder.{SameName, Encloses, name_cmp, lower_label, lower_labels}
+use Rattle.hickory_wire.specs.rr.domain.DomainName.{DomainName}
+use Rattle.hickory_wire.specs.rr.domain.NameOrder.{SameName, Encloses, name_cmp, lower_label, lower_labels}
 use Rattle.hickory_catalog.specs.Find.{MayAnswer, Finds}
 use Rattle.hickory_catalog.proofs.Lookups.{Found, HasNone, found_in, none_in}
 

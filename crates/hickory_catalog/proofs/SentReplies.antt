@@ -5,16 +5,16 @@ use Rattle.std.specs.Slice.Iter.{iter_steps, iter_rest}
 use Rattle.std.proofs.lemmas.Iterator.Adapters.{YieldsList-from_once}
 use Rattle.std.proofs.lemmas.Iterator.Consumers.{YieldsList-from_chain}
 use Rattle.std.proofs.lemmas.Iterator.{items_from_drains, YieldsList-from_slice}
-use Rattle.hickory_wire.specs.EdnsFields.{EdnsFields}
-use Rattle.hickory_wire.specs.Reply.{Reply}
-use Rattle.hickory_wire.specs.declared.header.Header.{Header}
-use Rattle.hickory_wire.specs.declared.header.Metadata.{Metadata}
-use Rattle.hickory_wire.specs.declared.rdata.RData.{RData}
-use Rattle.hickory_wire.specs.declared.record.Record.{Record}
-use Rattle.hickory_wire.specs.declared.tsig.TSIG.{TSIG}
-use Rattle.hickory_base.specs.Responses.{GivesBy, IsBuilt, IsReplyOf, ReplyBase}
-use Rattle.hickory_base.specs.Sinks.{AddsEntry}
-use Rattle.hickory_base.specs.declared.message_response.MessageResponse.{MessageResponse}
+use Rattle.hickory_wire.specs.op.EdnsFields.{EdnsFields}
+use Rattle.hickory_wire.specs.serialize.writing.Reply.{Reply}
+use Rattle.hickory_wire.specs.declared.op.header.Header.{Header}
+use Rattle.hickory_wire.specs.declared.op.header.Metadata.{Metadata}
+use Rattle.hickory_wire.specs.declared.rr.rdata.RData.{RData}
+use Rattle.hickory_wire.specs.declared.rr.record.Record.{Record}
+use Rattle.hickory_wire.specs.declared.rr.tsig.TSIG.{TSIG}
+use Rattle.hickory_base.specs.responses.Responses.{GivesBy, IsBuilt, IsReplyOf, ReplyBase}
+use Rattle.hickory_base.specs.responses.Sinks.{AddsEntry}
+use Rattle.hickory_base.specs.declared.responses.message_response.MessageResponse.{MessageResponse}
 use Rattle.hickory_catalog.specs.Sending.{AddsReply, IsFailed, IsTaken, failure_header}
 
 -- the iterator of a slice gives the slice

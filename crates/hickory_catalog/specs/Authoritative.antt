@@ -1,20 +1,20 @@
 -- Replies of a server that holds the zone, or a copy of it.
 use Rattle.std.specs.Prelude.{◌≡◌, ◌==◌, ◌&&◌, ◌||◌, not, ℕ, Bool, true, false, cond, List, [], ◌∷◌, ◌++◌, Option, Some, None, Result, Ok, Err}
 use Rattle.std.specs.Bool.{MatchBool}
-use Rattle.hickory_wire.specs.EdnsFields.{EdnsFields}
-use Rattle.hickory_wire.specs.Metadata.{response_to}
-use Rattle.hickory_wire.specs.RecordData.{type_of}
-use Rattle.hickory_wire.specs.Reply.{Reply}
-use Rattle.hickory_wire.specs.declared.header.Metadata.{Metadata}
-use Rattle.hickory_wire.specs.declared.query.Query.{Query}
-use Rattle.hickory_wire.specs.declared.rdata.RData.{RData}
-use Rattle.hickory_wire.specs.declared.record.Record.{Record}
+use Rattle.hickory_wire.specs.op.EdnsFields.{EdnsFields}
+use Rattle.hickory_wire.specs.op.Metadata.{response_to}
+use Rattle.hickory_wire.specs.rr.RecordData.{type_of}
+use Rattle.hickory_wire.specs.serialize.writing.Reply.{Reply}
+use Rattle.hickory_wire.specs.declared.op.header.Metadata.{Metadata}
+use Rattle.hickory_wire.specs.declared.op.query.Query.{Query}
+use Rattle.hickory_wire.specs.declared.rr.rdata.RData.{RData}
+use Rattle.hickory_wire.specs.declared.rr.record.Record.{Record}
 use Rattle.hickory_base.specs.Failures.{is_nx_domain}
-use Rattle.hickory_base.specs.Lookups.{Flow, answers_of, additionals_of}
-use Rattle.hickory_base.specs.Requests.{ReceivedRequest}
+use Rattle.hickory_base.specs.zone_store.Lookups.{Flow, answers_of, additionals_of}
+use Rattle.hickory_base.specs.requests.Requests.{ReceivedRequest}
 use Rattle.hickory_base.specs.declared.errors.LookupError.{LookupError}
 use Rattle.hickory_base.specs.declared.errors.LookupError.TheVariants.{ResponseCode}
-use Rattle.hickory_base.specs.declared.message_request.MessageRequest.{MessageRequest}
+use Rattle.hickory_base.specs.declared.requests.message_request.MessageRequest.{MessageRequest}
 use Rattle.hickory_base.specs.declared.zone_store.handler.ZoneHandler.{Ghosts}
 use Rattle.hickory_base.specs.declared.zone_store.lookup.AuthLookup.{AuthLookup}
 use Rattle.hickory_base.specs.declared.zone_store.lookup.LookupOptions.{LookupOptions}

@@ -1,14 +1,14 @@
 -- Which reply a query gets, and which cases are not implemented: there the reply is ServFail without EDNS.
 use Rattle.std.specs.Prelude.{◌≡◌, ◌==◌, ℕ, Bool, true, false, List, slice_get, Option, Some, None, Result, Ok, Err}
-use Rattle.hickory_wire.specs.DomainName.{DomainName}
-use Rattle.hickory_wire.specs.EdnsFields.{EdnsFields}
-use Rattle.hickory_wire.specs.NameOrder.{lower_name}
-use Rattle.hickory_wire.specs.Reply.{Reply}
-use Rattle.hickory_wire.specs.declared.query.Query.{Query}
-use Rattle.hickory_wire.specs.declared.tsig.TSigResponseContext.{TSigResponseContext}
-use Rattle.hickory_base.specs.Lookups.{Flow, asks_for_dnssec, result_of}
-use Rattle.hickory_base.specs.Questions.{one_query}
-use Rattle.hickory_base.specs.Requests.{ReceivedRequest, information}
+use Rattle.hickory_wire.specs.rr.domain.DomainName.{DomainName}
+use Rattle.hickory_wire.specs.op.EdnsFields.{EdnsFields}
+use Rattle.hickory_wire.specs.rr.domain.NameOrder.{lower_name}
+use Rattle.hickory_wire.specs.serialize.writing.Reply.{Reply}
+use Rattle.hickory_wire.specs.declared.op.query.Query.{Query}
+use Rattle.hickory_wire.specs.declared.rr.tsig.TSigResponseContext.{TSigResponseContext}
+use Rattle.hickory_base.specs.zone_store.Lookups.{Flow, asks_for_dnssec, result_of}
+use Rattle.hickory_base.specs.requests.Questions.{one_query}
+use Rattle.hickory_base.specs.requests.Requests.{ReceivedRequest, information}
 use Rattle.hickory_base.specs.declared.errors.LookupError.{LookupError}
 use Rattle.hickory_base.specs.declared.zone_store.handler.ZoneHandler.{Ghosts}
 use Rattle.hickory_base.specs.declared.zone_store.handler.ZoneType.{ZoneType}

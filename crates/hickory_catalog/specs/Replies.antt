@@ -1,12 +1,12 @@
 -- Replies by their parts.
 use Rattle.std.specs.Prelude.{ℕ, List, [], length, Option, None}
-use Rattle.hickory_wire.specs.EdnsFields.{EdnsFields}
-use Rattle.hickory_wire.specs.Reply.{Reply}
-use Rattle.hickory_wire.specs.declared.header.Metadata.{Metadata}
-use Rattle.hickory_wire.specs.declared.rdata.RData.{RData}
-use Rattle.hickory_wire.specs.declared.record.Record.{Record}
-use Rattle.hickory_base.specs.Responses.{error_metadata}
-use Rattle.hickory_base.specs.declared.message_request.MessageRequest.{MessageRequest}
+use Rattle.hickory_wire.specs.op.EdnsFields.{EdnsFields}
+use Rattle.hickory_wire.specs.serialize.writing.Reply.{Reply}
+use Rattle.hickory_wire.specs.declared.op.header.Metadata.{Metadata}
+use Rattle.hickory_wire.specs.declared.rr.rdata.RData.{RData}
+use Rattle.hickory_wire.specs.declared.rr.record.Record.{Record}
+use Rattle.hickory_base.specs.responses.Responses.{error_metadata}
+use Rattle.hickory_base.specs.declared.requests.message_request.MessageRequest.{MessageRequest}
 use Rattle.hickory_catalog.specs.ReplyEdns.{with_high_code}
 
 -- The reply to a request that repeats its questions, with this EDNS and the high bits of its response code, and has neither records nor a

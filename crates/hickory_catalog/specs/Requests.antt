@@ -1,12 +1,12 @@
 -- Which reply a request gets.
 use Rattle.std.specs.Prelude.{◌≡◌, ◌==◌, ◌⊎◌, ℕ, Bool, true, false, cond, List, Option, Some, None, is_some}
-use Rattle.hickory_wire.specs.DomainName.{DomainName}
-use Rattle.hickory_wire.specs.Reply.{Reply}
-use Rattle.hickory_wire.specs.declared.header.MessageType.{MessageType}
-use Rattle.hickory_wire.specs.declared.header.MessageType.TheVariants as message_type
-use Rattle.hickory_base.specs.Questions.{edns_version}
-use Rattle.hickory_base.specs.Requests.{ReceivedRequest}
-use Rattle.hickory_base.specs.declared.message_request.MessageRequest.{MessageRequest}
+use Rattle.hickory_wire.specs.rr.domain.DomainName.{DomainName}
+use Rattle.hickory_wire.specs.serialize.writing.Reply.{Reply}
+use Rattle.hickory_wire.specs.declared.op.header.MessageType.{MessageType}
+use Rattle.hickory_wire.specs.declared.op.header.MessageType.TheVariants as message_type
+use Rattle.hickory_base.specs.requests.Questions.{edns_version}
+use Rattle.hickory_base.specs.requests.Requests.{ReceivedRequest}
+use Rattle.hickory_base.specs.declared.requests.message_request.MessageRequest.{MessageRequest}
 use Rattle.hickory_base.specs.declared.zone_store.handler.ZoneHandler.{Ghosts}
 use Rattle.hickory_catalog.specs.Queries.{QueryReply}
 use Rattle.hickory_catalog.specs.Replies.{error_reply, unimplemented_reply}

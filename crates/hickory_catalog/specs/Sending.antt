@@ -1,10 +1,10 @@
 -- How one reply reaches a sink, and what the caller is told.
 use Rattle.std.specs.Prelude.{◌≡◌, ◌+◌, ◌%◌, ◌^◌, ◌⊎◌, ℕ, List, [], ◌∷◌, ◌++◌}
-use Rattle.hickory_wire.specs.Metadata.{bare_metadata}
-use Rattle.hickory_wire.specs.Reply.{Reply}
-use Rattle.hickory_wire.specs.declared.header.Header.{Header}
-use Rattle.hickory_wire.specs.declared.header.MessageType.TheVariants.{Response}
-use Rattle.hickory_wire.specs.declared.header.Metadata.{Metadata}
+use Rattle.hickory_wire.specs.op.Metadata.{bare_metadata}
+use Rattle.hickory_wire.specs.serialize.writing.Reply.{Reply}
+use Rattle.hickory_wire.specs.declared.op.header.Header.{Header}
+use Rattle.hickory_wire.specs.declared.op.header.MessageType.TheVariants.{Response}
+use Rattle.hickory_wire.specs.declared.op.header.Metadata.{Metadata}
 
 -- the sink has one more entry, and it is one of the reply
 abbrev pub AddsReply : {Entry : Type 0} → (Reply → Entry → Type 0) → List Entry → List Entry → Reply → Type 0

@@ -1,9 +1,9 @@
 //! Replies of a server that holds the zone, or a copy of it.
 
 ghost use Rattle.std.specs.Prelude.{◌≡◌, false, IfOk, IfErr, Ok, Err};
-ghost use Rattle.hickory_wire.specs.Reply.{Reply};
-ghost use Rattle.hickory_base.specs.Lookups.{Flow};
-ghost use Rattle.hickory_base.specs.Responses.{header_of};
+ghost use Rattle.hickory_wire.specs.serialize.writing.Reply.{Reply};
+ghost use Rattle.hickory_base.specs.zone_store.Lookups.{Flow};
+ghost use Rattle.hickory_base.specs.responses.Responses.{header_of};
 ghost use Rattle.hickory_catalog.specs.Authoritative.{AuthoritativeReply, BesideAnswer, additional_section, answer_section, authoritative_metadata, denial_section, is_referral, negative_code, negative_reply, positive_reply, referral_section, refusal_code};
 ghost use Rattle.hickory_catalog.specs.Replies.{bare_reply};
 ghost use Rattle.hickory_catalog.specs.Sending.{IsSent};

@@ -2,8 +2,8 @@
 
 ghost use Rattle.std.specs.Prelude.{◌≡◌, ◌↔◌, [], Some, None, IfOk, IfErr, OnErr, IsTrue, option_map};
 ghost use Rattle.std.specs.Option.{option_copied};
-ghost use Rattle.hickory_wire.specs.Reply.{Reply};
-ghost use Rattle.hickory_base.specs.Responses.{header_of};
+ghost use Rattle.hickory_wire.specs.serialize.writing.Reply.{Reply};
+ghost use Rattle.hickory_base.specs.responses.Responses.{header_of};
 ghost use Rattle.hickory_catalog.specs.Find.{Finds};
 ghost use Rattle.hickory_catalog.specs.Queries.{QueryReply};
 ghost use Rattle.hickory_catalog.specs.Requests.{BelongsTo, RequestReply};

@@ -1,8 +1,8 @@
 //! Asking and consulting the handlers of a zone.
 
 ghost use Rattle.std.specs.Prelude.{◌≡◌, ◌<◌, length, IsSome};
-ghost use Rattle.hickory_base.specs.Lookups.{result_of};
-ghost use Rattle.hickory_base.specs.Requests.{information_of};
+ghost use Rattle.hickory_base.specs.zone_store.Lookups.{result_of};
+ghost use Rattle.hickory_base.specs.requests.Requests.{information_of};
 ghost use Rattle.hickory_catalog.specs.Transcripts.{Asked, ChainAnswers, Consulted, IsAnswer, is_memory, options_of, wants_memory};
 
 use hickory_base::errors::LookupError;

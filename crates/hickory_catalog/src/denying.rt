@@ -2,7 +2,7 @@
 
 ghost use Rattle.std.specs.Prelude.{◌≡◌, false, IfErr, OnOk};
 ghost use Rattle.std.specs.Option.{option_copied};
-ghost use Rattle.hickory_base.specs.Lookups.{answers_of};
+ghost use Rattle.hickory_base.specs.zone_store.Lookups.{answers_of};
 ghost use Rattle.hickory_catalog.specs.Denying.{DenialBesideAnswer, DenialGiven, DenialOfNegative, is_expanded, is_wildcard_match, needs_denial, records_given, signed_labels};
 ghost use Rattle.hickory_catalog.specs.Transcripts.{wants_memory};
 

@@ -2,8 +2,8 @@
 
 ghost use Rattle.std.specs.Prelude.{◌≡◌, filter, option_to_list};
 ghost use Rattle.std.specs.List.{list_all, list_any};
-ghost use Rattle.hickory_base.specs.Lookups.{asks_for_dnssec};
-ghost use Rattle.hickory_base.specs.Responses.{header_of};
+ghost use Rattle.hickory_base.specs.zone_store.Lookups.{asks_for_dnssec};
+ghost use Rattle.hickory_base.specs.responses.Responses.{header_of};
 ghost use Rattle.hickory_catalog.specs.Forwarded.{code_alone, findings_of, findings_reply, forwarded_code, forwarded_metadata, forwarded_reply, has_name, is_authentic, is_bogus, is_bogus_proof, is_dnssec_bogus, is_dnssec_type, is_named, is_no_soa, is_passed_on, is_secure, is_secure_proof, nothing_found, passed_on, records_found, validated, without_bogus};
 ghost use Rattle.hickory_catalog.specs.Sending.{IsSent};
 

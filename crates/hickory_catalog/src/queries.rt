@@ -2,9 +2,9 @@
 
 ghost use Rattle.std.specs.Prelude.{◌≡◌, ◌<◌, length, IfOk, IfErr};
 ghost use Rattle.std.specs.Option.{option_copied};
-ghost use Rattle.hickory_wire.specs.Reply.{Reply};
-ghost use Rattle.hickory_base.specs.Requests.{information, information_of};
-ghost use Rattle.hickory_base.specs.Responses.{header_of};
+ghost use Rattle.hickory_wire.specs.serialize.writing.Reply.{Reply};
+ghost use Rattle.hickory_base.specs.requests.Requests.{information, information_of};
+ghost use Rattle.hickory_base.specs.responses.Responses.{header_of};
 ghost use Rattle.hickory_catalog.specs.Queries.{HandlerReply, QueryReply, ResultReply, ZoneReply, is_out_of_memory};
 ghost use Rattle.hickory_catalog.specs.Sending.{IsSent};
 

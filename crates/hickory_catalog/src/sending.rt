@@ -2,8 +2,8 @@
 
 ghost use Rattle.std.specs.Prelude.{◌≡◌, ◌++◌, []};
 ghost use Rattle.std.specs.Iterator.{IsFinite};
-ghost use Rattle.hickory_wire.specs.Reply.{Reply};
-ghost use Rattle.hickory_base.specs.Responses.{GivesBy, IsReplyOf, header_of};
+ghost use Rattle.hickory_wire.specs.serialize.writing.Reply.{Reply};
+ghost use Rattle.hickory_base.specs.responses.Responses.{GivesBy, IsReplyOf, header_of};
 ghost use Rattle.hickory_catalog.specs.Replies.{error_reply, reply_of_sections, unimplemented_reply};
 ghost use Rattle.hickory_catalog.specs.Sending.{IsSent, failure_header};
 

@@ -21,8 +21,8 @@ pub struct Zones<H> {
 impl<H> Model for Zones<H> {
     ghost use Rattle.std.specs.Prelude.{List, map};
     ghost use Rattle.std.specs.BTreeMap.{IsOrdered};
-    ghost use Rattle.hickory_wire.specs.DomainName.{DomainName};
-    ghost use Rattle.hickory_wire.specs.NameOrder.{name_cmp};
+    ghost use Rattle.hickory_wire.specs.rr.domain.DomainName.{DomainName};
+    ghost use Rattle.hickory_wire.specs.rr.domain.NameOrder.{name_cmp};
 
     ghost Value = { List (DomainName × List H) };
 

@@ -4,13 +4,13 @@ use Rattle.std.specs.Prelude.{◌==◌, is_some}
 use Rattle.std.specs.List.{list_any}
 use Rattle.std.specs.Ordering.{is_eq}
 use Rattle.std.proofs.lemmas.List.Elements.{filter_agree}
-use Rattle.hickory_wire.specs.DomainName.{DomainName}
-use Rattle.hickory_wire.specs.NameOrder.{lower_name, SameName}
-use Rattle.hickory_wire.specs.RecordData.{type_of}
-use Rattle.hickory_wire.specs.declared.rdata.RData.{RData}
-use Rattle.hickory_wire.specs.declared.record.Record.{Record}
-use Rattle.hickory_wire.proofs.SameNames.{lower_same, same_order}
-use Rattle.hickory_base.specs.ZoneRecords.{existing, is_at, is_of, rrset}
+use Rattle.hickory_wire.specs.rr.domain.DomainName.{DomainName}
+use Rattle.hickory_wire.specs.rr.domain.NameOrder.{lower_name, SameName}
+use Rattle.hickory_wire.specs.rr.RecordData.{type_of}
+use Rattle.hickory_wire.specs.declared.rr.rdata.RData.{RData}
+use Rattle.hickory_wire.specs.declared.rr.record.Record.{Record}
+use Rattle.hickory_wire.proofs.lemmas.rr.domain.SameNames.{lower_same, same_order}
+use Rattle.hickory_base.specs.zone_store.ZoneRecords.{existing, is_at, is_of, rrset}
 
 itself : (name : DomainName) → SameName name name
 itself name = record { labels = refl; marks = refl }

@@ -1,6 +1,6 @@
 -- What a handler ends as, where a `&mut` to its zone in memory is lent.
 use Rattle.std.specs.Borrow.{Lends, Fml, RattleType, MutBor}
-use Rattle.hickory_base.specs.ZoneAnswers.{MemoryZone}
+use Rattle.hickory_base.specs.zone_store.ZoneAnswers.{MemoryZone}
 use Rattle.hickory_base.specs.contracts.zone_store.in_memory.InMemoryZoneHandler.{the_row as zone_row}
 use Rattle.hickory_store.specs.UpdatableZone.{UpdatableZone}
 use Rattle.hickory_store.specs.declared.sqlite.verifier.Verifier.{Ghosts}

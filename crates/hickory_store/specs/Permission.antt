@@ -1,13 +1,13 @@
 -- Who may update a zone or have a transfer of it, by a transaction signature (RFC 2136 section 3.3, RFC 8945 section 5.2).
 use Rattle.std.specs.Prelude.{◌≡◌, ◌&&◌, ℕ, Bool, cond, nat_le, nat_lt, List, Option, Some, None, Result, Ok, Err}
 use Rattle.std.specs.declared.ops.Range.{Range}
-use Rattle.hickory_wire.specs.declared.record.Record.{Record}
-use Rattle.hickory_wire.specs.declared.tsig.TSIG.{TSIG}
-use Rattle.hickory_wire.specs.declared.tsig.TSigResponseContext.{TSigResponseContext}
-use Rattle.hickory_wire.specs.declared.tsig.TSigResponseKind.{TSigResponseKind}
-use Rattle.hickory_wire.specs.declared.tsig.TSigResponseKind.TheVariants.{UnknownKey, BadSignature, Known}
-use Rattle.hickory_wire.specs.declared.tsig.TsigError.TheVariants.{BadTime}
-use Rattle.hickory_base.specs.Requests.{ReceivedRequest}
+use Rattle.hickory_wire.specs.declared.rr.record.Record.{Record}
+use Rattle.hickory_wire.specs.declared.rr.tsig.TSIG.{TSIG}
+use Rattle.hickory_wire.specs.declared.rr.tsig.TSigResponseContext.{TSigResponseContext}
+use Rattle.hickory_wire.specs.declared.rr.tsig.TSigResponseKind.{TSigResponseKind}
+use Rattle.hickory_wire.specs.declared.rr.tsig.TSigResponseKind.TheVariants.{UnknownKey, BadSignature, Known}
+use Rattle.hickory_wire.specs.declared.rr.tsig.TsigError.TheVariants.{BadTime}
+use Rattle.hickory_base.specs.requests.Requests.{ReceivedRequest}
 use Rattle.hickory_base.specs.declared.errors.UpdateFault.{UpdateFault}
 use Rattle.hickory_base.specs.declared.errors.UpdateFault.TheVariants.{Code, Memory}
 use Rattle.hickory_base.specs.declared.zone_store.handler.AxfrPolicy.{AxfrPolicy}

@@ -1,11 +1,11 @@
 -- What a zone that takes updates answers, where the zone in memory does not answer for it.
 use Rattle.std.specs.Prelude.{◌≡◌, ◌==◌, ◌⊎◌, ℕ, Bool, true, false, Option, Some, None, Result, Ok, Err}
-use Rattle.hickory_wire.specs.declared.query.Query.{Query}
-use Rattle.hickory_wire.specs.declared.tsig.TSigResponseContext.{TSigResponseContext}
-use Rattle.hickory_base.specs.Lookups.{Flow}
-use Rattle.hickory_base.specs.Questions.{one_query}
-use Rattle.hickory_base.specs.Requests.{ReceivedRequest}
-use Rattle.hickory_base.specs.ZoneAnswers.{MemoryZone, Searched, whole_zone, zone_soa}
+use Rattle.hickory_wire.specs.declared.op.query.Query.{Query}
+use Rattle.hickory_wire.specs.declared.rr.tsig.TSigResponseContext.{TSigResponseContext}
+use Rattle.hickory_base.specs.zone_store.Lookups.{Flow}
+use Rattle.hickory_base.specs.requests.Questions.{one_query}
+use Rattle.hickory_base.specs.requests.Requests.{ReceivedRequest}
+use Rattle.hickory_base.specs.zone_store.ZoneAnswers.{MemoryZone, Searched, whole_zone, zone_soa}
 use Rattle.hickory_base.specs.declared.errors.DnsError.TheVariants.{Other}
 use Rattle.hickory_base.specs.declared.errors.LookupError.{LookupError}
 use Rattle.hickory_base.specs.declared.errors.LookupError.TheVariants.{Net, ResponseCode, Memory}

@@ -1,6 +1,6 @@
 -- A zone that takes updates: its records, who may have them, and who may change them.
 use Rattle.std.specs.Prelude.{Bool}
-use Rattle.hickory_base.specs.ZoneAnswers.{MemoryZone}
+use Rattle.hickory_base.specs.zone_store.ZoneAnswers.{MemoryZone}
 use Rattle.hickory_base.specs.declared.zone_store.handler.AxfrPolicy.{AxfrPolicy}
 
 pub record UpdatableZone (V : Type 0) : Type 0 where

@@ -2,10 +2,10 @@
 
 ghost use Rattle.std.specs.Prelude.{◌≡◌, ◌∷◌, []};
 
-use crate::dns_class::DNSClass;
-use crate::op_code::OpCode;
-use crate::record_type::RecordType;
-use crate::response_code::ResponseCode;
+use crate::op::op_code::OpCode;
+use crate::op::response_code::ResponseCode;
+use crate::rr::dns_class::DNSClass;
+use crate::rr::record_type::RecordType;
 
 /// The types that have names, as IANA's registry has them (RFC 6895 section 3.1): those of RFC 1035 sections 3.2.2 and
 /// 3.2.3, RFC 2535, RFC 3596, RFC 6891, RFC 4034, RFC 5155, RFC 7344, RFC 8945 and RFC 1995.

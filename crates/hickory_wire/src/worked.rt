@@ -4,30 +4,30 @@
 #![tactic(auto, unfolding(crate::specs::NameReading::name, crate::specs::NameReading::labels_from, crate::specs::NameReading::labels_within, crate::specs::RecordReading::question, crate::specs::RecordReading::resource, crate::specs::RecordReading::record_data, crate::specs::RecordReading::form, crate::specs::RecordReading::mx, crate::specs::RecordReading::soa, crate::specs::RecordReading::string, crate::specs::RecordReading::strings_until, crate::specs::RecordReading::strings_within, crate::specs::RecordReading::options_of, crate::specs::RecordReading::options_within, crate::specs::RecordReading::tsig, crate::specs::RecordReading::counted_octets, crate::specs::SectionReading::header, crate::specs::SectionReading::items, crate::specs::SectionReading::section_record, crate::specs::SectionReading::add_record, crate::specs::SectionReading::additionals_after, crate::specs::MessageReading::message))]
 
 ghost use Rattle.std.specs.Prelude.{◌≡◌, ◌∷◌, [], ◌++◌, ℕ, codes, replicate, Err, None, Some};
-ghost use Rattle.hickory_wire.specs.Decoding.{IsDecodable, decoded_message};
-ghost use Rattle.hickory_wire.specs.DomainName.{DomainName};
-ghost use Rattle.hickory_wire.specs.HeaderLayout.{HeaderAt, header_octets};
-ghost use Rattle.hickory_wire.specs.MessageLayout.{MessageAt};
-ghost use Rattle.hickory_wire.specs.MessageReading.{message, Fault, Reads};
-ghost use Rattle.hickory_wire.specs.NameLayout.{NameAt, NameFault};
-ghost use Rattle.hickory_wire.specs.NameReading.{name};
-ghost use Rattle.hickory_wire.specs.QuestionLayout.{QuestionAt};
-ghost use Rattle.hickory_wire.specs.RecordLayout.{RecordAt};
-ghost use Rattle.hickory_wire.specs.RecordReading.{resource};
-ghost use Rattle.hickory_wire.specs.Reply.{opt_record, size_limit};
-ghost use Rattle.hickory_wire.specs.SectionReading.{header, section_record, add_record, additionals_after, no_additionals};
-ghost use Rattle.hickory_wire.specs.Worked.{ReadsAs, MeetsFault, root, www_name, record_of, com_name, a_com_name, b_a_com_name};
-ghost use Rattle.hickory_wire.specs.Worked.{pointers_in_a_circle, pointer_to_itself, pointer_to_its_labels, pointer_ahead, pointer_to_later_name, pointer_into_header, name_from_header, reserved_code_01, reserved_code_10, longest_name_bytes, longest_name, too_long_name, label_missing, label_cut, end_missing, pointer_cut, names_by_pointers};
-ghost use Rattle.hickory_wire.specs.Worked.{a_record, address, a_record_of_five, a_record_cut, a_record_empty, aaaa_record, long_address, ns_record, cname_record_with_more, exchange, mx_record, soa_record, soa, txt_record, txt_record_with_more, null_record, unknown_record, opt_version_one, opt_malformed, opt_with_nsid, nsid, tsig_empty, tsig_zeros, zero_signature, tsig_bad_time, bad_time, signature_record, sig_empty};
-ghost use Rattle.hickory_wire.specs.Worked.{header_with, with_counts, response, refused, authoritative, refused_update, truncated, status, recursion_available, authentic_data, checking_disabled, no_flags};
-ghost use Rattle.hickory_wire.specs.Worked.{saying, with_sig, opt_every_field, every_field, opt_record_at_root, opt_record_at_a, with_edns, with_signature, two_opts};
-ghost use Rattle.hickory_wire.specs.Worked.{www_query, www_question, asking, www_message, chaos_query, chaos_question, chaos_message, query_version_one, version_one_message, message_of_two_opts, bad_version, bad_version_message, empty_message};
-ghost use Rattle.hickory_wire.specs.WorkedLists.{additions_left_out, five_lists, five_lists_cut, five_lists_in_full, five_lists_truncated, five_lists_whole, formless_and_large};
-ghost use Rattle.hickory_wire.specs.WorkedReplies.{www_reply, www_reply_in_full, www_reply_compressed, www_reply_cut, serv_fail, one_answer, answer_left_out, opt_alone, signature_alone, dnssec_ok_reply, dnssec_ok_bytes, bad_version_reply, bad_version_bytes, signed_reply, signed_bytes, long_reply, one_of_three, long_reply_cut, hundred_answers, sixteen_of_hundred, sixteen_answers, formless_reply};
-ghost use Rattle.hickory_wire.specs.Writing.{Written, Encoded, written_header, fallback_header};
+ghost use Rattle.hickory_wire.specs.serialize.writing.Decoding.{IsDecodable, decoded_message};
+ghost use Rattle.hickory_wire.specs.rr.domain.DomainName.{DomainName};
+ghost use Rattle.hickory_wire.specs.serialize.layout.HeaderLayout.{HeaderAt, header_octets};
+ghost use Rattle.hickory_wire.specs.serialize.layout.MessageLayout.{MessageAt};
+ghost use Rattle.hickory_wire.specs.serialize.reading.MessageReading.{message, Fault, Reads};
+ghost use Rattle.hickory_wire.specs.serialize.layout.NameLayout.{NameAt, NameFault};
+ghost use Rattle.hickory_wire.specs.serialize.reading.NameReading.{name};
+ghost use Rattle.hickory_wire.specs.serialize.layout.QuestionLayout.{QuestionAt};
+ghost use Rattle.hickory_wire.specs.serialize.layout.RecordLayout.{RecordAt};
+ghost use Rattle.hickory_wire.specs.serialize.reading.RecordReading.{resource};
+ghost use Rattle.hickory_wire.specs.serialize.writing.Reply.{opt_record, size_limit};
+ghost use Rattle.hickory_wire.specs.serialize.reading.SectionReading.{header, section_record, add_record, additionals_after, no_additionals};
+ghost use Rattle.hickory_wire.specs.worked.Worked.{ReadsAs, MeetsFault, root, www_name, record_of, com_name, a_com_name, b_a_com_name};
+ghost use Rattle.hickory_wire.specs.worked.Worked.{pointers_in_a_circle, pointer_to_itself, pointer_to_its_labels, pointer_ahead, pointer_to_later_name, pointer_into_header, name_from_header, reserved_code_01, reserved_code_10, longest_name_bytes, longest_name, too_long_name, label_missing, label_cut, end_missing, pointer_cut, names_by_pointers};
+ghost use Rattle.hickory_wire.specs.worked.Worked.{a_record, address, a_record_of_five, a_record_cut, a_record_empty, aaaa_record, long_address, ns_record, cname_record_with_more, exchange, mx_record, soa_record, soa, txt_record, txt_record_with_more, null_record, unknown_record, opt_version_one, opt_malformed, opt_with_nsid, nsid, tsig_empty, tsig_zeros, zero_signature, tsig_bad_time, bad_time, signature_record, sig_empty};
+ghost use Rattle.hickory_wire.specs.worked.Worked.{header_with, with_counts, response, refused, authoritative, refused_update, truncated, status, recursion_available, authentic_data, checking_disabled, no_flags};
+ghost use Rattle.hickory_wire.specs.worked.Worked.{saying, with_sig, opt_every_field, every_field, opt_record_at_root, opt_record_at_a, with_edns, with_signature, two_opts};
+ghost use Rattle.hickory_wire.specs.worked.Worked.{www_query, www_question, asking, www_message, chaos_query, chaos_question, chaos_message, query_version_one, version_one_message, message_of_two_opts, bad_version, bad_version_message, empty_message};
+ghost use Rattle.hickory_wire.specs.worked.WorkedLists.{additions_left_out, five_lists, five_lists_cut, five_lists_in_full, five_lists_truncated, five_lists_whole, formless_and_large};
+ghost use Rattle.hickory_wire.specs.worked.WorkedReplies.{www_reply, www_reply_in_full, www_reply_compressed, www_reply_cut, serv_fail, one_answer, answer_left_out, opt_alone, signature_alone, dnssec_ok_reply, dnssec_ok_bytes, bad_version_reply, bad_version_bytes, signed_reply, signed_bytes, long_reply, one_of_three, long_reply_cut, hundred_answers, sixteen_of_hundred, sixteen_answers, formless_reply};
+ghost use Rattle.hickory_wire.specs.serialize.writing.Writing.{Written, Encoded, written_header, fallback_header};
 ghost use Rattle.hickory_wire.specs.declared.error.DecodeError.TheVariants as decode_error;
 ghost use Rattle.hickory_wire.specs.declared.protocol.Protocol.TheVariants as protocol;
-ghost use Rattle.hickory_wire.specs.declared.rdata.RData.TheVariants as rdata;
+ghost use Rattle.hickory_wire.specs.declared.rr.rdata.RData.TheVariants as rdata;
 
 /// What names are read as.
 pub fn worked_names()

@@ -1,8 +1,8 @@
 -- What the last entry of a sink shows that had none.
 use Rattle.std.proofs.Common.{◌≡◌, ◌⊎◌, inl, inr, ℕ, List, [], ◌∷◌, ◌++◌, ◌∙◌, sym, subst}
-use Rattle.hickory_wire.specs.Reply.{Reply}
-use Rattle.hickory_wire.specs.declared.header.Header.{Header}
-use Rattle.hickory_wire.specs.declared.header.Metadata.{Metadata}
+use Rattle.hickory_wire.specs.serialize.writing.Reply.{Reply}
+use Rattle.hickory_wire.specs.declared.op.header.Header.{Header}
+use Rattle.hickory_wire.specs.declared.op.header.Metadata.{Metadata}
 use Rattle.hickory_catalog.specs.Sending.{AddsReply, IsFailed, IsTaken}
 
 -- one entry is the last

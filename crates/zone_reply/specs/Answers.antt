@@ -5,16 +5,16 @@ use Rattle.std.specs.Io.BufRead.{first_piece}
 use Rattle.std.specs.declared.net.SocketAddr.{SocketAddr}
 use Rattle.std.specs.declared.net.SocketAddr.TheVariants.{V4}
 use Rattle.hex.specs.Hex.{decode_of, encode_lower}
-use Rattle.hickory_wire.specs.DomainName.{DomainName}
-use Rattle.hickory_wire.specs.MessageReading.{Reads}
-use Rattle.hickory_wire.specs.Reply.{Reply}
+use Rattle.hickory_wire.specs.rr.domain.DomainName.{DomainName}
+use Rattle.hickory_wire.specs.serialize.reading.MessageReading.{Reads}
+use Rattle.hickory_wire.specs.serialize.writing.Reply.{Reply}
 use Rattle.hickory_wire.specs.declared.error.ProtoError.{ProtoError}
 use Rattle.hickory_wire.specs.declared.protocol.Protocol.{Protocol}
-use Rattle.hickory_base.specs.RequestReading.{IsFaultOf, IsQuestionSection, message_of}
-use Rattle.hickory_base.specs.Requests.{ReceivedRequest}
+use Rattle.hickory_base.specs.requests.RequestReading.{IsFaultOf, IsQuestionSection, message_of}
+use Rattle.hickory_base.specs.requests.Requests.{ReceivedRequest}
 use Rattle.hickory_base.specs.declared.zone_store.handler.ZoneHandler.{Ghosts}
 use Rattle.hickory_catalog.specs.Requests.{RequestReply}
-use Rattle.hickory_base.specs.EncodingSinks.{IsEncodingOf}
+use Rattle.hickory_base.specs.responses.EncodingSinks.{IsEncodingOf}
 use Rattle.zone_reply.specs.Command.{transport_of, refusal_line, refusal_status}
 use Rattle.zone_reply.specs.declared.command.Refusal.{Refusal}
 use Rattle.zone_reply.specs.declared.command.Refusal.TheVariants.{Usage, NotHex, Unreadable, Memory}

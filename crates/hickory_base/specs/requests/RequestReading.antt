@@ -1,19 +1,19 @@
 -- Requests as they are read (RFC 1035 section 4.1).
 use Rattle.std.specs.Prelude.{◌≡◌, ◌≢◌, ℕ, List, [], Ok, slice_range}
-use Rattle.hickory_wire.specs.Cursor.{Cursor}
-use Rattle.hickory_wire.specs.MessageLayout.{ItemsAt, QuestionRead}
-use Rattle.hickory_wire.specs.MessageReading.{Fault}
-use Rattle.hickory_wire.specs.Reading.{Read, ◌>>=◌}
-use Rattle.hickory_wire.specs.RecordReading.{question}
-use Rattle.hickory_wire.specs.SectionReading.{header, items}
+use Rattle.hickory_wire.specs.serialize.reading.Cursor.{Cursor}
+use Rattle.hickory_wire.specs.serialize.layout.MessageLayout.{ItemsAt, QuestionRead}
+use Rattle.hickory_wire.specs.serialize.reading.MessageReading.{Fault}
+use Rattle.hickory_wire.specs.serialize.reading.Reading.{Read, ◌>>=◌}
+use Rattle.hickory_wire.specs.serialize.reading.RecordReading.{question}
+use Rattle.hickory_wire.specs.serialize.reading.SectionReading.{header, items}
 use Rattle.hickory_wire.specs.declared.error.DecodeError.{DecodeError}
 use Rattle.hickory_wire.specs.declared.error.DecodeError.TheVariants.{Memory}
 use Rattle.hickory_wire.specs.declared.error.ProtoError.{ProtoError}
 use Rattle.hickory_wire.specs.declared.error.ProtoError.TheVariants.{Decode}
-use Rattle.hickory_wire.specs.declared.header.Header.{Header}
-use Rattle.hickory_wire.specs.declared.message.Message.{Message}
-use Rattle.hickory_base.specs.Questions.{QuestionSection}
-use Rattle.hickory_base.specs.declared.message_request.MessageRequest.{MessageRequest}
+use Rattle.hickory_wire.specs.declared.op.header.Header.{Header}
+use Rattle.hickory_wire.specs.declared.op.message.Message.{Message}
+use Rattle.hickory_base.specs.requests.Questions.{QuestionSection}
+use Rattle.hickory_base.specs.declared.requests.message_request.MessageRequest.{MessageRequest}
 
 -- so many questions, and the bytes from the first of them to the place behind the last
 unfoldable pub question_section : ℕ → Cursor → Read QuestionSection

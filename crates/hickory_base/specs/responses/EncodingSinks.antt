@@ -1,8 +1,8 @@
 -- A sink that keeps replies as the bytes that are sent over one transport.
 use Rattle.std.specs.Prelude.{ℕ, List}
-use Rattle.hickory_wire.specs.Reply.{Reply, size_limit}
-use Rattle.hickory_wire.specs.ReplyParts.{ReplyEncoded}
-use Rattle.hickory_wire.specs.declared.header.Header.{Header}
+use Rattle.hickory_wire.specs.serialize.writing.Reply.{Reply, size_limit}
+use Rattle.hickory_wire.specs.serialize.writing.ReplyParts.{ReplyEncoded}
+use Rattle.hickory_wire.specs.declared.op.header.Header.{Header}
 use Rattle.hickory_wire.specs.declared.protocol.Protocol.{Protocol}
 
 -- what the sink has: its transport, the bytes of each reply in the order in which they came, and how often it failed

@@ -5,17 +5,17 @@ use Rattle.std.specs.Iterator.{Drains}
 use Rattle.std.specs.Iterator.Adapters.{once_item}
 use Rattle.std.specs.Option.{option_copied}
 use Rattle.std.specs.declared.iter.Once.{Once}
-use Rattle.hickory_wire.specs.EdnsFields.{EdnsFields}
-use Rattle.hickory_wire.specs.Metadata.{response_to}
-use Rattle.hickory_wire.specs.Reply.{Reply}
-use Rattle.hickory_wire.specs.declared.header.Header.{Header}
-use Rattle.hickory_wire.specs.declared.header.Metadata.{Metadata}
-use Rattle.hickory_wire.specs.declared.rdata.RData.{RData}
-use Rattle.hickory_wire.specs.declared.record.Record.{Record}
-use Rattle.hickory_base.specs.Questions.{QuestionSection}
-use Rattle.hickory_base.specs.declared.message_response.MessageResponse.{MessageResponse}
-use Rattle.hickory_base.specs.declared.message_response.MessageResponseBuilder.{MessageResponseBuilder}
-use Rattle.hickory_base.specs.declared.message_response.ResponseInfo.{ResponseInfo}
+use Rattle.hickory_wire.specs.op.EdnsFields.{EdnsFields}
+use Rattle.hickory_wire.specs.op.Metadata.{response_to}
+use Rattle.hickory_wire.specs.serialize.writing.Reply.{Reply}
+use Rattle.hickory_wire.specs.declared.op.header.Header.{Header}
+use Rattle.hickory_wire.specs.declared.op.header.Metadata.{Metadata}
+use Rattle.hickory_wire.specs.declared.rr.rdata.RData.{RData}
+use Rattle.hickory_wire.specs.declared.rr.record.Record.{Record}
+use Rattle.hickory_base.specs.requests.Questions.{QuestionSection}
+use Rattle.hickory_base.specs.declared.responses.message_response.MessageResponse.{MessageResponse}
+use Rattle.hickory_base.specs.declared.responses.message_response.MessageResponseBuilder.{MessageResponseBuilder}
+use Rattle.hickory_base.specs.declared.responses.message_response.ResponseInfo.{ResponseInfo}
 
 -- the header that the information tells
 abbrev pub header_of : ResponseInfo → Header

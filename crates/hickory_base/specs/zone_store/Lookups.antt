@@ -1,8 +1,8 @@
 -- What is asked of a zone, and what it answers.
 use Rattle.std.specs.Prelude.{Bool, true, false, List, [], Option, Some, None, Result}
-use Rattle.hickory_wire.specs.EdnsFields.{EdnsFields}
-use Rattle.hickory_wire.specs.declared.rdata.RData.{RData}
-use Rattle.hickory_wire.specs.declared.record.Record.{Record}
+use Rattle.hickory_wire.specs.op.EdnsFields.{EdnsFields}
+use Rattle.hickory_wire.specs.declared.rr.rdata.RData.{RData}
+use Rattle.hickory_wire.specs.declared.rr.record.Record.{Record}
 use Rattle.hickory_base.specs.declared.errors.LookupError.{LookupError}
 use Rattle.hickory_base.specs.declared.zone_store.lookup.AuthLookup.{AuthLookup}
 use Rattle.hickory_base.specs.declared.zone_store.lookup.AuthLookup.TheVariants.{Empty, Resolved, Records}

@@ -3,7 +3,7 @@
 ghost use Rattle.std.specs.Prelude.{◌≡◌, ◌==◌, ◌≤◌, length, max, IfOk, IfErr};
 ghost use Rattle.std.specs.Cmp.Lexicographic.{pointwise};
 ghost use Rattle.std.specs.Cmp.{partial_equiv_from_equiv};
-ghost use Rattle.hickory_base.specs.Questions.{QuestionSection, one_query, payload_limit, edns_version, query_eq, section_eq, section_eq_equiv};
+ghost use Rattle.hickory_base.specs.requests.Questions.{QuestionSection, one_query, payload_limit, edns_version, query_eq, section_eq, section_eq_equiv};
 
 use crate::errors::LookupError;
 use hickory_wire::{Boxed, Edns, Items, LowerQuery, Metadata, Octets, Record, TSIG};
@@ -18,7 +18,7 @@ pub struct Queries {
 
 impl Model for Queries {
     ghost use Rattle.std.specs.Prelude.{◌≤◌, length};
-    ghost use Rattle.hickory_base.specs.Questions.{QuestionSection};
+    ghost use Rattle.hickory_base.specs.requests.Questions.{QuestionSection};
 
     ghost Value = { QuestionSection };
 

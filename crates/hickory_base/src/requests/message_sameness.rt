@@ -1,10 +1,10 @@
 //! The law of the comparison of requests, as the contract of a function with nothing to do.
 
 ghost use Rattle.std.specs.Prelude.{◌≡◌};
-ghost use Rattle.hickory_base.specs.MessageSameness.{message_eq};
-ghost use Rattle.hickory_base.specs.declared.message_request.MessageRequest.{MessageRequest as RequestMessage};
+ghost use Rattle.hickory_base.specs.requests.MessageSameness.{message_eq};
+ghost use Rattle.hickory_base.specs.declared.requests.message_request.MessageRequest.{MessageRequest as RequestMessage};
 
-use crate::message_request::MessageRequest;
+use crate::requests::message_request::MessageRequest;
 use hickory_wire::{Metadata, Record, TSIG};
 
 /// `==` on messages compares their fields: records as records compare, by neither TTL nor proof, names in any letter case,

@@ -1,13 +1,13 @@
 //! Requests in bytes (RFC 1035 section 4.1).
 
 ghost use Rattle.std.specs.Prelude.{◌≡◌, ◌≢◌, ◌↔◌, ◌+◌, ◌<◌, [], length, IfOk, IfErr, OnErr};
-ghost use Rattle.hickory_base.specs.RequestForm.{questions_form, written_form};
-ghost use Rattle.hickory_wire.specs.Encoder.{IsSameVector, max_size, written_bytes};
-ghost use Rattle.hickory_wire.specs.ReplyParts.{Refused, ReplyWritten};
-ghost use Rattle.hickory_wire.specs.declared.header.Header.{Header as MessageHeader};
+ghost use Rattle.hickory_base.specs.requests.RequestForm.{questions_form, written_form};
+ghost use Rattle.hickory_wire.specs.serialize.writing.Encoder.{IsSameVector, max_size, written_bytes};
+ghost use Rattle.hickory_wire.specs.serialize.writing.ReplyParts.{Refused, ReplyWritten};
+ghost use Rattle.hickory_wire.specs.declared.op.header.Header.{Header as MessageHeader};
 
-use crate::message_request::MessageRequest;
-use crate::message_response::borrowed;
+use crate::requests::message_request::MessageRequest;
+use crate::responses::message_response::borrowed;
 use crate::server::Request;
 use hickory_wire::{
     BinEncoder, Edns, Header, LowerQuery, Octets, ProtoError, Protocol, Record, ReplyParts,

@@ -1,16 +1,16 @@
 //! Reading requests (RFC 1035 section 4.1).
 
 ghost use Rattle.std.specs.Prelude.{◌≡◌, ◌≢◌, ◌<◌, ◌≤◌, [], length, IfOk, IfErr, MatchResult, OnOk};
-ghost use Rattle.hickory_base.specs.RequestReading.{FollowsHeader, IsFaultOf, IsQuestionSection, message_of, question_section};
-ghost use Rattle.hickory_wire.specs.MessageReading.{Fault, Reads, high_code, message, with_high_code};
-ghost use Rattle.hickory_wire.specs.Reading.{Gives};
-ghost use Rattle.hickory_wire.specs.RecordReading.{question};
-ghost use Rattle.hickory_wire.specs.SectionReading.{items};
+ghost use Rattle.hickory_base.specs.requests.RequestReading.{FollowsHeader, IsFaultOf, IsQuestionSection, message_of, question_section};
+ghost use Rattle.hickory_wire.specs.serialize.reading.MessageReading.{Fault, Reads, high_code, message, with_high_code};
+ghost use Rattle.hickory_wire.specs.serialize.reading.Reading.{Gives};
+ghost use Rattle.hickory_wire.specs.serialize.reading.RecordReading.{question};
+ghost use Rattle.hickory_wire.specs.serialize.reading.SectionReading.{items};
 ghost use Rattle.hickory_wire.specs.declared.error.DecodeError.{DecodeError};
 ghost use Rattle.hickory_wire.specs.declared.error.DecodeError.TheVariants as decode_error;
-ghost use Rattle.hickory_wire.specs.declared.message.Message.{Message};
+ghost use Rattle.hickory_wire.specs.declared.op.message.Message.{Message};
 
-use crate::message_request::{MessageRequest, Queries};
+use crate::requests::message_request::{MessageRequest, Queries};
 use crate::server::Request;
 use hickory_wire::{
     BinDecoder, DecodeError, Edns, Items, LowerQuery, Metadata, Octets, ProtoError, Protocol,

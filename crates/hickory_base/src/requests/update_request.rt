@@ -3,16 +3,16 @@
 ghost use Rattle.std.specs.Prelude.{◌≡◌};
 
 use crate::errors::LookupError;
-use crate::message_request::MessageRequest;
-use crate::message_response::borrowed;
+use crate::requests::message_request::MessageRequest;
+use crate::responses::message_response::borrowed;
 use hickory_wire::{LowerQuery, Record, TSIG};
 
 /// A message whose sections are those of an update.
 pub trait UpdateRequest {
     ghost use Rattle.std.specs.Prelude.{◌≡◌, Ok, Err, IfOk, IfErr};
     ghost use Rattle.std.specs.Option.{option_copied};
-    ghost use Rattle.hickory_base.specs.Questions.{one_query};
-    ghost use Rattle.hickory_base.specs.Updates.{UpdateMessage};
+    ghost use Rattle.hickory_base.specs.requests.Questions.{one_query};
+    ghost use Rattle.hickory_base.specs.requests.Updates.{UpdateMessage};
 
     ghost update: { Self → UpdateMessage };
 
@@ -44,7 +44,7 @@ pub trait UpdateRequest {
 }
 
 impl UpdateRequest for MessageRequest {
-    ghost use Rattle.hickory_base.specs.Updates.{update_of};
+    ghost use Rattle.hickory_base.specs.requests.Updates.{update_of};
 
     ghost update = { update_of };
 

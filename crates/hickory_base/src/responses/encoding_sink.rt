@@ -3,14 +3,14 @@
 ghost use Rattle.std.specs.Prelude.{◌≡◌, ◌↔◌, ◌+◌, ◌%◌, ◌^◌, ◌++◌, ◌∷◌, [], ℕ, List, IfErr, IfOk, IfSome, IsNone, OnErr};
 ghost use Rattle.std.specs.IoError.{error_kind};
 ghost use Rattle.std.specs.Iterator.{IsFinite};
-ghost use Rattle.hickory_wire.specs.Reply.{Reply, size_limit};
-ghost use Rattle.hickory_wire.specs.ReplyParts.{ReplyEncoded};
-ghost use Rattle.hickory_base.specs.EncodingSinks.{IsEncodingOf, TellsEncoding};
-ghost use Rattle.hickory_base.specs.Responses.{GivesBy, IsReplyOf, header_of};
+ghost use Rattle.hickory_wire.specs.serialize.writing.Reply.{Reply, size_limit};
+ghost use Rattle.hickory_wire.specs.serialize.writing.ReplyParts.{ReplyEncoded};
+ghost use Rattle.hickory_base.specs.responses.EncodingSinks.{IsEncodingOf, TellsEncoding};
+ghost use Rattle.hickory_base.specs.responses.Responses.{GivesBy, IsReplyOf, header_of};
 
-use crate::message_response::{MessageResponse, ResponseInfo};
-use crate::response_encoding::encode_response;
-use crate::response_handler::{RecordRef, ResponseHandler};
+use crate::responses::message_response::{MessageResponse, ResponseInfo};
+use crate::responses::response_encoding::encode_response;
+use crate::responses::response_handler::{RecordRef, ResponseHandler};
 use hickory_wire::{Items, Octets, Protocol};
 use std::alloc::Global;
 use std::io;
@@ -31,7 +31,7 @@ pub struct EncodingSink {
 }
 
 impl Model for EncodingSink {
-    ghost use Rattle.hickory_base.specs.EncodingSinks.{EncodedReplies};
+    ghost use Rattle.hickory_base.specs.responses.EncodingSinks.{EncodedReplies};
 
     ghost Value = { EncodedReplies };
 

@@ -4,15 +4,15 @@ ghost use Rattle.std.specs.Prelude.{◌≡◌, ◌↔◌, ◌≢◌, ◌+◌, �
 ghost use Rattle.std.specs.Iterator.{IsFinite};
 ghost use Rattle.std.specs.Iterator.Adapters.{once_item};
 ghost use Rattle.std.specs.Option.{option_copied};
-ghost use Rattle.hickory_wire.specs.Encoder.{IsSameVector, max_size, written_bytes};
-ghost use Rattle.hickory_wire.specs.Endings.{GivesRecords};
-ghost use Rattle.hickory_wire.specs.Reply.{Reply, size_limit};
-ghost use Rattle.hickory_wire.specs.ReplyParts.{Refused, ReplyEncoded, ReplyWritten};
+ghost use Rattle.hickory_wire.specs.serialize.writing.Encoder.{IsSameVector, max_size, written_bytes};
+ghost use Rattle.hickory_wire.specs.serialize.writing.Endings.{GivesRecords};
+ghost use Rattle.hickory_wire.specs.serialize.writing.Reply.{Reply, size_limit};
+ghost use Rattle.hickory_wire.specs.serialize.writing.ReplyParts.{Refused, ReplyEncoded, ReplyWritten};
 ghost use Rattle.std.specs.Borrow.{sem};
-ghost use Rattle.hickory_base.specs.Lending.{LendsMetadata};
-ghost use Rattle.hickory_base.specs.Responses.{HasNoRecords, IsBuilt, IsReplyOf, base_of, error_metadata, header_of};
+ghost use Rattle.hickory_base.specs.responses.Lending.{LendsMetadata};
+ghost use Rattle.hickory_base.specs.responses.Responses.{HasNoRecords, IsBuilt, IsReplyOf, base_of, error_metadata, header_of};
 
-use crate::message_request::{MessageRequest, Queries};
+use crate::requests::message_request::{MessageRequest, Queries};
 use hickory_wire::{
     BinEncoder, Boxed, Edns, Header, HeaderCounts, Metadata, ProtoError, Protocol, Record,
     ReplyParts, ResponseCode, TSIG, emit_message_parts, encode_message_parts,

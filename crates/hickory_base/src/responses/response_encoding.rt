@@ -2,12 +2,12 @@
 
 ghost use Rattle.std.specs.Prelude.{◌≡◌, IfOk, OnErr, map};
 ghost use Rattle.std.specs.Iterator.{IsFinite};
-ghost use Rattle.hickory_wire.specs.Reply.{Reply, size_limit};
-ghost use Rattle.hickory_wire.specs.ReplyParts.{RecordLists, ReplyEncoded, reply_of};
-ghost use Rattle.hickory_base.specs.Responses.{GivesBy, IsReplyOf, header_of};
+ghost use Rattle.hickory_wire.specs.serialize.writing.Reply.{Reply, size_limit};
+ghost use Rattle.hickory_wire.specs.serialize.writing.ReplyParts.{RecordLists, ReplyEncoded, reply_of};
+ghost use Rattle.hickory_base.specs.responses.Responses.{GivesBy, IsReplyOf, header_of};
 
-use crate::message_response::{MessageResponse, ResponseInfo, borrowed, size_limit};
-use crate::response_handler::RecordRef;
+use crate::responses::message_response::{MessageResponse, ResponseInfo, borrowed, size_limit};
+use crate::responses::response_handler::RecordRef;
 use hickory_wire::{Header, ProtoError, Protocol, ReplyParts, encode_message_parts};
 use std::alloc::{AllocError, Global};
 

@@ -3,7 +3,7 @@
 ghost use Rattle.std.specs.Prelude.{◌≡◌};
 
 use crate::errors::CatalogError;
-use crate::message_response::{MessageResponse, ResponseInfo};
+use crate::responses::message_response::{MessageResponse, ResponseInfo};
 use crate::server::Request;
 use hickory_wire::Record;
 use std::alloc::Global;
@@ -12,8 +12,8 @@ use std::io;
 /// A reference to a record, as an item of an iterator.
 pub trait RecordRef: Drop {
     ghost use Rattle.std.specs.Prelude.{◌≡◌};
-    ghost use Rattle.hickory_wire.specs.declared.rdata.RData.{RData};
-    ghost use Rattle.hickory_wire.specs.declared.record.Record.{Record};
+    ghost use Rattle.hickory_wire.specs.declared.rr.rdata.RData.{RData};
+    ghost use Rattle.hickory_wire.specs.declared.rr.record.Record.{Record};
 
     ghost record_of: { Self → Record RData };
 
@@ -39,10 +39,10 @@ impl RecordRef for &Record {
 pub trait ResponseHandler {
     ghost use Rattle.std.specs.Prelude.{◌≡◌, ◌+◌, ◌%◌, ◌^◌, ◌⊎◌, ℕ, List, IfOk, OnOk, OnErr};
     ghost use Rattle.std.specs.Iterator.{IsFinite};
-    ghost use Rattle.hickory_wire.specs.Reply.{Reply};
-    ghost use Rattle.hickory_wire.specs.declared.header.Header.{Header};
-    ghost use Rattle.hickory_base.specs.Responses.{GivesBy, IsReplyOf, header_of};
-    ghost use Rattle.hickory_base.specs.Sinks.{AddsEntry};
+    ghost use Rattle.hickory_wire.specs.serialize.writing.Reply.{Reply};
+    ghost use Rattle.hickory_wire.specs.declared.op.header.Header.{Header};
+    ghost use Rattle.hickory_base.specs.responses.Responses.{GivesBy, IsReplyOf, header_of};
+    ghost use Rattle.hickory_base.specs.responses.Sinks.{AddsEntry};
 
     /// What the sink keeps of a reply.
     type Entry;

@@ -2,9 +2,9 @@
 
 ghost use Rattle.std.specs.Prelude.{◌≡◌, ◌↔◌, ◌<◌, ◌^◌, IsTrue};
 ghost use Rattle.std.specs.List.{AllByRecursion};
-ghost use Rattle.hickory_wire.specs.RecordSameness.{SameRecord};
-ghost use Rattle.hickory_base.specs.RecordSets.{IsRecordSet, SameSet};
-ghost use Rattle.hickory_base.specs.ZoneSets.{AreDistinct, IsUnder, IsWellTyped, IsZone, IsZoneSet, sets_of};
+ghost use Rattle.hickory_wire.specs.rr.RecordSameness.{SameRecord};
+ghost use Rattle.hickory_base.specs.zone_store.RecordSets.{IsRecordSet, SameSet};
+ghost use Rattle.hickory_base.specs.zone_store.ZoneSets.{AreDistinct, IsUnder, IsWellTyped, IsZone, IsZoneSet, sets_of};
 
 use crate::zone_store::record_set::{RecordSet, RrKey};
 use hickory_wire::name_laws::name_comparisons;

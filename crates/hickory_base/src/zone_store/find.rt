@@ -3,8 +3,8 @@
 ghost use Rattle.std.specs.Prelude.{◌≡◌, ◌++◌, IfOk, OnOk};
 ghost use Rattle.std.specs.Option.{option_copied};
 ghost use Rattle.std.specs.Map.{lookup};
-ghost use Rattle.hickory_base.specs.ZoneAnswers.{OrMemory, any_answer, first_record, found, set_answer, set_or_denial, zone_answer, is_in_use, records_at};
-ghost use Rattle.hickory_base.specs.ZoneSets.{is_key, sets_of};
+ghost use Rattle.hickory_base.specs.zone_store.ZoneAnswers.{OrMemory, any_answer, first_record, found, set_answer, set_or_denial, zone_answer, is_in_use, records_at};
+ghost use Rattle.hickory_base.specs.zone_store.ZoneSets.{is_key, sets_of};
 
 use crate::errors::{DnsError, LookupError};
 use crate::zone_store::copies::append_copies;

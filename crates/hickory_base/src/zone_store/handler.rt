@@ -73,11 +73,11 @@ pub struct Nsec3QueryInfo<'q> {
 pub trait ZoneHandler: Drop {
     ghost use Rattle.std.specs.Prelude.{◌≡◌, ℕ, Bool, Option, Result, OnErr};
     ghost use Rattle.std.specs.Option.{option_copied, option_map};
-    ghost use Rattle.hickory_wire.specs.DomainName.{DomainName};
-    ghost use Rattle.hickory_wire.specs.declared.tsig.TSigResponseContext.{TSigResponseContext};
-    ghost use Rattle.hickory_base.specs.Denials.{Nsec3Question, nsec3_question};
-    ghost use Rattle.hickory_base.specs.Lookups.{Flow};
-    ghost use Rattle.hickory_base.specs.Requests.{ReceivedRequest, RequestInformation, information_of};
+    ghost use Rattle.hickory_wire.specs.rr.domain.DomainName.{DomainName};
+    ghost use Rattle.hickory_wire.specs.declared.rr.tsig.TSigResponseContext.{TSigResponseContext};
+    ghost use Rattle.hickory_base.specs.zone_store.Denials.{Nsec3Question, nsec3_question};
+    ghost use Rattle.hickory_base.specs.zone_store.Lookups.{Flow};
+    ghost use Rattle.hickory_base.specs.requests.Requests.{ReceivedRequest, RequestInformation, information_of};
     ghost use Rattle.hickory_base.specs.declared.errors.LookupError.{LookupError};
     ghost use Rattle.hickory_base.specs.declared.errors.UpdateFault.{UpdateFault};
     ghost use Rattle.hickory_base.specs.declared.zone_store.handler.AxfrPolicy.{AxfrPolicy};

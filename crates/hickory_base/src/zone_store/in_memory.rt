@@ -5,8 +5,8 @@ mod records;
 
 ghost use Rattle.std.specs.Prelude.{◌≡◌, ◌↔◌, IsTrue};
 ghost use Rattle.std.specs.Option.{option_copied};
-ghost use Rattle.hickory_base.specs.ZoneAnswers.{zone_soa, soa_serial};
-ghost use Rattle.hickory_base.specs.ZoneSets.{IsZone, sets_of};
+ghost use Rattle.hickory_base.specs.zone_store.ZoneAnswers.{zone_soa, soa_serial};
+ghost use Rattle.hickory_base.specs.zone_store.ZoneSets.{IsZone, sets_of};
 
 use crate::zone_store::conditions::is_zone;
 use crate::zone_store::find::first_under;
@@ -31,11 +31,11 @@ pub struct InMemoryZoneHandler {
 
 impl Model for InMemoryZoneHandler {
     ghost use Rattle.std.specs.Prelude.{◌≡◌};
-    ghost use Rattle.hickory_base.specs.ZoneAnswers.{MemoryZone};
+    ghost use Rattle.hickory_base.specs.zone_store.ZoneAnswers.{MemoryZone};
 
     ghost Value = { MemoryZone };
 
-    ghost use Rattle.hickory_base.specs.ZoneSets.{IsZone, sets_of};
+    ghost use Rattle.hickory_base.specs.zone_store.ZoneSets.{IsZone, sets_of};
 
     ghost view = { λ z. record { origin = z.apex.name; zone_type = z.zone_type; axfr_policy = z.axfr_policy; sets = sets_of z.records } };
 

@@ -3,7 +3,7 @@
 ghost use Rattle.std.specs.Prelude.{◌≡◌};
 ghost use Rattle.std.specs.Option.{option_copied};
 ghost use Rattle.std.specs.Slice.Iter.{iter_rest};
-ghost use Rattle.hickory_base.specs.Lookups.{asks_for_dnssec, result_of, is_continue, is_break, answers_of, additionals_of, without_additionals};
+ghost use Rattle.hickory_base.specs.zone_store.Lookups.{asks_for_dnssec, result_of, is_continue, is_break, answers_of, additionals_of, without_additionals};
 
 use crate::errors::LookupError;
 use hickory_wire::{Edns, Items, Query, Record};

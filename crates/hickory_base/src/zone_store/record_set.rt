@@ -1,7 +1,7 @@
 //! Records of one name and type.
 
 ghost use Rattle.std.specs.Prelude.{◌≡◌, ◌↔◌, IsTrue};
-ghost use Rattle.hickory_base.specs.RecordSets.{IsRecordSet};
+ghost use Rattle.hickory_base.specs.zone_store.RecordSets.{IsRecordSet};
 
 use crate::zone_store::conditions::is_record_set;
 use hickory_wire::{LowerName, Record, RecordType};
@@ -33,12 +33,12 @@ pub struct RecordSet {
 
 impl Model for RecordSet {
     ghost use Rattle.std.specs.Prelude.{List};
-    ghost use Rattle.hickory_wire.specs.declared.rdata.RData.{RData};
-    ghost use Rattle.hickory_wire.specs.declared.record.Record.{Record};
+    ghost use Rattle.hickory_wire.specs.declared.rr.rdata.RData.{RData};
+    ghost use Rattle.hickory_wire.specs.declared.rr.record.Record.{Record};
 
     ghost Value = { List (Record RData) };
 
-    ghost use Rattle.hickory_base.specs.RecordSets.{IsRecordSet};
+    ghost use Rattle.hickory_base.specs.zone_store.RecordSets.{IsRecordSet};
 
     ghost view = { λ set. set.records.items };
 

@@ -1,7 +1,7 @@
 //! The data of records in text.
 
 ghost use Rattle.std.specs.Prelude.{◌≡◌, IfOk};
-ghost use Rattle.hickory_wire.specs.RecordData.{type_of};
+ghost use Rattle.hickory_wire.specs.rr.RecordData.{type_of};
 
 use crate::zone_text::error::{TextError, TextFault};
 use crate::zone_text::escapes::{MAX_STRING_LEN, read_string};

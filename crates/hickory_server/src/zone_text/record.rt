@@ -1,7 +1,7 @@
 //! Records in text.
 
 ghost use Rattle.std.specs.Prelude.{◌≡◌, true, IfOk};
-ghost use Rattle.hickory_wire.specs.declared.record.Proof.TheVariants.{Indeterminate};
+ghost use Rattle.hickory_wire.specs.declared.rr.record.Proof.TheVariants.{Indeterminate};
 
 use crate::zone_text::data::data_of;
 use crate::zone_text::error::{TextError, TextFault};

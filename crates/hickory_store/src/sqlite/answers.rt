@@ -1,8 +1,8 @@
 //! What the handler answers: transfers by its own policy, and for the rest what the zone in memory answers.
 
 ghost use Rattle.std.specs.Prelude.{◌≡◌, ◌⊎◌, Err, None, false};
-ghost use Rattle.hickory_base.specs.Questions.{one_query};
-ghost use Rattle.hickory_base.specs.ZoneAnswers.{LookedUp, whole_zone, zone_soa};
+ghost use Rattle.hickory_base.specs.requests.Questions.{one_query};
+ghost use Rattle.hickory_base.specs.zone_store.ZoneAnswers.{LookedUp, whole_zone, zone_soa};
 ghost use Rattle.hickory_base.specs.declared.errors.LookupError.TheVariants as lookup_error;
 ghost use Rattle.hickory_base.specs.declared.errors.UpdateFault.TheVariants.{Code};
 ghost use Rattle.hickory_base.specs.declared.zone_store.lookup.LookupControlFlow.TheVariants.{Skip};

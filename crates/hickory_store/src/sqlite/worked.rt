@@ -5,11 +5,11 @@
 
 ghost use Rattle.std.specs.Prelude.{◌≡◌, ◌∷◌, [], ◌++◌, ℕ, None, Some, true, false};
 ghost use Rattle.std.specs.declared.ops.Range.{Range};
-ghost use Rattle.hickory_wire.specs.Worked.{record_of};
-ghost use Rattle.hickory_wire.specs.declared.rdata.RData.TheVariants as rdata;
-ghost use Rattle.hickory_wire.specs.declared.tsig.TSigResponseKind.TheVariants.{UnknownKey, BadSignature, Known};
-ghost use Rattle.hickory_wire.specs.declared.tsig.TsigError.TheVariants.{BadTime};
-ghost use Rattle.hickory_base.specs.Requests.{ReceivedRequest};
+ghost use Rattle.hickory_wire.specs.worked.Worked.{record_of};
+ghost use Rattle.hickory_wire.specs.declared.rr.rdata.RData.TheVariants as rdata;
+ghost use Rattle.hickory_wire.specs.declared.rr.tsig.TSigResponseKind.TheVariants.{UnknownKey, BadSignature, Known};
+ghost use Rattle.hickory_wire.specs.declared.rr.tsig.TsigError.TheVariants.{BadTime};
+ghost use Rattle.hickory_base.specs.requests.Requests.{ReceivedRequest};
 ghost use Rattle.hickory_base.specs.declared.zone_store.handler.AxfrPolicy.TheVariants as policy;
 ghost use Rattle.hickory_store.specs.Identity.{same_record, ttl_at};
 ghost use Rattle.hickory_store.specs.Permission.{allowed, is_within, kind_refusal, refused, timed_kind, transfer_permission, update_permission, verified_kind};

@@ -1,6 +1,6 @@
 -- What an OPT record says of its message (RFC 6891 section 6.1).
 use Rattle.std.specs.Prelude.{ℕ, Bool, List}
-use Rattle.hickory_wire.specs.declared.edns.EdnsOption.{EdnsOption}
+use Rattle.hickory_wire.specs.declared.op.edns.EdnsOption.{EdnsOption}
 
 -- The payload stands in the record's class; the high code, the version, DO and the fifteen flags behind it in the TTL.
 pub record EdnsFields : Type 0 where

@@ -4,8 +4,8 @@ use Rattle.std.specs.Bool.{beq}
 use Rattle.std.specs.Cmp.{IsEquivalence, and_equiv, bool_eq_equiv, nat_eq_equiv, on_equiv}
 use Rattle.std.specs.Cmp.Lexicographic.{lists_equiv, nat_list_eq_equiv, pointwise}
 use Rattle.std.specs.Ordering.{eq_of_both, on}
-use Rattle.hickory_wire.specs.EdnsFields.{EdnsFields}
-use Rattle.hickory_wire.specs.declared.edns.EdnsOption.{EdnsOption}
+use Rattle.hickory_wire.specs.op.EdnsFields.{EdnsFields}
+use Rattle.hickory_wire.specs.declared.op.edns.EdnsOption.{EdnsOption}
 
 abbrev pub option_eq : EdnsOption → EdnsOption → Bool
 option_eq = eq_of_both (on (λ o. o.code) nat_eq) (on (λ o. o.bytes) (pointwise nat_eq))

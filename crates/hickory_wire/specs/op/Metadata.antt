@@ -1,8 +1,8 @@
 -- The header of a message but for its counts (RFC 1035 section 4.1.1).
 use Rattle.std.specs.Prelude.{ℕ, false}
-use Rattle.hickory_wire.specs.declared.header.MessageType.{MessageType}
-use Rattle.hickory_wire.specs.declared.header.MessageType.TheVariants.{Response}
-use Rattle.hickory_wire.specs.declared.header.Metadata.{Metadata}
+use Rattle.hickory_wire.specs.declared.op.header.MessageType.{MessageType}
+use Rattle.hickory_wire.specs.declared.op.header.MessageType.TheVariants.{Response}
+use Rattle.hickory_wire.specs.declared.op.header.Metadata.{Metadata}
 
 -- no flag is set, and there is no error
 abbrev pub bare_metadata : ℕ → MessageType → ℕ → Metadata

@@ -1,7 +1,7 @@
 -- When two questions are the same: in name, type and class, names in any letter case (RFC 1035 sections 2.3.3 and 4.1.2).
 use Rattle.std.specs.Prelude.{◌≡◌}
-use Rattle.hickory_wire.specs.NameOrder.{SameName}
-use Rattle.hickory_wire.specs.declared.query.Query.{Query}
+use Rattle.hickory_wire.specs.rr.domain.NameOrder.{SameName}
+use Rattle.hickory_wire.specs.declared.op.query.Query.{Query}
 
 -- Questions are the same.
 pub record SameQuestion (a b : Query) : Type 0 where

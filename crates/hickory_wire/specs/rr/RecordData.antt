@@ -2,11 +2,11 @@
 use Rattle.std.specs.Prelude.{◌≡◌, ℕ, ◌/◌, ◌%◌, ◌<◌, ◌^◌, List, [], ◌∷◌, ◌++◌, length}
 use Rattle.std.specs.List.{AllByRecursion, flat_map}
 use Rattle.std.specs.Int.{w16, w32, to_be_bytes}
-use Rattle.hickory_wire.specs.declared.edns.EdnsOption.{EdnsOption}
-use Rattle.hickory_wire.specs.declared.rdata.SOA.{SOA}
-use Rattle.hickory_wire.specs.declared.rdata.RData.{RData}
-use Rattle.hickory_wire.specs.declared.rdata.RData.TheVariants as rdata
-use Rattle.hickory_wire.specs.declared.tsig.TSIG.{TSIG}
+use Rattle.hickory_wire.specs.declared.op.edns.EdnsOption.{EdnsOption}
+use Rattle.hickory_wire.specs.declared.rr.rdata.SOA.{SOA}
+use Rattle.hickory_wire.specs.declared.rr.rdata.RData.{RData}
+use Rattle.hickory_wire.specs.declared.rr.rdata.RData.TheVariants as rdata
+use Rattle.hickory_wire.specs.declared.rr.tsig.TSIG.{TSIG}
 
 -- a character string: its length in one octet, and its octets (RFC 1035 section 3.3)
 abbrev pub character_string : List ℕ → List ℕ

@@ -1,13 +1,13 @@
 -- When two records are the same: owner name, class, type and data agree, names in any letter case; the TTL is not compared
 -- (RFC 2136 section 1.1, RFC 1035 section 2.3.3).
 use Rattle.std.specs.Prelude.{◌≡◌}
-use Rattle.hickory_wire.specs.NameOrder.{lower_name, SameName}
-use Rattle.hickory_wire.specs.declared.rdata.MX.{MX}
-use Rattle.hickory_wire.specs.declared.rdata.RData.{RData}
-use Rattle.hickory_wire.specs.declared.rdata.RData.TheVariants as rdata
-use Rattle.hickory_wire.specs.declared.rdata.SOA.{SOA}
-use Rattle.hickory_wire.specs.declared.record.Record.{Record}
-use Rattle.hickory_wire.specs.declared.tsig.TSIG.{TSIG}
+use Rattle.hickory_wire.specs.rr.domain.NameOrder.{lower_name, SameName}
+use Rattle.hickory_wire.specs.declared.rr.rdata.MX.{MX}
+use Rattle.hickory_wire.specs.declared.rr.rdata.RData.{RData}
+use Rattle.hickory_wire.specs.declared.rr.rdata.RData.TheVariants as rdata
+use Rattle.hickory_wire.specs.declared.rr.rdata.SOA.{SOA}
+use Rattle.hickory_wire.specs.declared.rr.record.Record.{Record}
+use Rattle.hickory_wire.specs.declared.rr.tsig.TSIG.{TSIG}
 
 -- data with each name in them in lower case
 abbrev pub lower_mx : MX → MX

@@ -1,7 +1,7 @@
 -- Bytes, names and character strings as the text of a zone spells them (RFC 1035 section 5.1).
 use Rattle.std.specs.Prelude.{ℕ, ◌+◌, ◌/◌, ◌%◌, ◌==◌, ◌||◌, ◌&&◌, not, Bool, true, false, if◌then◌else◌, List, [], ◌∷◌, ◌++◌, codes, nat_lt}
 use Rattle.std.specs.List.{flat_map}
-use Rattle.hickory_wire.specs.DomainName.{DomainName}
+use Rattle.hickory_wire.specs.rr.domain.DomainName.{DomainName}
 
 -- The byte has a meaning of its own, so that a backslash stands before it: `"` and `\`, and outside of quotes `$`, `(`, `)`, `.`, `;` and `@`.
 abbrev pub is_special : Bool → ℕ → Bool

@@ -1,14 +1,14 @@
 -- Worked examples: replies, and the bytes that they may be written as, by hand from the RFCs.
 use Rattle.std.specs.Prelude.{ℕ, zero, suc, List, [], ◌∷◌, ◌++◌, true, false, replicate, Option, Some, None}
-use Rattle.hickory_wire.specs.Addresses.{ipv4_of}
-use Rattle.hickory_wire.specs.EdnsFields.{EdnsFields}
-use Rattle.hickory_wire.specs.Reply.{Reply}
-use Rattle.hickory_wire.specs.Worked.{root, www_name, record_of, address, letters, response, saying, tsig_zeros, signature_record}
-use Rattle.hickory_wire.specs.Writing.{ListFront, Fronts}
-use Rattle.hickory_wire.specs.declared.header.Metadata.{Metadata}
-use Rattle.hickory_wire.specs.declared.rdata.RData.{RData}
-use Rattle.hickory_wire.specs.declared.rdata.RData.TheVariants as rdata
-use Rattle.hickory_wire.specs.declared.record.Record.{Record}
+use Rattle.hickory_wire.specs.rr.Addresses.{ipv4_of}
+use Rattle.hickory_wire.specs.op.EdnsFields.{EdnsFields}
+use Rattle.hickory_wire.specs.serialize.writing.Reply.{Reply}
+use Rattle.hickory_wire.specs.worked.Worked.{root, www_name, record_of, address, letters, response, saying, tsig_zeros, signature_record}
+use Rattle.hickory_wire.specs.serialize.writing.Writing.{ListFront, Fronts}
+use Rattle.hickory_wire.specs.declared.op.header.Metadata.{Metadata}
+use Rattle.hickory_wire.specs.declared.rr.rdata.RData.{RData}
+use Rattle.hickory_wire.specs.declared.rr.rdata.RData.TheVariants as rdata
+use Rattle.hickory_wire.specs.declared.rr.record.Record.{Record}
 
 -- an authoritative response with RD
 abbrev pub www_metadata : Metadata

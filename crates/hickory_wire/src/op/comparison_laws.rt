@@ -1,23 +1,23 @@
 //! Laws of the comparisons of headers, questions, options and signatures, each the contract of a function with nothing to do.
 
 ghost use Rattle.std.specs.Prelude.{◌≡◌, ◌↔◌, IsTrue, ℕ};
-ghost use Rattle.hickory_wire.specs.EdnsFields.{EdnsFields};
-ghost use Rattle.hickory_wire.specs.MessageLayout.{tsig_record};
-ghost use Rattle.hickory_wire.specs.QuestionSameness.{SameQuestion};
-ghost use Rattle.hickory_wire.specs.RecordSameness.{SameRecord};
-ghost use Rattle.hickory_wire.specs.declared.edns.EdnsOption.{EdnsOption as OptionFields};
-ghost use Rattle.hickory_wire.specs.declared.header.Header.{Header as HeaderFields};
-ghost use Rattle.hickory_wire.specs.declared.header.HeaderCounts.{HeaderCounts as Counts};
-ghost use Rattle.hickory_wire.specs.declared.header.Metadata.{Metadata as MetadataFields};
-ghost use Rattle.hickory_wire.specs.declared.query.Query.{Query as Question};
-ghost use Rattle.hickory_wire.specs.declared.record.Record.{Record as ResourceRecord};
-ghost use Rattle.hickory_wire.specs.declared.tsig.TSIG.{TSIG as Signature};
+ghost use Rattle.hickory_wire.specs.op.EdnsFields.{EdnsFields};
+ghost use Rattle.hickory_wire.specs.serialize.layout.MessageLayout.{tsig_record};
+ghost use Rattle.hickory_wire.specs.op.QuestionSameness.{SameQuestion};
+ghost use Rattle.hickory_wire.specs.rr.RecordSameness.{SameRecord};
+ghost use Rattle.hickory_wire.specs.declared.op.edns.EdnsOption.{EdnsOption as OptionFields};
+ghost use Rattle.hickory_wire.specs.declared.op.header.Header.{Header as HeaderFields};
+ghost use Rattle.hickory_wire.specs.declared.op.header.HeaderCounts.{HeaderCounts as Counts};
+ghost use Rattle.hickory_wire.specs.declared.op.header.Metadata.{Metadata as MetadataFields};
+ghost use Rattle.hickory_wire.specs.declared.op.query.Query.{Query as Question};
+ghost use Rattle.hickory_wire.specs.declared.rr.record.Record.{Record as ResourceRecord};
+ghost use Rattle.hickory_wire.specs.declared.rr.tsig.TSIG.{TSIG as Signature};
 
-use crate::edns::{Edns, EdnsOption};
-use crate::header::{Header, HeaderCounts, Metadata};
-use crate::query::Query;
-use crate::record::Record;
-use crate::tsig::TSIG;
+use crate::op::edns::{Edns, EdnsOption};
+use crate::op::header::{Header, HeaderCounts, Metadata};
+use crate::op::query::Query;
+use crate::rr::record::Record;
+use crate::rr::tsig::TSIG;
 
 /// `==` on headers and their parts compares each field (RFC 1035 section 4.1.1).
 pub fn header_comparisons()

@@ -3,13 +3,13 @@
 ghost use Rattle.std.specs.Prelude.{◌≡◌, ◌+◌, ◌*◌, ◌/◌, ◌%◌, ◌^◌, ◌++◌, ◌∷◌, ◌==◌, ◌≤◌, ◌<◌, [], false, length, max, find, OnOk, OnErr, IfOk, IfErr};
 ghost use Rattle.std.specs.Cmp.{partial_equiv_from_equiv};
 ghost use Rattle.std.specs.Option.{option_copied};
-ghost use Rattle.hickory_wire.specs.EdnsSameness.{edns_eq, edns_eq_equiv};
-ghost use Rattle.hickory_wire.specs.HeaderLayout.{flag};
+ghost use Rattle.hickory_wire.specs.op.EdnsSameness.{edns_eq, edns_eq_equiv};
+ghost use Rattle.hickory_wire.specs.serialize.layout.HeaderLayout.{flag};
 
-use crate::dns_class::DNSClass;
 use crate::error::ProtoError;
-use crate::items::Items;
-use crate::octets::Octets;
+use crate::rr::dns_class::DNSClass;
+use crate::values::items::Items;
+use crate::values::octets::Octets;
 use std::alloc::{AllocError, Global};
 use std::marker::Model;
 
@@ -51,7 +51,7 @@ pub struct Edns {
 
 impl Model for Edns {
     ghost use Rattle.std.specs.Prelude.{◌<◌, ◌^◌};
-    ghost use Rattle.hickory_wire.specs.EdnsFields.{EdnsFields};
+    ghost use Rattle.hickory_wire.specs.op.EdnsFields.{EdnsFields};
 
     ghost Value = { EdnsFields };
 

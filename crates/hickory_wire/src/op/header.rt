@@ -1,10 +1,10 @@
 //! The header of a message.
 
 ghost use Rattle.std.specs.Prelude.{◌≡◌, false};
-ghost use Rattle.hickory_wire.specs.Metadata.{response_to, bare_metadata};
+ghost use Rattle.hickory_wire.specs.op.Metadata.{response_to, bare_metadata};
 
-use crate::op_code::OpCode;
-use crate::response_code::ResponseCode;
+use crate::op::op_code::OpCode;
+use crate::op::response_code::ResponseCode;
 
 /// Whether a message asks or answers (RFC 1035 section 4.1.1, QR).
 #[derive(Clone, Copy, Debug, PartialEq, Eq)]

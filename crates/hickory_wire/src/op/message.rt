@@ -1,12 +1,12 @@
 //! Whole messages.
 
-use crate::boxed::Boxed;
-use crate::edns::Edns;
-use crate::header::Metadata;
-use crate::items::Items;
-use crate::query::Query;
-use crate::record::Record;
-use crate::tsig::TSIG;
+use crate::op::edns::Edns;
+use crate::op::header::Metadata;
+use crate::op::query::Query;
+use crate::rr::record::Record;
+use crate::rr::tsig::TSIG;
+use crate::values::boxed::Boxed;
+use crate::values::items::Items;
 
 /// A message (RFC 1035 section 4.1), with its OPT and TSIG records taken out of the additional section.
 #[derive(Debug, Drop)]

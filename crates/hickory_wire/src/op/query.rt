@@ -1,14 +1,14 @@
 //! Questions.
 
 ghost use Rattle.std.specs.Prelude.{◌≡◌, ◌++◌, IfOk, OnOk};
-ghost use Rattle.hickory_wire.specs.NameOrder.{lower_name};
-ghost use Rattle.hickory_wire.specs.QuestionForm.{lower_question, question_octets};
+ghost use Rattle.hickory_wire.specs.rr.domain.NameOrder.{lower_name};
+ghost use Rattle.hickory_wire.specs.serialize.writing.QuestionForm.{lower_question, question_octets};
 
-use crate::data_encoder::{write_name, write_u16};
-use crate::dns_class::DNSClass;
-use crate::lower_name::LowerName;
-use crate::name::Name;
-use crate::record_type::RecordType;
+use crate::rr::dns_class::DNSClass;
+use crate::rr::domain::lower_name::LowerName;
+use crate::rr::domain::name::Name;
+use crate::rr::record_type::RecordType;
+use crate::serialize::writing::data_encoder::{write_name, write_u16};
 use std::alloc::{AllocError, Global};
 use std::marker::Model;
 
@@ -48,8 +48,8 @@ pub struct LowerQuery {
 
 impl Model for LowerQuery {
     ghost use Rattle.std.specs.Prelude.{◌≡◌};
-    ghost use Rattle.hickory_wire.specs.NameOrder.{lower_name};
-    ghost use Rattle.hickory_wire.specs.declared.query.Query.{Query};
+    ghost use Rattle.hickory_wire.specs.rr.domain.NameOrder.{lower_name};
+    ghost use Rattle.hickory_wire.specs.declared.op.query.Query.{Query};
 
     ghost Value = { Query };
 

@@ -2,13 +2,13 @@
 
 ghost use Rattle.std.specs.Prelude.{◌≡◌, IfOk};
 
-use crate::boxed::Boxed;
-use crate::edns::EdnsOption;
-use crate::items::Items;
-use crate::name::Name;
-use crate::octets::Octets;
-use crate::record_type::RecordType;
-use crate::tsig::TSIG;
+use crate::op::edns::EdnsOption;
+use crate::rr::domain::name::Name;
+use crate::rr::record_type::RecordType;
+use crate::rr::tsig::TSIG;
+use crate::values::boxed::Boxed;
+use crate::values::items::Items;
+use crate::values::octets::Octets;
 use std::alloc::AllocError;
 use std::net::{Ipv4Addr, Ipv6Addr};
 
@@ -106,7 +106,7 @@ pub enum RData {
 }
 
 impl RData {
-    ghost use Rattle.hickory_wire.specs.RecordData.{type_of};
+    ghost use Rattle.hickory_wire.specs.rr.RecordData.{type_of};
 
     /// The type that these data are of.
     pub fn record_type(&self) -> RecordType

@@ -2,9 +2,9 @@
 
 ghost use Rattle.std.specs.Prelude.{◌≡◌};
 
-use crate::dns_class::DNSClass;
-use crate::name::Name;
-use crate::rdata::RData;
+use crate::rr::dns_class::DNSClass;
+use crate::rr::domain::name::Name;
+use crate::rr::rdata::RData;
 use std::alloc::AllocError;
 
 /// What is known of a record's DNSSEC proof (RFC 4035 section 4.3).

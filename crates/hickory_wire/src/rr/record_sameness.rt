@@ -1,12 +1,12 @@
 //! Laws of the comparison of records, each the contract of a function with nothing to do.
 
 ghost use Rattle.std.specs.Prelude.{◌≡◌, ◌↔◌, IsTrue, ℕ};
-ghost use Rattle.hickory_wire.specs.RecordSameness.{SameData, SameRecord};
-ghost use Rattle.hickory_wire.specs.declared.rdata.RData.{RData as Data};
-ghost use Rattle.hickory_wire.specs.declared.record.Record.{Record as ResourceRecord};
+ghost use Rattle.hickory_wire.specs.rr.RecordSameness.{SameData, SameRecord};
+ghost use Rattle.hickory_wire.specs.declared.rr.rdata.RData.{RData as Data};
+ghost use Rattle.hickory_wire.specs.declared.rr.record.Record.{Record as ResourceRecord};
 
-use crate::rdata::RData;
-use crate::record::Record;
+use crate::rr::rdata::RData;
+use crate::rr::record::Record;
 
 /// `==` on records and on their data compares owner name, class, type and data, names in any letter case, and neither TTL nor proof.
 pub fn record_comparisons()

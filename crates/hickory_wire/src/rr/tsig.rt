@@ -2,8 +2,8 @@
 
 ghost use Rattle.std.specs.Prelude.{◌≡◌};
 
-use crate::name::Name;
-use crate::octets::Octets;
+use crate::rr::domain::name::Name;
+use crate::values::octets::Octets;
 use std::alloc::AllocError;
 
 /// The data of a TSIG record (RFC 8945 section 4.2).

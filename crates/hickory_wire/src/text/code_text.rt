@@ -4,10 +4,10 @@ ghost use Rattle.std.specs.Prelude.{◌≡◌, ◌==◌, find, map, MatchOption,
 ghost use Rattle.std.specs.Option.{option_copied, option_map};
 ghost use Rattle.std.specs.Char.{to_ascii_lowercase};
 
-use crate::dns_class::DNSClass;
-use crate::op_code::OpCode;
-use crate::record_type::RecordType;
-use crate::response_code::ResponseCode;
+use crate::op::op_code::OpCode;
+use crate::op::response_code::ResponseCode;
+use crate::rr::dns_class::DNSClass;
+use crate::rr::record_type::RecordType;
 use std::fmt;
 use std::str::FromStr;
 use thiserror::Error;

@@ -1,12 +1,12 @@
 //! The data of records as text.
 
-use crate::edns::EdnsOption;
-use crate::items::Items;
-use crate::name::Name;
-use crate::name_display::TextBytes;
-use crate::octets::Octets;
-use crate::rdata::{MX, RData, SOA};
-use crate::tsig::TSIG;
+use crate::op::edns::EdnsOption;
+use crate::rr::domain::name::Name;
+use crate::rr::domain::name_display::TextBytes;
+use crate::rr::rdata::{MX, RData, SOA};
+use crate::rr::tsig::TSIG;
+use crate::values::items::Items;
+use crate::values::octets::Octets;
 use std::fmt;
 
 /// Bytes as hexadecimal digits, two for each.

@@ -1,10 +1,10 @@
 //! Records and questions as text.
 
-use crate::query::Query;
-use crate::rdata::RData;
-use crate::record::Record;
-use crate::record_type::RecordType;
-use crate::tsig::TSIG;
+use crate::op::query::Query;
+use crate::rr::rdata::RData;
+use crate::rr::record::Record;
+use crate::rr::record_type::RecordType;
+use crate::rr::tsig::TSIG;
 use std::fmt;
 
 /// The record as a line of a zone's text, without an end of line (RFC 1035 section 5.1): owner name, TTL, class, type, data,

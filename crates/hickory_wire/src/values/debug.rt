@@ -1,11 +1,11 @@
 //! Values as programmers see them.
 
-use crate::boxed::Boxed;
-use crate::items::Items;
-use crate::lower_name::LowerName;
-use crate::name::Name;
-use crate::octets::Octets;
-use crate::record::Record;
+use crate::rr::domain::lower_name::LowerName;
+use crate::rr::domain::name::Name;
+use crate::rr::record::Record;
+use crate::values::boxed::Boxed;
+use crate::values::items::Items;
+use crate::values::octets::Octets;
 use std::fmt;
 
 /// The text of the name, in quotes.

@@ -3,10 +3,10 @@
 ghost use Rattle.std.specs.Prelude.{◌≡◌, ◌+◌, ◌%◌, ◌^◌, [], IfOk};
 ghost use Rattle.std.specs.Iterator.{IsFinite};
 ghost use Rattle.std.specs.Option.{option_copied};
-ghost use Rattle.hickory_wire.specs.Reply.{size_limit};
-ghost use Rattle.hickory_wire.specs.ReplyParts.{ReplyEncoded};
+ghost use Rattle.hickory_wire.specs.serialize.writing.Reply.{size_limit};
+ghost use Rattle.hickory_wire.specs.serialize.writing.ReplyParts.{ReplyEncoded};
 ghost use Rattle.hickory_wire.specs.declared.protocol.Protocol.TheVariants as protocol;
-ghost use Rattle.hickory_base.specs.Responses.{GivesBy, IsReplyOf};
+ghost use Rattle.hickory_base.specs.responses.Responses.{GivesBy, IsReplyOf};
 
 use crate::base::fixtures::{QUERY, request};
 use hickory_base::errors::CatalogError;
@@ -51,7 +51,7 @@ struct KeptEdns {
 }
 
 impl Model for KeptEdns {
-    ghost use Rattle.hickory_wire.specs.EdnsFields.{EdnsFields};
+    ghost use Rattle.hickory_wire.specs.op.EdnsFields.{EdnsFields};
 
     ghost Value = { EdnsFields };
 
@@ -99,7 +99,7 @@ struct KeptReply {
 }
 
 impl Model for KeptReply {
-    ghost use Rattle.hickory_wire.specs.Reply.{Reply};
+    ghost use Rattle.hickory_wire.specs.serialize.writing.Reply.{Reply};
 
     ghost Value = { Reply };
 

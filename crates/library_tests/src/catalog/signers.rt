@@ -1,7 +1,7 @@
 //! Signers.
 
 ghost use Rattle.std.specs.Prelude.{◌≡◌, [], true, cond, Some, None, IfOk};
-ghost use Rattle.hickory_wire.specs.declared.record.Proof.TheVariants.{Indeterminate};
+ghost use Rattle.hickory_wire.specs.declared.rr.record.Proof.TheVariants.{Indeterminate};
 
 use hickory_catalog::signer::{ReplySigner, SignError};
 use hickory_wire::{

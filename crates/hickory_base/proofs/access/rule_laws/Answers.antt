@@ -1,4 +1,4 @@
-use Rattle.hickory_base.proofs.Rule.{mapped_form_allowed_alike, only_members_decide}
+use Rattle.hickory_base.proofs.lemmas.access.Rule.{mapped_form_allowed_alike, only_members_decide}
 use Rattle.hickory_base.proofs.access.rule_laws.Goals as goal
 
 pub returns-clause-mapped_form : goal.returns-clause-mapped_form

@@ -2,11 +2,11 @@
 use Rattle.std.proofs.Common.{◌≡◌, [], length, refl}
 use Rattle.std.specs.Option.{option_copied}
 use Rattle.std.specs.Slice.Iter.{iter_steps, iter_rest}
-use Rattle.hickory_wire.specs.ReplyParts.{GivesLists, RecordLists, reply_of}
-use Rattle.hickory_wire.specs.declared.message_encoder.ReplyParts.{ReplyParts}
-use Rattle.hickory_base.specs.RequestForm.{questions_form, written_form}
-use Rattle.hickory_base.specs.declared.message_request.MessageRequest.{MessageRequest}
-use Rattle.hickory_base.proofs.RecordSlices.{given_by_slice}
+use Rattle.hickory_wire.specs.serialize.writing.ReplyParts.{GivesLists, RecordLists, reply_of}
+use Rattle.hickory_wire.specs.declared.serialize.writing.message_encoder.ReplyParts.{ReplyParts}
+use Rattle.hickory_base.specs.requests.RequestForm.{questions_form, written_form}
+use Rattle.hickory_base.specs.declared.requests.message_request.MessageRequest.{MessageRequest}
+use Rattle.hickory_base.proofs.lemmas.responses.RecordSlices.{given_by_slice}
 
 -- iterators of the request's lists, and its questions anew
 pub form_is : (m : MessageRequest) (parts : ReplyParts _ _ _ _) (lists : RecordLists) → GivesLists iter_steps iter_steps iter_steps iter_steps parts lists

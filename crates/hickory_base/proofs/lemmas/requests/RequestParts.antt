@@ -1,18 +1,18 @@
 -- The question section of a request stands behind its header.
 use Rattle.std.proofs.Common.{◌≡◌, ℕ, List, [], Ok, sym, ap, subst, ◌∙◌, slice_range}
-use Rattle.hickory_wire.specs.Bytes.{AreBytes}
-use Rattle.hickory_wire.specs.Cursor.{Cursor}
-use Rattle.hickory_wire.specs.MessageLayout.{ItemsAt, QuestionRead}
-use Rattle.hickory_wire.specs.MessageReading.{front_of}
-use Rattle.hickory_wire.specs.RecordReading.{question}
-use Rattle.hickory_wire.specs.SectionReading.{items}
-use Rattle.hickory_wire.specs.declared.query.Query.{Query}
-use Rattle.hickory_wire.proofs.CountedItems.{at_place, items_found}
-use Rattle.hickory_wire.proofs.HeaderLaws.{header_found}
-use Rattle.hickory_wire.proofs.SectionItems.{questions_find}
-use Rattle.hickory_wire.proofs.StringSteps.{bind_ok, ok_is}
-use Rattle.hickory_base.specs.Questions.{QuestionSection}
-use Rattle.hickory_base.specs.RequestReading.{question_section, FollowsHeader, IsQuestionSection}
+use Rattle.hickory_wire.specs.serialize.layout.Bytes.{AreBytes}
+use Rattle.hickory_wire.specs.serialize.reading.Cursor.{Cursor}
+use Rattle.hickory_wire.specs.serialize.layout.MessageLayout.{ItemsAt, QuestionRead}
+use Rattle.hickory_wire.specs.serialize.reading.MessageReading.{front_of}
+use Rattle.hickory_wire.specs.serialize.reading.RecordReading.{question}
+use Rattle.hickory_wire.specs.serialize.reading.SectionReading.{items}
+use Rattle.hickory_wire.specs.declared.op.query.Query.{Query}
+use Rattle.hickory_wire.proofs.lemmas.serialize.reading.CountedItems.{at_place, items_found}
+use Rattle.hickory_wire.proofs.lemmas.serialize.reading.HeaderLaws.{header_found}
+use Rattle.hickory_wire.proofs.lemmas.serialize.reading.SectionItems.{questions_find}
+use Rattle.hickory_wire.proofs.lemmas.serialize.reading.StringSteps.{bind_ok, ok_is}
+use Rattle.hickory_base.specs.requests.Questions.{QuestionSection}
+use Rattle.hickory_base.specs.requests.RequestReading.{question_section, FollowsHeader, IsQuestionSection}
 
 -- the questions, and the bytes from the first to the place behind the last
 abbrev section_of : Cursor → List Query × Cursor → QuestionSection × Cursor

@@ -12,8 +12,8 @@ use Rattle.std.specs.declared.cmp.Ordering.{Ordering}
 use Rattle.std.specs.declared.cmp.Ordering.TheVariants.{Less, Equal, Greater}
 use Rattle.std.proofs.lemmas.Bool.Decides.{nat_tests}
 use Rattle.std.proofs.lemmas.List.Elements.{filter_agree}
-use Rattle.hickory_wire.specs.NameOrder.{name_cmp, name_cmp_total}
-use Rattle.hickory_base.specs.ZoneSets.{key_cmp, has_name}
+use Rattle.hickory_wire.specs.rr.domain.NameOrder.{name_cmp, name_cmp_total}
+use Rattle.hickory_base.specs.zone_store.ZoneSets.{key_cmp, has_name}
 use Rattle.hickory_base.specs.declared.zone_store.record_set.RrKey.{RrKey}
 use Rattle.hickory_base.specs.contracts.zone_store.record_set.RrKeyOrd.TheImpl as by_key
 

@@ -14,14 +14,14 @@ use Rattle.std.proofs.lemmas.Bool.Decides.{nat_tests}
 use Rattle.std.proofs.lemmas.List.{append-nil}
 use Rattle.std.proofs.lemmas.List.Elements.{filter-append}
 use Rattle.std.proofs.lemmas.List.Folds.{list_any-append}
-use Rattle.hickory_wire.specs.DomainName.{DomainName}
-use Rattle.hickory_wire.specs.NameOrder.{name_cmp, name_cmp_total, SameName}
-use Rattle.hickory_wire.specs.RecordData.{type_of}
-use Rattle.hickory_wire.specs.declared.rdata.RData.{RData}
-use Rattle.hickory_wire.specs.declared.record.Record.{Record}
-use Rattle.hickory_wire.proofs.SameNames.{same_order}
-use Rattle.hickory_base.specs.ZoneRecords.{existing, is_at, is_of}
-use Rattle.hickory_base.specs.ZoneSets.{has_name, is_key, key_cmp, shared_sets, zone_records, IsUnder, IsZone}
+use Rattle.hickory_wire.specs.rr.domain.DomainName.{DomainName}
+use Rattle.hickory_wire.specs.rr.domain.NameOrder.{name_cmp, name_cmp_total, SameName}
+use Rattle.hickory_wire.specs.rr.RecordData.{type_of}
+use Rattle.hickory_wire.specs.declared.rr.rdata.RData.{RData}
+use Rattle.hickory_wire.specs.declared.rr.record.Record.{Record}
+use Rattle.hickory_wire.proofs.lemmas.rr.domain.SameNames.{same_order}
+use Rattle.hickory_base.specs.zone_store.ZoneRecords.{existing, is_at, is_of}
+use Rattle.hickory_base.specs.zone_store.ZoneSets.{has_name, is_key, key_cmp, shared_sets, zone_records, IsUnder, IsZone}
 use Rattle.hickory_base.specs.declared.zone_store.record_set.RecordSet.{RecordSet}
 use Rattle.hickory_base.specs.declared.zone_store.record_set.RrKey.{RrKey}
 

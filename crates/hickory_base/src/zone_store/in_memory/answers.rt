@@ -1,7 +1,7 @@
 //! How a zone that is held in memory answers.
 
 ghost use Rattle.std.specs.Prelude.{◌≡◌, Err, None, Some, false};
-ghost use Rattle.hickory_base.specs.ZoneAnswers.{LookedUp, OrMemory, Searched, Transferred, transfer_answer};
+ghost use Rattle.hickory_base.specs.zone_store.ZoneAnswers.{LookedUp, OrMemory, Searched, Transferred, transfer_answer};
 ghost use Rattle.hickory_base.specs.declared.errors.UpdateFault.TheVariants.{Code};
 ghost use Rattle.hickory_base.specs.declared.zone_store.lookup.LookupControlFlow.TheVariants.{Skip};
 

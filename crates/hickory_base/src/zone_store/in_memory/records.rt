@@ -3,9 +3,9 @@
 ghost use Rattle.std.specs.Prelude.{◌≡◌, ◌++◌, OnOk, IfOk, Some, Ok, cond, drop};
 ghost use Rattle.std.specs.List.{flat_map, list_any};
 ghost use Rattle.std.specs.Option.{option_copied};
-ghost use Rattle.hickory_base.specs.ZoneAnswers.{OrMemory, whole_zone, zone_soa};
-ghost use Rattle.hickory_base.specs.ZoneRecords.{existing, is_at, rrset};
-ghost use Rattle.hickory_base.specs.ZoneSets.{is_key, sets_of, zone_records};
+ghost use Rattle.hickory_base.specs.zone_store.ZoneAnswers.{OrMemory, whole_zone, zone_soa};
+ghost use Rattle.hickory_base.specs.zone_store.ZoneRecords.{existing, is_at, rrset};
+ghost use Rattle.hickory_base.specs.zone_store.ZoneSets.{is_key, sets_of, zone_records};
 
 use crate::errors::LookupError;
 use crate::zone_store::copies::append_copies;

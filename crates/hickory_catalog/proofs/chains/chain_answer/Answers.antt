@@ -1,5 +1,5 @@
 use Rattle.std.proofs.Common.{◌≡◌, true, false, rules}
-use Rattle.hickory_base.specs.Lookups.{is_continue}
+use Rattle.hickory_base.specs.zone_store.Lookups.{is_continue}
 use Rattle.hickory_catalog.proofs.Consulting.{behind_is, continued, joined, skip_without_context, stands}
 use Rattle.hickory_catalog.proofs.chains.chain_answer.Goals as goal
 

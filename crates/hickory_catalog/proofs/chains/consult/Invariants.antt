@@ -1,4 +1,4 @@
-use Rattle.hickory_base.specs.Requests.{information_of}
+use Rattle.hickory_base.specs.requests.Requests.{information_of}
 use Rattle.hickory_catalog.proofs.Consulting.{ConsultedOn}
 use Rattle.hickory_catalog.proofs.chains.consult.Given as goal
 

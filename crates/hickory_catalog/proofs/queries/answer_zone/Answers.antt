@@ -1,6 +1,6 @@
 use Rattle.std.proofs.Common.{◌≡◌, ◌==◌, false, rules, refl, sym, ap, ◌∙◌}
 use Rattle.std.specs.Prelude.{is_some}
-use Rattle.hickory_base.specs.Requests.{information, information_of}
+use Rattle.hickory_base.specs.requests.Requests.{information, information_of}
 use Rattle.hickory_catalog.specs.Queries.{consult_options, lookup, unanswered}
 use Rattle.hickory_catalog.specs.Replies.{error_reply}
 use Rattle.hickory_catalog.proofs.QueryReplies.{get_at, if_ok_map}

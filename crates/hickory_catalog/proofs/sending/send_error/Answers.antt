@@ -1,7 +1,7 @@
 use Rattle.std.proofs.Common.{◌≡◌, ◌∙◌, ap, refl, rules, Option}
 use Rattle.std.specs.Option.{option_copied}
-use Rattle.hickory_wire.specs.EdnsFields.{EdnsFields}
-use Rattle.hickory_base.specs.Responses.{ReplyBase, error_metadata}
+use Rattle.hickory_wire.specs.op.EdnsFields.{EdnsFields}
+use Rattle.hickory_base.specs.responses.Responses.{ReplyBase, error_metadata}
 use Rattle.hickory_catalog.specs.ReplyEdns.{with_high_code}
 use Rattle.hickory_catalog.proofs.SentReplies.{given_by_empty, reply_of_built}
 use Rattle.hickory_catalog.proofs.sending.send_error.Goals as goal

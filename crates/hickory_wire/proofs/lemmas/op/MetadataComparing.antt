@@ -3,10 +3,10 @@ use Rattle.std.proofs.Common.{◌≡◌, ℕ, Bool, true, ◌&&◌, nat_eq, rule
 use Rattle.std.specs.Bool.{beq}
 use denote.Enum.Bare.{sameb, same_true, true_same}
 use Rattle.hickory_wire.specs.contracts.header.MessageType.{the_type}
-use Rattle.hickory_wire.specs.declared.header.Header.{Header}
-use Rattle.hickory_wire.specs.declared.header.HeaderCounts.{HeaderCounts}
-use Rattle.hickory_wire.specs.declared.header.Metadata.{Metadata}
-use Rattle.hickory_wire.proofs.RecordComparing.{both_hold, hold_both, number_from_eq, number_equal, flag_from_eq, flag_equal}
+use Rattle.hickory_wire.specs.declared.op.header.Header.{Header}
+use Rattle.hickory_wire.specs.declared.op.header.HeaderCounts.{HeaderCounts}
+use Rattle.hickory_wire.specs.declared.op.header.Metadata.{Metadata}
+use Rattle.hickory_wire.proofs.lemmas.rr.RecordComparing.{both_hold, hold_both, number_from_eq, number_equal, flag_from_eq, flag_equal}
 
 -- how the derived comparisons go over the fields
 abbrev pub metadata_eq : Metadata → Metadata → Bool

@@ -3,7 +3,7 @@ use Rattle.std.proofs.Common.{◌≡◌, ℕ, suc, ◌+◌, ◌-◌, ◌*◌, �
 use Rattle.std.specs.List.{AllByRecursion}
 use Rattle.std.specs.Net.Addr.{segments_of, octets_of}
 use Rattle.std.proofs.lemmas.Nat.{div-add-mod', div-mul-add, mod-mul-add}
-use Rattle.hickory_wire.specs.Bytes.{AreBytes}
+use Rattle.hickory_wire.specs.serialize.layout.Bytes.{AreBytes}
 
 -- the segments of a list of segments' octets are these segments
 pub segments_again : (segments : List ℕ) → segments_of (octets_of segments) ≡ segments

@@ -3,13 +3,13 @@ use Rattle.std.proofs.Common.{◌≡◌, ℕ, Bool, true, false, ◌&&◌, nat_e
 use Rattle.std.specs.Bool.{IsTrue, beq}
 use Rattle.std.specs.Cmp.Lexicographic.{pointwise}
 use Rattle.std.proofs.lemmas.Bool.{eq-eqb, eqb-true}
-use Rattle.hickory_wire.specs.DomainName.{DomainName}
-use Rattle.hickory_wire.specs.NameHash.{same_from_eq}
-use Rattle.hickory_wire.specs.NameOrder.{lower_name, lower_labels, name_eq, SameName}
-use Rattle.hickory_wire.proofs.SameNames.{eq_from_same}
-use Rattle.hickory_wire.specs.RecordSameness.{lower_tsig}
-use Rattle.hickory_wire.specs.declared.edns.EdnsOption.{EdnsOption}
-use Rattle.hickory_wire.specs.declared.tsig.TSIG.{TSIG}
+use Rattle.hickory_wire.specs.rr.domain.DomainName.{DomainName}
+use Rattle.hickory_wire.specs.rr.domain.NameHash.{same_from_eq}
+use Rattle.hickory_wire.specs.rr.domain.NameOrder.{lower_name, lower_labels, name_eq, SameName}
+use Rattle.hickory_wire.proofs.lemmas.rr.domain.SameNames.{eq_from_same}
+use Rattle.hickory_wire.specs.rr.RecordSameness.{lower_tsig}
+use Rattle.hickory_wire.specs.declared.op.edns.EdnsOption.{EdnsOption}
+use Rattle.hickory_wire.specs.declared.rr.tsig.TSIG.{TSIG}
 
 -- two tests hold where their conjunction does
 pub both_hold : (a b : Bool) → (a && b) ≡ true → (a ≡ true) × (b ≡ true)

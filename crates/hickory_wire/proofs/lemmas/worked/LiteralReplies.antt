@@ -1,15 +1,15 @@
 -- Records that are written out, put behind any bytes.
 use Rattle.std.proofs.Common.{◌≡◌, ℕ, zero, suc, ◌+◌, ◌*◌, ◌≤◌, true, leb, List, [], ◌∷◌, ◌++◌, length, get_or, take, drop, replicate, codes, None, refl, sym, ap, ◌∙◌, arith, append_assoc, length-append}
 use Rattle.std.proofs.lemmas.List.{get_or-append-add, append-nil}
-use Rattle.hickory_wire.specs.Bytes.{BytesAt}
-use Rattle.hickory_wire.specs.DomainName.{IsLabel}
-use Rattle.hickory_wire.specs.NameLayout.{LabelsAt, NameAt}
-use Rattle.hickory_wire.specs.NameLayout.LabelsAt.{at_end, at_label}
-use Rattle.hickory_wire.specs.Worked.{root, record_of, address, a_record, www_name}
-use Rattle.hickory_wire.specs.WorkedReplies.{www_answer, www_answer_bytes, repeated, all_of, fronts_of, www_reply, www_reply_in_full}
-use Rattle.hickory_wire.specs.Writing.{Puts, PutsAll, ListWritten, ListsWritten, whole, Written, asked_bytes}
-use Rattle.hickory_wire.specs.Writing.ListsWritten.{none_left, next_list}
-use Rattle.hickory_wire.proofs.Literals.{stands, is_label}
+use Rattle.hickory_wire.specs.serialize.layout.Bytes.{BytesAt}
+use Rattle.hickory_wire.specs.rr.domain.DomainName.{IsLabel}
+use Rattle.hickory_wire.specs.serialize.layout.NameLayout.{LabelsAt, NameAt}
+use Rattle.hickory_wire.specs.serialize.layout.NameLayout.LabelsAt.{at_end, at_label}
+use Rattle.hickory_wire.specs.worked.Worked.{root, record_of, address, a_record, www_name}
+use Rattle.hickory_wire.specs.worked.WorkedReplies.{www_answer, www_answer_bytes, repeated, all_of, fronts_of, www_reply, www_reply_in_full}
+use Rattle.hickory_wire.specs.serialize.writing.Writing.{Puts, PutsAll, ListWritten, ListsWritten, whole, Written, asked_bytes}
+use Rattle.hickory_wire.specs.serialize.writing.Writing.ListsWritten.{none_left, next_list}
+use Rattle.hickory_wire.proofs.lemmas.worked.Literals.{stands, is_label}
 
 -- of a list with no records nothing is put
 pub no_records : (limit : ℕ) (old : List ℕ) → ListWritten limit old [] old 0 whole

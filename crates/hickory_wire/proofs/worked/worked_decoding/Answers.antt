@@ -1,12 +1,12 @@
 -- Every premise under which the reply reads back.
 use Rattle.std.proofs.Common.{codes, refl, arith}
-use Rattle.hickory_wire.specs.MessageReading.{message}
-use Rattle.hickory_wire.specs.NameReading.{name, labels_from, labels_within}
-use Rattle.hickory_wire.specs.RecordReading.{question, resource, record_data, form}
-use Rattle.hickory_wire.specs.SectionReading.{header, items, section_record, additionals_after}
-use Rattle.hickory_wire.specs.Worked.{at}
-use Rattle.hickory_wire.specs.WorkedReplies.{www_reply_in_full}
-use Rattle.hickory_wire.proofs.Literals.{stands, end_at, label_at}
+use Rattle.hickory_wire.specs.serialize.reading.MessageReading.{message}
+use Rattle.hickory_wire.specs.serialize.reading.NameReading.{name, labels_from, labels_within}
+use Rattle.hickory_wire.specs.serialize.reading.RecordReading.{question, resource, record_data, form}
+use Rattle.hickory_wire.specs.serialize.reading.SectionReading.{header, items, section_record, additionals_after}
+use Rattle.hickory_wire.specs.worked.Worked.{at}
+use Rattle.hickory_wire.specs.worked.WorkedReplies.{www_reply_in_full}
+use Rattle.hickory_wire.proofs.lemmas.worked.Literals.{stands, end_at, label_at}
 use Rattle.hickory_wire.proofs.worked.worked_decoding.Goals as goal
 
 pub returns-clause-www_decodable : goal.returns-clause-www_decodable

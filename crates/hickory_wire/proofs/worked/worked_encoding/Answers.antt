@@ -1,12 +1,12 @@
 -- Replies that are encoded: the one that fits, those that are too large, and one with no form.
 use Rattle.std.proofs.Common.{◌++◌, [], refl, arith}
-use Rattle.hickory_wire.specs.Worked.{a_record}
-use Rattle.hickory_wire.specs.WorkedReplies.{formless_reply, too_long_string}
-use Rattle.hickory_wire.specs.Writing.{asked_bytes}
-use Rattle.hickory_wire.specs.Writing.Encoded.{written, too_large, formless}
-use Rattle.hickory_wire.specs.Writing.ListsWritten.{stuck_list}
+use Rattle.hickory_wire.specs.worked.Worked.{a_record}
+use Rattle.hickory_wire.specs.worked.WorkedReplies.{formless_reply, too_long_string}
+use Rattle.hickory_wire.specs.serialize.writing.Writing.{asked_bytes}
+use Rattle.hickory_wire.specs.serialize.writing.Writing.Encoded.{written, too_large, formless}
+use Rattle.hickory_wire.specs.serialize.writing.Writing.ListsWritten.{stuck_list}
 use Rattle.hickory_wire.specs.declared.error.ProtoError.TheVariants.{CharacterDataTooLong}
-use Rattle.hickory_wire.proofs.LiteralReplies.{www_written, put_address}
+use Rattle.hickory_wire.proofs.lemmas.worked.LiteralReplies.{www_written, put_address}
 use Rattle.hickory_wire.proofs.worked.worked_encoding.Goals as goal
 
 pub returns-clause-www : goal.returns-clause-www

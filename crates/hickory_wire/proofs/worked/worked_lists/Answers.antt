@@ -1,21 +1,21 @@
 -- A reply with all five lists, each record put in full behind the one before.
 use Rattle.std.proofs.Common.{◌≡◌, ℕ, ◌+◌, ◌^◌, ◌<◌, ◌≤◌, List, [], ◌∷◌, ◌++◌, length, None, refl, sym, subst, arith}
 use Rattle.std.proofs.lemmas.List.Elements.{All-from_recursion}
-use Rattle.hickory_wire.specs.DomainName.{IsLabel, AreLabels}
-use Rattle.hickory_wire.specs.FullForm.{HasNames, record_octets}
-use Rattle.hickory_wire.specs.MessageLayout.{tsig_record}
-use Rattle.hickory_wire.specs.RecordSize.{data_len, form_fault, full_size}
-use Rattle.hickory_wire.specs.Reply.{opt_record}
-use Rattle.hickory_wire.specs.Worked.{root, record_of, address, signature_record}
-use Rattle.hickory_wire.specs.WorkedLists.{five_lists, formless_and_large, root_authority, root_pointer, root_server}
-use Rattle.hickory_wire.specs.WorkedReplies.{dnssec_ok_fields, too_long_string}
-use Rattle.hickory_wire.specs.Writing.{Puts, asked_bytes}
-use Rattle.hickory_wire.specs.Writing.Encoded.{formless}
-use Rattle.hickory_wire.specs.Writing.ListsWritten.{none_left, next_list, stuck_list}
+use Rattle.hickory_wire.specs.rr.domain.DomainName.{IsLabel, AreLabels}
+use Rattle.hickory_wire.specs.serialize.writing.FullForm.{HasNames, record_octets}
+use Rattle.hickory_wire.specs.serialize.layout.MessageLayout.{tsig_record}
+use Rattle.hickory_wire.specs.serialize.writing.RecordSize.{data_len, form_fault, full_size}
+use Rattle.hickory_wire.specs.serialize.writing.Reply.{opt_record}
+use Rattle.hickory_wire.specs.worked.Worked.{root, record_of, address, signature_record}
+use Rattle.hickory_wire.specs.worked.WorkedLists.{five_lists, formless_and_large, root_authority, root_pointer, root_server}
+use Rattle.hickory_wire.specs.worked.WorkedReplies.{dnssec_ok_fields, too_long_string}
+use Rattle.hickory_wire.specs.serialize.writing.Writing.{Puts, asked_bytes}
+use Rattle.hickory_wire.specs.serialize.writing.Writing.Encoded.{formless}
+use Rattle.hickory_wire.specs.serialize.writing.Writing.ListsWritten.{none_left, next_list, stuck_list}
 use Rattle.hickory_wire.specs.declared.error.ProtoError.TheVariants.{CharacterDataTooLong}
-use Rattle.hickory_wire.specs.declared.rdata.RData.{RData}
-use Rattle.hickory_wire.specs.declared.record.Record.{Record}
-use Rattle.hickory_wire.proofs.FullForms.{puts_full}
+use Rattle.hickory_wire.specs.declared.rr.rdata.RData.{RData}
+use Rattle.hickory_wire.specs.declared.rr.record.Record.{Record}
+use Rattle.hickory_wire.proofs.lemmas.serialize.writing.FullForms.{puts_full}
 use Rattle.hickory_wire.proofs.worked.worked_lists.Goals as goal
 
 no_labels : AreLabels []

@@ -1,11 +1,11 @@
 -- A query and its OPT record, section after section.
 use Rattle.std.proofs.Common.{◌∷◌, [], refl, arith}
-use Rattle.hickory_wire.specs.Metadata.{bare_metadata}
-use Rattle.hickory_wire.specs.Worked.{root, record_of, saying}
-use Rattle.hickory_wire.specs.RecordData.OptionsOf.{well_formed}
-use Rattle.hickory_wire.specs.declared.header.MessageType.TheVariants as message_type
-use Rattle.hickory_wire.specs.declared.rdata.RData.TheVariants as rdata
-use Rattle.hickory_wire.proofs.Literals.{stands, root_at, octets_at}
+use Rattle.hickory_wire.specs.op.Metadata.{bare_metadata}
+use Rattle.hickory_wire.specs.worked.Worked.{root, record_of, saying}
+use Rattle.hickory_wire.specs.rr.RecordData.OptionsOf.{well_formed}
+use Rattle.hickory_wire.specs.declared.op.header.MessageType.TheVariants as message_type
+use Rattle.hickory_wire.specs.declared.rr.rdata.RData.TheVariants as rdata
+use Rattle.hickory_wire.proofs.lemmas.worked.Literals.{stands, root_at, octets_at}
 use Rattle.hickory_wire.proofs.worked.worked_message_layout.Goals as goal
 
 pub returns-clause-message : goal.returns-clause-message

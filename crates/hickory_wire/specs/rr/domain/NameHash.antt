@@ -10,8 +10,8 @@ use Rattle.std.specs.Cmp.Derive.Mapped.{lex_map}
 use Rattle.std.proofs.Common.{refl, sym, ap, ◌∙◌}
 use Rattle.std.proofs.lemmas.Map.Lookups.{CmpEqualImpliesEq, exact_bytes}
 use Rattle.std.proofs.lemmas.List.{reverse-append, reverse-reverse, map-append}
-use Rattle.hickory_wire.specs.DomainName.{DomainName, wire_form}
-use Rattle.hickory_wire.specs.NameOrder.{lower_label, lower_labels, label_cmp, name_eq, SameName}
+use Rattle.hickory_wire.specs.rr.domain.DomainName.{DomainName, wire_form}
+use Rattle.hickory_wire.specs.rr.domain.NameOrder.{lower_label, lower_labels, label_cmp, name_eq, SameName}
 
 -- what a name feeds a hasher: its labels in lower case, in wire form, and whether it is fully qualified
 abbrev pub name_hash_input : DomainName → List (List ℕ)

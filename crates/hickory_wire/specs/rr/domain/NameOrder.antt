@@ -5,7 +5,7 @@ use Rattle.std.specs.Ordering.{nat_cmp, bool_cmp, on, then_cmp, eq_by_cmp}
 use Rattle.std.specs.Cmp.{IsTotalOrder, then_total, on_total, bool_cmp_total}
 use Rattle.std.specs.Cmp.Lexicographic.{slice_cmp, pointwise, lists_total, nat_list_cmp_total}
 use Rattle.std.specs.Char.{to_ascii_lowercase}
-use Rattle.hickory_wire.specs.DomainName.{DomainName}
+use Rattle.hickory_wire.specs.rr.domain.DomainName.{DomainName}
 
 -- a label with its ASCII letters in lower case
 abbrev pub lower_label : List ℕ → List ℕ

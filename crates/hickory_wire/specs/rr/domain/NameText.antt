@@ -1,6 +1,6 @@
 -- Names as text: one or more labels joined by dots, with or without a final dot.
 use Rattle.std.specs.Prelude.{◌≡◌, ◌≢◌, ℕ, ◌≤◌, ◌⊎◌, Bool, true, false, List, [], ◌∷◌, ◌++◌, All}
-use Rattle.hickory_wire.specs.DomainName.{DomainName, IsLabel, name_len}
+use Rattle.hickory_wire.specs.rr.domain.DomainName.{DomainName, IsLabel, name_len}
 
 -- an ASCII letter, a digit, `-` or `_`
 abbrev pub IsNameByte : ℕ → Type 0

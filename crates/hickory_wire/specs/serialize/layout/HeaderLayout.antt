@@ -1,12 +1,12 @@
 -- The twelve bytes of a header (RFC 1035 section 4.1.1; AD and CD: RFC 4035 section 3.2).
 use Rattle.std.specs.Prelude.{◌≡◌, ℕ, ◌+◌, ◌*◌, ◌/◌, ◌%◌, ◌^◌, ◌<◌, List, [], ◌∷◌, ◌++◌, Bool, true, false, ◌==◌, if◌then◌else◌}
 use Rattle.std.specs.Int.{w16, to_be_bytes}
-use Rattle.hickory_wire.specs.Bytes.{BytesAt}
-use Rattle.hickory_wire.specs.declared.header.Header.{Header}
-use Rattle.hickory_wire.specs.declared.header.HeaderCounts.{HeaderCounts}
-use Rattle.hickory_wire.specs.declared.header.MessageType.{MessageType}
-use Rattle.hickory_wire.specs.declared.header.MessageType.TheVariants as message_type
-use Rattle.hickory_wire.specs.declared.header.Metadata.{Metadata}
+use Rattle.hickory_wire.specs.serialize.layout.Bytes.{BytesAt}
+use Rattle.hickory_wire.specs.declared.op.header.Header.{Header}
+use Rattle.hickory_wire.specs.declared.op.header.HeaderCounts.{HeaderCounts}
+use Rattle.hickory_wire.specs.declared.op.header.MessageType.{MessageType}
+use Rattle.hickory_wire.specs.declared.op.header.MessageType.TheVariants as message_type
+use Rattle.hickory_wire.specs.declared.op.header.Metadata.{Metadata}
 
 -- whether a bit of a byte is set; bit 0 is the lowest
 abbrev pub bit : ℕ → ℕ → Bool

@@ -1,7 +1,7 @@
 -- How a name stands in the bytes of a message (RFC 1035, sections 3.1 and 4.1.4).
 use Rattle.std.specs.Prelude.{◌≡◌, ℕ, ◌+◌, ◌*◌, ◌<◌, ◌≤◌, List, [], ◌∷◌, length, true}
-use Rattle.hickory_wire.specs.DomainName.{DomainName, IsLabel, name_len}
-use Rattle.hickory_wire.specs.Bytes.{BytesAt}
+use Rattle.hickory_wire.specs.rr.domain.DomainName.{DomainName, IsLabel, name_len}
+use Rattle.hickory_wire.specs.serialize.layout.Bytes.{BytesAt}
 use Rattle.hickory_wire.specs.declared.error.DecodeError.{DecodeError}
 use Rattle.hickory_wire.specs.declared.error.DecodeError.TheVariants.{InsufficientBytes, UnrecognizedLabelCode, PointerNotPriorToLabel, NameTooLong}
 

@@ -1,9 +1,9 @@
 -- How a question stands in the bytes of a message (RFC 1035 section 4.1.2).
 use Rattle.std.specs.Prelude.{◌≡◌, ℕ, ◌+◌, ◌<◌, ◌^◌, List, ◌++◌}
 use Rattle.std.specs.Int.{w16, to_be_bytes}
-use Rattle.hickory_wire.specs.Bytes.{BytesAt}
-use Rattle.hickory_wire.specs.NameLayout.{NameAt, IsFullyQualified}
-use Rattle.hickory_wire.specs.declared.query.Query.{Query}
+use Rattle.hickory_wire.specs.serialize.layout.Bytes.{BytesAt}
+use Rattle.hickory_wire.specs.serialize.layout.NameLayout.{NameAt, IsFullyQualified}
+use Rattle.hickory_wire.specs.declared.op.query.Query.{Query}
 
 -- The question stands at place, and next is the place behind it: its name, its type and its class.
 -- No byte that is read for it lies below floor.

@@ -3,17 +3,17 @@ use Rattle.std.specs.Prelude.{◌≡◌, ◌≢◌, ℕ, ◌+◌, ◌≤◌, ◌
 use Rattle.std.specs.List.{AllByRecursion, flat_map}
 use Rattle.std.specs.Int.{w16, w32, to_be_bytes}
 use Rattle.std.specs.Net.Addr.{ipv4_octets, ipv6_octets}
-use Rattle.hickory_wire.specs.Addresses.{IsIpv4, IsIpv6}
-use Rattle.hickory_wire.specs.Bytes.{BytesAt}
-use Rattle.hickory_wire.specs.NameLayout.{NameAt, IsFullyQualified}
-use Rattle.hickory_wire.specs.RecordData.{character_string, option_octets, IsOption, OptionsOf, soa_numbers, tsig_fields, type_of}
-use Rattle.hickory_wire.specs.declared.rdata.MX.{MX}
-use Rattle.hickory_wire.specs.declared.rdata.SOA.{SOA}
-use Rattle.hickory_wire.specs.declared.rdata.RData.{RData}
-use Rattle.hickory_wire.specs.declared.rdata.RData.TheVariants as rdata
-use Rattle.hickory_wire.specs.declared.record.Proof.TheVariants.{Indeterminate}
-use Rattle.hickory_wire.specs.declared.record.Record.{Record}
-use Rattle.hickory_wire.specs.declared.tsig.TSIG.{TSIG}
+use Rattle.hickory_wire.specs.rr.Addresses.{IsIpv4, IsIpv6}
+use Rattle.hickory_wire.specs.serialize.layout.Bytes.{BytesAt}
+use Rattle.hickory_wire.specs.serialize.layout.NameLayout.{NameAt, IsFullyQualified}
+use Rattle.hickory_wire.specs.rr.RecordData.{character_string, option_octets, IsOption, OptionsOf, soa_numbers, tsig_fields, type_of}
+use Rattle.hickory_wire.specs.declared.rr.rdata.MX.{MX}
+use Rattle.hickory_wire.specs.declared.rr.rdata.SOA.{SOA}
+use Rattle.hickory_wire.specs.declared.rr.rdata.RData.{RData}
+use Rattle.hickory_wire.specs.declared.rr.rdata.RData.TheVariants as rdata
+use Rattle.hickory_wire.specs.declared.rr.record.Proof.TheVariants.{Indeterminate}
+use Rattle.hickory_wire.specs.declared.rr.record.Record.{Record}
+use Rattle.hickory_wire.specs.declared.rr.tsig.TSIG.{TSIG}
 
 -- The octets stand at place, at floor or above, and next is the place behind them.
 pub record OctetsAt (floor : ℕ) (bytes : List ℕ) (place : ℕ) (octets : List ℕ) (next : ℕ) : Type 0 where

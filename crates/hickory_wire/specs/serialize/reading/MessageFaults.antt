@@ -1,20 +1,20 @@
 -- The first fault of bytes that begin with no message (RFC 1035 section 4.1).
 use Rattle.std.specs.Prelude.{◌≡◌, ◌≢◌, ℕ, ◌<◌, List, [], length, true, Option, None}
 use Rattle.std.specs.List.{AllByRecursion}
-use Rattle.hickory_wire.specs.EdnsFields.{EdnsFields}
-use Rattle.hickory_wire.specs.HeaderLayout.{HeaderAt}
-use Rattle.hickory_wire.specs.MessageLayout.{ItemsAt, QuestionRead, IsSectionRecord, AdditionalSection, is_opt}
-use Rattle.hickory_wire.specs.RecordData.{type_of}
-use Rattle.hickory_wire.specs.RecordFaults.{RecordFault, QuestionFault}
-use Rattle.hickory_wire.specs.RecordLayout.{RecordAt}
-use Rattle.hickory_wire.specs.SectionReading.{is_additional_type}
+use Rattle.hickory_wire.specs.op.EdnsFields.{EdnsFields}
+use Rattle.hickory_wire.specs.serialize.layout.HeaderLayout.{HeaderAt}
+use Rattle.hickory_wire.specs.serialize.layout.MessageLayout.{ItemsAt, QuestionRead, IsSectionRecord, AdditionalSection, is_opt}
+use Rattle.hickory_wire.specs.rr.RecordData.{type_of}
+use Rattle.hickory_wire.specs.serialize.reading.RecordFaults.{RecordFault, QuestionFault}
+use Rattle.hickory_wire.specs.serialize.layout.RecordLayout.{RecordAt}
+use Rattle.hickory_wire.specs.serialize.reading.SectionReading.{is_additional_type}
 use Rattle.hickory_wire.specs.declared.error.DecodeError.{DecodeError}
 use Rattle.hickory_wire.specs.declared.error.DecodeError.TheVariants.{InsufficientBytes, RecordNotInAdditionals, RecordAfterSignature, EdnsNameNotRoot, DuplicateEdns}
-use Rattle.hickory_wire.specs.declared.header.Header.{Header}
-use Rattle.hickory_wire.specs.declared.query.Query.{Query}
-use Rattle.hickory_wire.specs.declared.rdata.RData.{RData}
-use Rattle.hickory_wire.specs.declared.record.Record.{Record}
-use Rattle.hickory_wire.specs.declared.tsig.TSIG.{TSIG}
+use Rattle.hickory_wire.specs.declared.op.header.Header.{Header}
+use Rattle.hickory_wire.specs.declared.op.query.Query.{Query}
+use Rattle.hickory_wire.specs.declared.rr.rdata.RData.{RData}
+use Rattle.hickory_wire.specs.declared.rr.record.Record.{Record}
+use Rattle.hickory_wire.specs.declared.rr.tsig.TSIG.{TSIG}
 
 -- ---- sections that stand
 

@@ -1,13 +1,13 @@
 -- Whole messages as they are read, with the first fault that is met (RFC 1035 section 4.1).
 use Rattle.std.specs.Prelude.{◌≡◌, ℕ, ◌+◌, ◌*◌, List, [], Option, Some, None, Ok, Err}
-use Rattle.hickory_wire.specs.Cursor.{Cursor}
-use Rattle.hickory_wire.specs.EdnsFields.{EdnsFields}
-use Rattle.hickory_wire.specs.Reading.{Read, ◌>>=◌}
-use Rattle.hickory_wire.specs.RecordReading.{question}
-use Rattle.hickory_wire.specs.SectionReading.{header, items, section_record, additionals_after, no_additionals}
+use Rattle.hickory_wire.specs.serialize.reading.Cursor.{Cursor}
+use Rattle.hickory_wire.specs.op.EdnsFields.{EdnsFields}
+use Rattle.hickory_wire.specs.serialize.reading.Reading.{Read, ◌>>=◌}
+use Rattle.hickory_wire.specs.serialize.reading.RecordReading.{question}
+use Rattle.hickory_wire.specs.serialize.reading.SectionReading.{header, items, section_record, additionals_after, no_additionals}
 use Rattle.hickory_wire.specs.declared.error.DecodeError.{DecodeError}
-use Rattle.hickory_wire.specs.declared.header.Metadata.{Metadata}
-use Rattle.hickory_wire.specs.declared.message.Message.{Message}
+use Rattle.hickory_wire.specs.declared.op.header.Metadata.{Metadata}
+use Rattle.hickory_wire.specs.declared.op.message.Message.{Message}
 
 -- the high eight bits of the response code, which the OPT record has (RFC 6891 section 6.1.3)
 abbrev pub high_code : Option EdnsFields → ℕ

@@ -1,7 +1,7 @@
 -- Reading from left to right, with the first fault that is met.
 use Rattle.std.specs.Prelude.{◌≡◌, ◌≢◌, ℕ, ◌+◌, List, length, take, drop, Result, Ok, Err, nat_lt, if◌then◌else◌}
 use Rattle.std.specs.Int.{Width, byte_len, from_be_bytes}
-use Rattle.hickory_wire.specs.Cursor.{Cursor}
+use Rattle.hickory_wire.specs.serialize.reading.Cursor.{Cursor}
 use Rattle.hickory_wire.specs.declared.error.DecodeError.{DecodeError}
 use Rattle.hickory_wire.specs.declared.error.DecodeError.TheVariants.{InsufficientBytes, Memory}
 

@@ -1,17 +1,17 @@
 -- Resource records and questions as they are read, with the first fault that is met (RFC 1035 sections 4.1.2 and 4.1.3).
 use Rattle.std.specs.Prelude.{ℕ, zero, suc, ◌+◌, ◌-◌, ◌*◌, ◌^◌, List, [], ◌∷◌, length, take, drop, Option, Some, None, option_map, unwrap_or, Ok, Err, nat_lt, ◌==◌, ◌&&◌, ◌||◌, not, if◌then◌else◌}
 use Rattle.std.specs.Int.{w16, w32, from_be_bytes}
-use Rattle.hickory_wire.specs.Addresses.{ipv4_of, ipv6_of}
-use Rattle.hickory_wire.specs.Cursor.{Cursor}
-use Rattle.hickory_wire.specs.Reading.{Read, ◌>>=◌, number, octets, rest_of, moved}
-use Rattle.hickory_wire.specs.NameReading.{name}
+use Rattle.hickory_wire.specs.rr.Addresses.{ipv4_of, ipv6_of}
+use Rattle.hickory_wire.specs.serialize.reading.Cursor.{Cursor}
+use Rattle.hickory_wire.specs.serialize.reading.Reading.{Read, ◌>>=◌, number, octets, rest_of, moved}
+use Rattle.hickory_wire.specs.serialize.reading.NameReading.{name}
 use Rattle.hickory_wire.specs.declared.error.DecodeError.TheVariants.{InsufficientBytes, IncorrectDataLength}
-use Rattle.hickory_wire.specs.declared.edns.EdnsOption.{EdnsOption}
-use Rattle.hickory_wire.specs.declared.query.Query.{Query}
-use Rattle.hickory_wire.specs.declared.rdata.RData.{RData}
-use Rattle.hickory_wire.specs.declared.rdata.RData.TheVariants as rdata
-use Rattle.hickory_wire.specs.declared.record.Proof.TheVariants.{Indeterminate}
-use Rattle.hickory_wire.specs.declared.record.Record.{Record}
+use Rattle.hickory_wire.specs.declared.op.edns.EdnsOption.{EdnsOption}
+use Rattle.hickory_wire.specs.declared.op.query.Query.{Query}
+use Rattle.hickory_wire.specs.declared.rr.rdata.RData.{RData}
+use Rattle.hickory_wire.specs.declared.rr.rdata.RData.TheVariants as rdata
+use Rattle.hickory_wire.specs.declared.rr.record.Proof.TheVariants.{Indeterminate}
+use Rattle.hickory_wire.specs.declared.rr.record.Record.{Record}
 
 abbrev pub first_byte : List ℕ → ℕ
 first_byte [] = 0

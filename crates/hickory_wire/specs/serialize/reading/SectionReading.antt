@@ -1,20 +1,20 @@
 -- Headers and sections as they are read, with the first fault that is met (RFC 1035 section 4.1).
 use Rattle.std.specs.Prelude.{ℕ, zero, suc, ◌/◌, ◌%◌, ◌^◌, List, [], ◌∷◌, ◌++◌, length, Bool, not, ◌||◌, Option, Some, None, is_some, Result, Ok, Err, ◌==◌, if◌then◌else◌}
 use Rattle.std.specs.Int.{w16}
-use Rattle.hickory_wire.specs.Cursor.{Cursor}
-use Rattle.hickory_wire.specs.EdnsFields.{EdnsFields}
-use Rattle.hickory_wire.specs.HeaderLayout.{metadata_of}
-use Rattle.hickory_wire.specs.Reading.{Read, ◌>>=◌, number}
-use Rattle.hickory_wire.specs.RecordData.{type_of}
-use Rattle.hickory_wire.specs.RecordReading.{byte, resource}
-use Rattle.hickory_wire.specs.declared.edns.EdnsOption.{EdnsOption}
+use Rattle.hickory_wire.specs.serialize.reading.Cursor.{Cursor}
+use Rattle.hickory_wire.specs.op.EdnsFields.{EdnsFields}
+use Rattle.hickory_wire.specs.serialize.layout.HeaderLayout.{metadata_of}
+use Rattle.hickory_wire.specs.serialize.reading.Reading.{Read, ◌>>=◌, number}
+use Rattle.hickory_wire.specs.rr.RecordData.{type_of}
+use Rattle.hickory_wire.specs.serialize.reading.RecordReading.{byte, resource}
+use Rattle.hickory_wire.specs.declared.op.edns.EdnsOption.{EdnsOption}
 use Rattle.hickory_wire.specs.declared.error.DecodeError.{DecodeError}
 use Rattle.hickory_wire.specs.declared.error.DecodeError.TheVariants.{RecordNotInAdditionals, RecordAfterSignature, DuplicateEdns, EdnsNameNotRoot}
-use Rattle.hickory_wire.specs.declared.header.Header.{Header}
-use Rattle.hickory_wire.specs.declared.rdata.RData.{RData}
-use Rattle.hickory_wire.specs.declared.rdata.RData.TheVariants as rdata
-use Rattle.hickory_wire.specs.declared.record.Record.{Record}
-use Rattle.hickory_wire.specs.declared.tsig.TSIG.{TSIG}
+use Rattle.hickory_wire.specs.declared.op.header.Header.{Header}
+use Rattle.hickory_wire.specs.declared.rr.rdata.RData.{RData}
+use Rattle.hickory_wire.specs.declared.rr.rdata.RData.TheVariants as rdata
+use Rattle.hickory_wire.specs.declared.rr.record.Record.{Record}
+use Rattle.hickory_wire.specs.declared.rr.tsig.TSIG.{TSIG}
 
 unfoldable pub header : Cursor → Read Header
 header c = do

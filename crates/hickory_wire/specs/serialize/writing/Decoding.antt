@@ -1,20 +1,20 @@
 -- What reading gives of a reply that was written.
 use Rattle.std.specs.Prelude.{◌≡◌, ℕ, zero, suc, ◌%◌, ◌<◌, ◌^◌, List, ◌++◌, length, take, map, ◌||◌, Option, None, option_map, IfSome}
 use Rattle.std.specs.List.{AllByRecursion}
-use Rattle.hickory_wire.specs.EdnsFields.{EdnsFields}
-use Rattle.hickory_wire.specs.MessageLayout.{ItemsAt, IsSectionRecord, tsig_record}
-use Rattle.hickory_wire.specs.MessageReading.{high_code, with_high_code}
-use Rattle.hickory_wire.specs.QuestionLayout.{QuestionAt, IsFormedQuestion}
-use Rattle.hickory_wire.specs.RecordData.{IsOption}
-use Rattle.hickory_wire.specs.RecordLayout.{IsFormedRecord}
-use Rattle.hickory_wire.specs.Reply.{Reply}
-use Rattle.hickory_wire.specs.Writing.{Fronts, asked_bytes, is_any_cut}
-use Rattle.hickory_wire.specs.declared.header.Metadata.{Metadata}
-use Rattle.hickory_wire.specs.declared.message.Message.{Message}
-use Rattle.hickory_wire.specs.declared.query.Query.{Query}
-use Rattle.hickory_wire.specs.declared.rdata.RData.{RData}
-use Rattle.hickory_wire.specs.declared.record.Proof.TheVariants.{Indeterminate}
-use Rattle.hickory_wire.specs.declared.record.Record.{Record}
+use Rattle.hickory_wire.specs.op.EdnsFields.{EdnsFields}
+use Rattle.hickory_wire.specs.serialize.layout.MessageLayout.{ItemsAt, IsSectionRecord, tsig_record}
+use Rattle.hickory_wire.specs.serialize.reading.MessageReading.{high_code, with_high_code}
+use Rattle.hickory_wire.specs.serialize.layout.QuestionLayout.{QuestionAt, IsFormedQuestion}
+use Rattle.hickory_wire.specs.rr.RecordData.{IsOption}
+use Rattle.hickory_wire.specs.serialize.layout.RecordLayout.{IsFormedRecord}
+use Rattle.hickory_wire.specs.serialize.writing.Reply.{Reply}
+use Rattle.hickory_wire.specs.serialize.writing.Writing.{Fronts, asked_bytes, is_any_cut}
+use Rattle.hickory_wire.specs.declared.op.header.Metadata.{Metadata}
+use Rattle.hickory_wire.specs.declared.op.message.Message.{Message}
+use Rattle.hickory_wire.specs.declared.op.query.Query.{Query}
+use Rattle.hickory_wire.specs.declared.rr.rdata.RData.{RData}
+use Rattle.hickory_wire.specs.declared.rr.record.Proof.TheVariants.{Indeterminate}
+use Rattle.hickory_wire.specs.declared.rr.record.Record.{Record}
 
 -- the record as it is read: nothing is known of its proof
 abbrev pub without_proof : {R : Type 0} → Record R → Record R

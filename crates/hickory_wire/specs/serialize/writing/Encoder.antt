@@ -1,6 +1,6 @@
 -- What a caller sees of an encoder: the bytes of the vector that it borrows, the limit, and which vector it is.
 use Rattle.std.specs.Prelude.{◌≡◌, ℕ, List}
-use Rattle.hickory_wire.specs.declared.encoder.BinEncoder.{BinEncoder}
+use Rattle.hickory_wire.specs.declared.serialize.writing.encoder.BinEncoder.{BinEncoder}
 
 -- the bytes that were written
 abbrev pub written_bytes : BinEncoder → List ℕ

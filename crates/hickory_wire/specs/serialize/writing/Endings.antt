@@ -2,16 +2,16 @@
 use Rattle.std.specs.Prelude.{◌≡◌, ℕ, ◌+◌, ◌<◌, List, [], ◌∷◌, ◌++◌, length, map, true, false, Option, Some, None}
 use Rattle.std.specs.Borrow.{Bor}
 use Rattle.std.specs.Iterator.{Drains}
-use Rattle.hickory_wire.specs.RecordSize.{full_size, form_fault}
-use Rattle.hickory_wire.specs.Writing as writing
-use Rattle.hickory_wire.specs.Writing.{Puts, ListWritten, ListFront, ListsWritten}
+use Rattle.hickory_wire.specs.serialize.writing.RecordSize.{full_size, form_fault}
+use Rattle.hickory_wire.specs.serialize.writing.Writing as writing
+use Rattle.hickory_wire.specs.serialize.writing.Writing.{Puts, ListWritten, ListFront, ListsWritten}
 use Rattle.hickory_wire.specs.declared.error.ProtoError.{ProtoError}
-use Rattle.hickory_wire.specs.declared.list_encoder.Front.{Front}
-use Rattle.hickory_wire.specs.declared.list_encoder.Run.{Run}
-use Rattle.hickory_wire.specs.declared.rdata.RData.{RData}
-use Rattle.hickory_wire.specs.declared.record.Record.{Record}
-use Rattle.hickory_wire.specs.declared.record_encoder.Ending.{Ending}
-use Rattle.hickory_wire.specs.declared.record_encoder.Ending.TheVariants.{Whole, Cut, Stuck}
+use Rattle.hickory_wire.specs.declared.serialize.writing.list_encoder.Front.{Front}
+use Rattle.hickory_wire.specs.declared.serialize.writing.list_encoder.Run.{Run}
+use Rattle.hickory_wire.specs.declared.rr.rdata.RData.{RData}
+use Rattle.hickory_wire.specs.declared.rr.record.Record.{Record}
+use Rattle.hickory_wire.specs.declared.serialize.writing.record_encoder.Ending.{Ending}
+use Rattle.hickory_wire.specs.declared.serialize.writing.record_encoder.Ending.TheVariants.{Whole, Cut, Stuck}
 
 -- A record is put; or it has a form in bytes, but in full it passes the limit; or it has none. But for the first nothing changes.
 abbrev pub RecordEnds : ℕ → List ℕ → Record RData → List ℕ → Ending → Type 0

@@ -3,16 +3,16 @@ use Rattle.std.specs.Prelude.{◌≡◌, ℕ, List, [], ◌∷◌, ◌++◌, Som
 use Rattle.std.specs.List.{flat_map}
 use Rattle.std.specs.Int.{w16, to_be_bytes}
 use Rattle.std.specs.Net.Addr.{ipv4_octets, ipv6_octets}
-use Rattle.hickory_wire.specs.DomainName.{wire_form, AreLabels}
-use Rattle.hickory_wire.specs.RecordData.{character_string, option_octets, soa_numbers, tsig_fields}
-use Rattle.hickory_wire.specs.RecordLayout.{fixed_fields}
-use Rattle.hickory_wire.specs.RecordSize.{data_len, form_fault}
+use Rattle.hickory_wire.specs.rr.domain.DomainName.{wire_form, AreLabels}
+use Rattle.hickory_wire.specs.rr.RecordData.{character_string, option_octets, soa_numbers, tsig_fields}
+use Rattle.hickory_wire.specs.serialize.layout.RecordLayout.{fixed_fields}
+use Rattle.hickory_wire.specs.serialize.writing.RecordSize.{data_len, form_fault}
 use Rattle.hickory_wire.specs.declared.error.ProtoError.{ProtoError}
-use Rattle.hickory_wire.specs.declared.rdata.RData.{RData}
-use Rattle.hickory_wire.specs.declared.rdata.RData.TheVariants as rdata
-use Rattle.hickory_wire.specs.declared.rdata.SOA.{SOA}
-use Rattle.hickory_wire.specs.declared.record.Record.{Record}
-use Rattle.hickory_wire.specs.declared.tsig.TSIG.{TSIG}
+use Rattle.hickory_wire.specs.declared.rr.rdata.RData.{RData}
+use Rattle.hickory_wire.specs.declared.rr.rdata.RData.TheVariants as rdata
+use Rattle.hickory_wire.specs.declared.rr.rdata.SOA.{SOA}
+use Rattle.hickory_wire.specs.declared.rr.record.Record.{Record}
+use Rattle.hickory_wire.specs.declared.rr.tsig.TSIG.{TSIG}
 
 -- a name with its end byte
 abbrev pub name_octets : List (List ℕ) → List ℕ

@@ -1,9 +1,9 @@
 -- Questions as octets with their names in full (RFC 1035 section 4.1.2).
 use Rattle.std.specs.Prelude.{ℕ, List, ◌++◌}
 use Rattle.std.specs.Int.{w16, to_be_bytes}
-use Rattle.hickory_wire.specs.FullForm.{name_octets}
-use Rattle.hickory_wire.specs.NameOrder.{lower_name}
-use Rattle.hickory_wire.specs.declared.query.Query.{Query}
+use Rattle.hickory_wire.specs.serialize.writing.FullForm.{name_octets}
+use Rattle.hickory_wire.specs.rr.domain.NameOrder.{lower_name}
+use Rattle.hickory_wire.specs.declared.op.query.Query.{Query}
 
 -- name, type and class
 abbrev pub question_octets : Query → List ℕ

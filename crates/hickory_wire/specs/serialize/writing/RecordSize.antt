@@ -2,13 +2,13 @@
 use Rattle.std.specs.Prelude.{◌≡◌, ℕ, ◌+◌, ◌<◌, ◌^◌, length, Option, Some, None, nat_lt, nat_le, if◌then◌else◌}
 use Rattle.std.specs.List.{flat_map, list_any}
 use Rattle.std.specs.Net.Addr.{ipv4_octets, ipv6_octets}
-use Rattle.hickory_wire.specs.DomainName.{name_len}
-use Rattle.hickory_wire.specs.RecordData.{character_string, option_octets, tsig_fields}
+use Rattle.hickory_wire.specs.rr.domain.DomainName.{name_len}
+use Rattle.hickory_wire.specs.rr.RecordData.{character_string, option_octets, tsig_fields}
 use Rattle.hickory_wire.specs.declared.error.ProtoError.{ProtoError}
 use Rattle.hickory_wire.specs.declared.error.ProtoError.TheVariants.{CharacterDataTooLong, DataTooLong}
-use Rattle.hickory_wire.specs.declared.rdata.RData.{RData}
-use Rattle.hickory_wire.specs.declared.rdata.RData.TheVariants as rdata
-use Rattle.hickory_wire.specs.declared.record.Record.{Record}
+use Rattle.hickory_wire.specs.declared.rr.rdata.RData.{RData}
+use Rattle.hickory_wire.specs.declared.rr.rdata.RData.TheVariants as rdata
+use Rattle.hickory_wire.specs.declared.rr.record.Record.{Record}
 
 -- how many bytes data take with every name in full
 abbrev pub data_len : RData → ℕ

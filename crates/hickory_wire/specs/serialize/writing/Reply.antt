@@ -1,16 +1,16 @@
 -- A reply before it is written, for all layers (RFC 1035 section 4.1, RFC 6891 section 6.1.1, RFC 8945 section 5.1).
 use Rattle.std.specs.Prelude.{ℕ, ◌+◌, ◌*◌, ◌^◌, true, List, [], ◌∷◌, ◌++◌, Option, Some, None, option_to_list, option_map}
-use Rattle.hickory_wire.specs.EdnsFields.{EdnsFields}
-use Rattle.hickory_wire.specs.HeaderLayout.{flag}
-use Rattle.hickory_wire.specs.MessageLayout.{tsig_record}
-use Rattle.hickory_wire.specs.declared.header.Metadata.{Metadata}
+use Rattle.hickory_wire.specs.op.EdnsFields.{EdnsFields}
+use Rattle.hickory_wire.specs.serialize.layout.HeaderLayout.{flag}
+use Rattle.hickory_wire.specs.serialize.layout.MessageLayout.{tsig_record}
+use Rattle.hickory_wire.specs.declared.op.header.Metadata.{Metadata}
 use Rattle.hickory_wire.specs.declared.protocol.Protocol.{Protocol}
 use Rattle.hickory_wire.specs.declared.protocol.Protocol.TheVariants as protocol
-use Rattle.hickory_wire.specs.declared.rdata.RData.{RData}
-use Rattle.hickory_wire.specs.declared.rdata.RData.TheVariants as rdata
-use Rattle.hickory_wire.specs.declared.record.Proof.TheVariants.{Indeterminate}
-use Rattle.hickory_wire.specs.declared.record.Record.{Record}
-use Rattle.hickory_wire.specs.declared.tsig.TSIG.{TSIG}
+use Rattle.hickory_wire.specs.declared.rr.rdata.RData.{RData}
+use Rattle.hickory_wire.specs.declared.rr.rdata.RData.TheVariants as rdata
+use Rattle.hickory_wire.specs.declared.rr.record.Proof.TheVariants.{Indeterminate}
+use Rattle.hickory_wire.specs.declared.rr.record.Record.{Record}
+use Rattle.hickory_wire.specs.declared.rr.tsig.TSIG.{TSIG}
 
 -- The question section is repeated as the bytes that the request had, and the number of its questions is told beside them.
 pub record Reply : Type 0 where

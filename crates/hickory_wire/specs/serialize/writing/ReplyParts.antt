@@ -2,22 +2,22 @@
 use Rattle.std.specs.Prelude.{◌≡◌, ℕ, ◌+◌, ◌<◌, List, length, ◌||◌, Option, None}
 use Rattle.std.specs.Borrow.{Bor}
 use Rattle.std.specs.Option.{option_copied}
-use Rattle.hickory_wire.specs.Decoding.{IsDecodable, decoded_message}
-use Rattle.hickory_wire.specs.Endings.{GivesRecords}
-use Rattle.hickory_wire.specs.MessageLayout.{MessageAt}
-use Rattle.hickory_wire.specs.MessageReading.{Reads}
-use Rattle.hickory_wire.specs.Reply.{Reply, reply_lists}
-use Rattle.hickory_wire.specs.Writing.{ListFront, ListsWritten, Fronts, fronts_list, is_any_cut, Written, GetsStuck, Encoded, written_header}
+use Rattle.hickory_wire.specs.serialize.writing.Decoding.{IsDecodable, decoded_message}
+use Rattle.hickory_wire.specs.serialize.writing.Endings.{GivesRecords}
+use Rattle.hickory_wire.specs.serialize.layout.MessageLayout.{MessageAt}
+use Rattle.hickory_wire.specs.serialize.reading.MessageReading.{Reads}
+use Rattle.hickory_wire.specs.serialize.writing.Reply.{Reply, reply_lists}
+use Rattle.hickory_wire.specs.serialize.writing.Writing.{ListFront, ListsWritten, Fronts, fronts_list, is_any_cut, Written, GetsStuck, Encoded, written_header}
 use Rattle.hickory_wire.specs.declared.error.ProtoError.{ProtoError}
 use Rattle.hickory_wire.specs.declared.error.ProtoError.TheVariants.{MaxSizeExceeded}
-use Rattle.hickory_wire.specs.declared.header.Header.{Header}
-use Rattle.hickory_wire.specs.declared.header.Metadata.{Metadata}
-use Rattle.hickory_wire.specs.declared.list_encoder.Front.{Front}
-use Rattle.hickory_wire.specs.declared.message_encoder.ReplyParts.{ReplyParts}
-use Rattle.hickory_wire.specs.declared.message_encoder.Sections.{Sections}
-use Rattle.hickory_wire.specs.declared.query.Query.{Query}
-use Rattle.hickory_wire.specs.declared.rdata.RData.{RData}
-use Rattle.hickory_wire.specs.declared.record.Record.{Record}
+use Rattle.hickory_wire.specs.declared.op.header.Header.{Header}
+use Rattle.hickory_wire.specs.declared.op.header.Metadata.{Metadata}
+use Rattle.hickory_wire.specs.declared.serialize.writing.list_encoder.Front.{Front}
+use Rattle.hickory_wire.specs.declared.serialize.writing.message_encoder.ReplyParts.{ReplyParts}
+use Rattle.hickory_wire.specs.declared.serialize.writing.message_encoder.Sections.{Sections}
+use Rattle.hickory_wire.specs.declared.op.query.Query.{Query}
+use Rattle.hickory_wire.specs.declared.rr.rdata.RData.{RData}
+use Rattle.hickory_wire.specs.declared.rr.record.Record.{Record}
 
 -- the records of the four lists
 pub record RecordLists : Type 0 where

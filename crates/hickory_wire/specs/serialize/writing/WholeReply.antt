@@ -1,11 +1,11 @@
 -- Replies that fit the limit whole.
 use Rattle.std.specs.Prelude.{◌≡◌, ℕ, ◌+◌, ◌≤◌, List, length, map, sum_by, false, None}
 use Rattle.std.specs.List.{AllByRecursion}
-use Rattle.hickory_wire.specs.RecordSize.{full_size, form_fault}
-use Rattle.hickory_wire.specs.Reply.{Reply, reply_lists}
-use Rattle.hickory_wire.specs.Writing.{Fronts, ListFront, fronts_list, is_any_cut}
-use Rattle.hickory_wire.specs.declared.rdata.RData.{RData}
-use Rattle.hickory_wire.specs.declared.record.Record.{Record}
+use Rattle.hickory_wire.specs.serialize.writing.RecordSize.{full_size, form_fault}
+use Rattle.hickory_wire.specs.serialize.writing.Reply.{Reply, reply_lists}
+use Rattle.hickory_wire.specs.serialize.writing.Writing.{Fronts, ListFront, fronts_list, is_any_cut}
+use Rattle.hickory_wire.specs.declared.rr.rdata.RData.{RData}
+use Rattle.hickory_wire.specs.declared.rr.record.Record.{Record}
 
 -- the record has a form in bytes
 abbrev pub HasForm : Record RData → Type 0

@@ -1,17 +1,17 @@
 -- What bytes a reply may be written as under a limit (RFC 1035 sections 4.1.1, 4.1.4 and 4.2.1).
 -- Records are left out one by one, and TC tells of any that were: also of additionals, which RFC 2181 section 9 would let go silently.
 use Rattle.std.specs.Prelude.{◌≡◌, ℕ, ◌+◌, ◌<◌, ◌≤◌, List, [], ◌∷◌, ◌++◌, length, take, drop, replicate, Bool, true, false, ◌||◌, Option, Some, None}
-use Rattle.hickory_wire.specs.FullForm.{EndsInFull}
-use Rattle.hickory_wire.specs.HeaderLayout.{header_octets}
-use Rattle.hickory_wire.specs.Metadata.{bare_metadata}
-use Rattle.hickory_wire.specs.RecordLayout.{FormAt}
-use Rattle.hickory_wire.specs.RecordSize.{full_size, form_fault}
-use Rattle.hickory_wire.specs.Reply.{Reply, reply_lists}
+use Rattle.hickory_wire.specs.serialize.writing.FullForm.{EndsInFull}
+use Rattle.hickory_wire.specs.serialize.layout.HeaderLayout.{header_octets}
+use Rattle.hickory_wire.specs.op.Metadata.{bare_metadata}
+use Rattle.hickory_wire.specs.serialize.layout.RecordLayout.{FormAt}
+use Rattle.hickory_wire.specs.serialize.writing.RecordSize.{full_size, form_fault}
+use Rattle.hickory_wire.specs.serialize.writing.Reply.{Reply, reply_lists}
 use Rattle.hickory_wire.specs.declared.error.ProtoError.{ProtoError}
-use Rattle.hickory_wire.specs.declared.header.Header.{Header}
-use Rattle.hickory_wire.specs.declared.header.MessageType.TheVariants.{Response}
-use Rattle.hickory_wire.specs.declared.rdata.RData.{RData}
-use Rattle.hickory_wire.specs.declared.record.Record.{Record}
+use Rattle.hickory_wire.specs.declared.op.header.Header.{Header}
+use Rattle.hickory_wire.specs.declared.op.header.MessageType.TheVariants.{Response}
+use Rattle.hickory_wire.specs.declared.rr.rdata.RData.{RData}
+use Rattle.hickory_wire.specs.declared.rr.record.Record.{Record}
 
 -- new is old with the record behind it, in at most its full size and within the limit. Names in it may be compressed by pointers to
 -- earlier places outside the header at which the same labels stand (RFC 1035 section 4.1.4); a pointer reaches places below 2 ^ 14. The data of

@@ -3,8 +3,8 @@
 ghost use Rattle.std.specs.Prelude.{◌≡◌, ◌+◌, ◌<◌, ◌≤◌, ℕ, length, reverse, slice_index, take, drop};
 ghost use Rattle.std.specs.Ordering.{nat_cmp};
 ghost use Rattle.std.specs.Cmp.Lexicographic.{slice_cmp};
-ghost use Rattle.hickory_wire.specs.DomainName.{IsWire, cut, label_offset};
-ghost use Rattle.hickory_wire.specs.NameOrder.{label_cmp};
+ghost use Rattle.hickory_wire.specs.rr.domain.DomainName.{IsWire, cut, label_offset};
+ghost use Rattle.hickory_wire.specs.rr.domain.NameOrder.{label_cmp};
 
 use std::cmp::Ordering;
 

@@ -1,9 +1,9 @@
 //! The labels of a name that is being made.
 
 ghost use Rattle.std.specs.Prelude.{◌≡◌, ◌+◌, ◌<◌, [], ◌∷◌, ◌++◌, length, IfOk};
-ghost use Rattle.hickory_wire.specs.DomainName.{DomainName, wire_form, IsLabel};
+ghost use Rattle.hickory_wire.specs.rr.domain.DomainName.{DomainName, wire_form, IsLabel};
 
-use crate::name::Name;
+use crate::rr::domain::name::Name;
 use std::alloc::{AllocError, Global};
 use std::marker::Model;
 
@@ -21,7 +21,7 @@ pub struct Labels {
 
 impl Model for Labels {
     ghost use Rattle.std.specs.Prelude.{List, ℕ, take, ◌<◌};
-    ghost use Rattle.hickory_wire.specs.DomainName.{IsWire, cut};
+    ghost use Rattle.hickory_wire.specs.rr.domain.DomainName.{IsWire, cut};
 
     ghost Value = { List (List ℕ) };
 

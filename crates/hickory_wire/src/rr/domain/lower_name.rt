@@ -5,11 +5,11 @@ ghost use Rattle.std.specs.Ordering.{as_partial_cmp};
 ghost use Rattle.std.specs.Cmp.{eq_by_cmp_equiv, partial_equiv_from_equiv, partial_order_from_total};
 ghost use Rattle.std.specs.Cmp.Rules.{comparing};
 ghost use Rattle.std.proofs.Common.{rules};
-ghost use Rattle.hickory_wire.specs.DomainName.{DomainName};
-ghost use Rattle.hickory_wire.specs.NameOrder.{name_cmp, name_eq, name_cmp_total, lower_name, lower_labels};
-ghost use Rattle.hickory_wire.specs.NameHash.{name_hash_input, name_hash_alike};
+ghost use Rattle.hickory_wire.specs.rr.domain.DomainName.{DomainName};
+ghost use Rattle.hickory_wire.specs.rr.domain.NameOrder.{name_cmp, name_eq, name_cmp_total, lower_name, lower_labels};
+ghost use Rattle.hickory_wire.specs.rr.domain.NameHash.{name_hash_input, name_hash_alike};
 
-use crate::name::Name;
+use crate::rr::domain::name::Name;
 use std::alloc::{AllocError, Global};
 use std::cmp::Ordering;
 use std::hash::{Hash, Hasher};
@@ -25,8 +25,8 @@ pub struct LowerName {
 
 impl Model for LowerName {
     ghost use Rattle.std.specs.Prelude.{◌≡◌};
-    ghost use Rattle.hickory_wire.specs.DomainName.{DomainName};
-    ghost use Rattle.hickory_wire.specs.NameOrder.{lower_labels};
+    ghost use Rattle.hickory_wire.specs.rr.domain.DomainName.{DomainName};
+    ghost use Rattle.hickory_wire.specs.rr.domain.NameOrder.{lower_labels};
 
     ghost Value = { DomainName };
 

@@ -5,13 +5,13 @@ ghost use Rattle.std.specs.Ordering.{eq_by_cmp, as_partial_cmp};
 ghost use Rattle.std.specs.Cmp.{eq_by_cmp_equiv, partial_equiv_from_equiv, partial_order_from_total};
 ghost use Rattle.std.specs.Cmp.Rules.{comparing};
 ghost use Rattle.std.proofs.Common.{rules};
-ghost use Rattle.hickory_wire.specs.DomainName.{DomainName, wire_form, IsWire, cut};
-ghost use Rattle.hickory_wire.specs.NameOrder.{name_cmp, name_eq, name_cmp_total, Encloses, is_wildcard, counted_labels, lower_name};
-ghost use Rattle.hickory_wire.specs.NameHash.{name_hash_input, name_hash_alike};
+ghost use Rattle.hickory_wire.specs.rr.domain.DomainName.{DomainName, wire_form, IsWire, cut};
+ghost use Rattle.hickory_wire.specs.rr.domain.NameOrder.{name_cmp, name_eq, name_cmp_total, Encloses, is_wildcard, counted_labels, lower_name};
+ghost use Rattle.hickory_wire.specs.rr.domain.NameHash.{name_hash_input, name_hash_alike};
 
-use crate::compare::compare_from_last;
-use crate::labels::MAX_NAME_LEN;
-use crate::wire::{ShortBytes, Wire};
+use crate::rr::domain::compare::compare_from_last;
+use crate::rr::domain::labels::MAX_NAME_LEN;
+use crate::rr::domain::wire::{ShortBytes, Wire};
 use std::alloc::{AllocError, Global};
 use std::cmp::Ordering;
 use std::hash::{Hash, Hasher};
@@ -31,8 +31,8 @@ pub struct Name {
 }
 
 impl Model for Name {
-    ghost use Rattle.hickory_wire.specs.DomainName.{DomainName, IsWire, cut};
-    ghost use Rattle.hickory_wire.specs.NameBytes.{wire_bytes};
+    ghost use Rattle.hickory_wire.specs.rr.domain.DomainName.{DomainName, IsWire, cut};
+    ghost use Rattle.hickory_wire.specs.rr.domain.NameBytes.{wire_bytes};
 
     ghost Value = { DomainName };
 

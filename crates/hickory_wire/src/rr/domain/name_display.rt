@@ -3,10 +3,10 @@
 ghost use Rattle.std.specs.Prelude.{◌≡◌, Some};
 ghost use Rattle.std.specs.Fmt.{WritesOnOk};
 ghost use Rattle.std.specs.Str.{IsAscii};
-ghost use Rattle.hickory_wire.specs.TextForm.{is_special, is_plain, byte_text, bytes_text, spelled_name};
+ghost use Rattle.hickory_wire.specs.text.TextForm.{is_special, is_plain, byte_text, bytes_text, spelled_name};
 
-use crate::lower_name::LowerName;
-use crate::name::Name;
+use crate::rr::domain::lower_name::LowerName;
+use crate::rr::domain::name::Name;
 use std::{fmt, str};
 
 /// A byte of a text, escaped where it would not stand for itself.

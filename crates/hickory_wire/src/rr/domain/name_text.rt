@@ -2,13 +2,13 @@
 
 ghost use Rattle.std.specs.Prelude.{◌≡◌, ◌↔◌, ◌⊎◌, [], length, ◌==◌, IfOk, IsTrue, MatchOption, Ok, Err, List, ℕ, Bool};
 ghost use Rattle.std.specs.List.{position, position_or_len};
-ghost use Rattle.hickory_wire.specs.DomainName.{DomainName};
-ghost use Rattle.hickory_wire.specs.NameText.{IsNameByte, IsTextLabel, IsNameText};
+ghost use Rattle.hickory_wire.specs.rr.domain.DomainName.{DomainName};
+ghost use Rattle.hickory_wire.specs.rr.domain.NameText.{IsNameByte, IsTextLabel, IsNameText};
 ghost use Rattle.hickory_wire.specs.declared.error.NameError.TheVariants.{Text, Memory};
 
 use crate::error::NameError;
-use crate::labels::{Labels, MAX_NAME_LEN};
-use crate::name::Name;
+use crate::rr::domain::labels::{Labels, MAX_NAME_LEN};
+use crate::rr::domain::name::Name;
 use std::alloc::Global;
 
 /// Whether a byte may stand in a label of a text.

@@ -2,7 +2,7 @@
 
 ghost use Rattle.std.specs.Prelude.{◌≡◌, ◌≤◌, [], length, drop, map, IfOk};
 ghost use Rattle.std.specs.Char.{to_ascii_lowercase};
-ghost use Rattle.hickory_wire.specs.NameBytes.{wire_bytes};
+ghost use Rattle.hickory_wire.specs.rr.domain.NameBytes.{wire_bytes};
 
 use std::alloc::{AllocError, Global};
 use std::marker::Model;

@@ -1,17 +1,17 @@
 //! What an additional section holds (RFC 1035 section 4.1, RFC 6891 section 6.1.1, RFC 8945 section 5.1).
 
 ghost use Rattle.std.specs.Prelude.{◌≡◌, length, MatchResult, ◌==◌, Ok, IsTrue};
-ghost use Rattle.hickory_wire.specs.Reading.{Fails};
-ghost use Rattle.hickory_wire.specs.SectionReading.{add_record, no_additionals};
+ghost use Rattle.hickory_wire.specs.serialize.reading.Reading.{Fails};
+ghost use Rattle.hickory_wire.specs.serialize.reading.SectionReading.{add_record, no_additionals};
 
-use crate::boxed::Boxed;
-use crate::edns::Edns;
 use crate::error::DecodeError;
-use crate::items::Items;
-use crate::name::Name;
-use crate::rdata::RData;
-use crate::record::Record;
-use crate::tsig::TSIG;
+use crate::op::edns::Edns;
+use crate::rr::domain::name::Name;
+use crate::rr::rdata::RData;
+use crate::rr::record::Record;
+use crate::rr::tsig::TSIG;
+use crate::values::boxed::Boxed;
+use crate::values::items::Items;
 use std::alloc::Global;
 use std::marker::Model;
 
@@ -24,7 +24,7 @@ pub struct Additionals {
 }
 
 impl Model for Additionals {
-    ghost use Rattle.hickory_wire.specs.SectionReading.{Additionals};
+    ghost use Rattle.hickory_wire.specs.serialize.reading.SectionReading.{Additionals};
 
     ghost Value = { Additionals };
 

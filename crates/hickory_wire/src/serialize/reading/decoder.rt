@@ -2,17 +2,17 @@
 
 ghost use Rattle.std.specs.Prelude.{◌≡◌, ◌≢◌, IfOk, IfErr, ◌+◌, ◌^◌, ◌≤◌, ◌<◌, length, slice_range, ℕ};
 ghost use Rattle.std.specs.Int.{w8, w16, w32};
-ghost use Rattle.hickory_wire.specs.Bytes.{AreBytes};
-ghost use Rattle.hickory_wire.specs.Cursor.{Cursor};
-ghost use Rattle.hickory_wire.specs.DomainName.{DomainName};
-ghost use Rattle.hickory_wire.specs.Reading.{Gives, number, octets, rest_of};
-ghost use Rattle.hickory_wire.specs.NameLayout.{NameAt, NameFault, IsFullyQualified};
-ghost use Rattle.hickory_wire.specs.NameReading.{name};
+ghost use Rattle.hickory_wire.specs.serialize.layout.Bytes.{AreBytes};
+ghost use Rattle.hickory_wire.specs.serialize.reading.Cursor.{Cursor};
+ghost use Rattle.hickory_wire.specs.rr.domain.DomainName.{DomainName};
+ghost use Rattle.hickory_wire.specs.serialize.reading.Reading.{Gives, number, octets, rest_of};
+ghost use Rattle.hickory_wire.specs.serialize.layout.NameLayout.{NameAt, NameFault, IsFullyQualified};
+ghost use Rattle.hickory_wire.specs.serialize.reading.NameReading.{name};
 ghost use Rattle.hickory_wire.specs.declared.error.DecodeError.TheVariants.{Memory, InsufficientBytes};
 
 use crate::error::DecodeError;
-use crate::name::Name;
-use crate::name_reader::read_name_at;
+use crate::rr::domain::name::Name;
+use crate::serialize::reading::name_reader::read_name_at;
 use bytes::Buf;
 use std::alloc::Global;
 use std::marker::Model;

@@ -1,12 +1,12 @@
 //! The options that the data of an OPT record are made of (RFC 6891 section 6.1.2).
 
 ghost use Rattle.std.specs.Prelude.{◌≡◌, ◌≤◌, IfOk, IfSome, IfNone, true, false, length, take, drop};
-ghost use Rattle.hickory_wire.specs.OptionReading.{option_code, option_len, ends_early};
-ghost use Rattle.hickory_wire.specs.RecordReading.{options_of};
+ghost use Rattle.hickory_wire.specs.serialize.reading.OptionReading.{option_code, option_len, ends_early};
+ghost use Rattle.hickory_wire.specs.serialize.reading.RecordReading.{options_of};
 
-use crate::edns::EdnsOption;
-use crate::items::Items;
-use crate::octets::Octets;
+use crate::op::edns::EdnsOption;
+use crate::values::items::Items;
+use crate::values::octets::Octets;
 use bytes::Buf;
 use std::alloc::{AllocError, Global};
 

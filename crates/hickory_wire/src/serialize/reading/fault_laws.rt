@@ -2,18 +2,18 @@
 //! that reading meets.
 
 ghost use Rattle.std.specs.Prelude.{◌≡◌, ◌↔◌, ◌⊎◌, ℕ, List, Err};
-ghost use Rattle.hickory_wire.specs.Bytes.{AreBytes};
-ghost use Rattle.hickory_wire.specs.MessageFaults.{MessageFault};
-ghost use Rattle.hickory_wire.specs.MessageLayout.{QuestionRead};
-ghost use Rattle.hickory_wire.specs.MessageReading.{Fault, Reads};
-ghost use Rattle.hickory_wire.specs.RecordFaults.{QuestionFault, RecordFault};
-ghost use Rattle.hickory_wire.specs.RecordLayout.{RecordAt};
-ghost use Rattle.hickory_wire.specs.RecordReading.{question, resource};
+ghost use Rattle.hickory_wire.specs.serialize.layout.Bytes.{AreBytes};
+ghost use Rattle.hickory_wire.specs.serialize.reading.MessageFaults.{MessageFault};
+ghost use Rattle.hickory_wire.specs.serialize.layout.MessageLayout.{QuestionRead};
+ghost use Rattle.hickory_wire.specs.serialize.reading.MessageReading.{Fault, Reads};
+ghost use Rattle.hickory_wire.specs.serialize.reading.RecordFaults.{QuestionFault, RecordFault};
+ghost use Rattle.hickory_wire.specs.serialize.layout.RecordLayout.{RecordAt};
+ghost use Rattle.hickory_wire.specs.serialize.reading.RecordReading.{question, resource};
 ghost use Rattle.hickory_wire.specs.declared.error.DecodeError.{DecodeError};
-ghost use Rattle.hickory_wire.specs.declared.message.Message.{Message};
-ghost use Rattle.hickory_wire.specs.declared.query.Query.{Query};
-ghost use Rattle.hickory_wire.specs.declared.rdata.RData.{RData};
-ghost use Rattle.hickory_wire.specs.declared.record.Record.{Record};
+ghost use Rattle.hickory_wire.specs.declared.op.message.Message.{Message};
+ghost use Rattle.hickory_wire.specs.declared.op.query.Query.{Query};
+ghost use Rattle.hickory_wire.specs.declared.rr.rdata.RData.{RData};
+ghost use Rattle.hickory_wire.specs.declared.rr.record.Record.{Record};
 
 /// The fault of a question is the one that reading meets. At each place there is a question or a fault, and one fault at most.
 pub fn question_faults()

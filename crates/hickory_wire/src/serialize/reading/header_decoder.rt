@@ -1,16 +1,16 @@
 //! Reading headers (RFC 1035 section 4.1.1).
 
 ghost use Rattle.std.specs.Prelude.{◌≡◌, ◌<◌, IfOk, IfErr};
-ghost use Rattle.hickory_wire.specs.HeaderLayout.{bit, metadata_of};
-ghost use Rattle.hickory_wire.specs.Reading.{Gives};
-ghost use Rattle.hickory_wire.specs.SectionReading.{header};
+ghost use Rattle.hickory_wire.specs.serialize.layout.HeaderLayout.{bit, metadata_of};
+ghost use Rattle.hickory_wire.specs.serialize.reading.Reading.{Gives};
+ghost use Rattle.hickory_wire.specs.serialize.reading.SectionReading.{header};
 ghost use Rattle.hickory_wire.specs.declared.error.DecodeError.TheVariants.{InsufficientBytes};
 
-use crate::decoder::BinDecoder;
 use crate::error::DecodeError;
-use crate::header::{Header, HeaderCounts, MessageType, Metadata};
-use crate::op_code::OpCode;
-use crate::response_code::ResponseCode;
+use crate::op::header::{Header, HeaderCounts, MessageType, Metadata};
+use crate::op::op_code::OpCode;
+use crate::op::response_code::ResponseCode;
+use crate::serialize::reading::decoder::BinDecoder;
 
 /// Whether a bit of a byte is set; bit 0 is the lowest.
 fn bit(byte: u8, k: u32) -> bool

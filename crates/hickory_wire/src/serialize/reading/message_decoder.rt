@@ -1,26 +1,26 @@
 //! Reading sections and whole messages (RFC 1035 section 4.1).
 
 ghost use Rattle.std.specs.Prelude.{◌≡◌, ◌≢◌, ◌<◌, [], IfOk, IfErr, MatchResult};
-ghost use Rattle.hickory_wire.specs.MessageFaults.{MessageFault};
-ghost use Rattle.hickory_wire.specs.MessageLayout.{MessageAt};
-ghost use Rattle.hickory_wire.specs.MessageReading.{message, high_code, with_high_code, Reads, Fault};
-ghost use Rattle.hickory_wire.specs.Reading.{Gives};
-ghost use Rattle.hickory_wire.specs.RecordReading.{question};
-ghost use Rattle.hickory_wire.specs.SectionReading.{items, is_additional_type, section_record, additionals_after, no_additionals};
+ghost use Rattle.hickory_wire.specs.serialize.reading.MessageFaults.{MessageFault};
+ghost use Rattle.hickory_wire.specs.serialize.layout.MessageLayout.{MessageAt};
+ghost use Rattle.hickory_wire.specs.serialize.reading.MessageReading.{message, high_code, with_high_code, Reads, Fault};
+ghost use Rattle.hickory_wire.specs.serialize.reading.Reading.{Gives};
+ghost use Rattle.hickory_wire.specs.serialize.reading.RecordReading.{question};
+ghost use Rattle.hickory_wire.specs.serialize.reading.SectionReading.{items, is_additional_type, section_record, additionals_after, no_additionals};
 ghost use Rattle.hickory_wire.specs.declared.error.DecodeError.TheVariants.{Memory};
-ghost use Rattle.hickory_wire.specs.declared.message.Message.{Message};
+ghost use Rattle.hickory_wire.specs.declared.op.message.Message.{Message};
 
-use crate::additionals::Additionals;
-use crate::decoder::BinDecoder;
-use crate::edns::Edns;
 use crate::error::DecodeError;
-use crate::header::Metadata;
-use crate::items::Items;
-use crate::message::Message;
-use crate::query::Query;
-use crate::record::Record;
-use crate::record_type::RecordType;
-use crate::response_code::ResponseCode;
+use crate::op::edns::Edns;
+use crate::op::header::Metadata;
+use crate::op::message::Message;
+use crate::op::query::Query;
+use crate::op::response_code::ResponseCode;
+use crate::rr::record::Record;
+use crate::rr::record_type::RecordType;
+use crate::serialize::reading::additionals::Additionals;
+use crate::serialize::reading::decoder::BinDecoder;
+use crate::values::items::Items;
 use std::alloc::Global;
 
 fn is_additional_type(kind: RecordType) -> bool

@@ -2,24 +2,24 @@
 
 ghost use Rattle.std.specs.Prelude.{◌≡◌, ◌↔◌, ◌<◌, ◌%◌, ◌^◌, ℕ, ◌++◌, ◌∷◌, List, [], length, Ok, None, Some, true, false};
 ghost use Rattle.std.specs.List.{AllByRecursion};
-ghost use Rattle.hickory_wire.specs.Bytes.{AreBytes, BytesAt};
-ghost use Rattle.hickory_wire.specs.HeaderLayout.{AreCounts, HeaderAt, first_flags, header_octets, metadata_of, second_flags};
-ghost use Rattle.hickory_wire.specs.MessageLayout.{AdditionalSection, IsSectionRecord, ItemsAt, MessageAt, QuestionRead};
-ghost use Rattle.hickory_wire.specs.MessageReading.{Fault, Reads, front_of, message};
-ghost use Rattle.hickory_wire.specs.Metadata.{bare_metadata};
-ghost use Rattle.hickory_wire.specs.RecordLayout.{RecordAt};
-ghost use Rattle.hickory_wire.specs.RecordReading.{question};
-ghost use Rattle.hickory_wire.specs.SectionReading.{Additionals, additionals_after, header, items, no_additionals, section_record};
+ghost use Rattle.hickory_wire.specs.serialize.layout.Bytes.{AreBytes, BytesAt};
+ghost use Rattle.hickory_wire.specs.serialize.layout.HeaderLayout.{AreCounts, HeaderAt, first_flags, header_octets, metadata_of, second_flags};
+ghost use Rattle.hickory_wire.specs.serialize.layout.MessageLayout.{AdditionalSection, IsSectionRecord, ItemsAt, MessageAt, QuestionRead};
+ghost use Rattle.hickory_wire.specs.serialize.reading.MessageReading.{Fault, Reads, front_of, message};
+ghost use Rattle.hickory_wire.specs.op.Metadata.{bare_metadata};
+ghost use Rattle.hickory_wire.specs.serialize.layout.RecordLayout.{RecordAt};
+ghost use Rattle.hickory_wire.specs.serialize.reading.RecordReading.{question};
+ghost use Rattle.hickory_wire.specs.serialize.reading.SectionReading.{Additionals, additionals_after, header, items, no_additionals, section_record};
 ghost use Rattle.hickory_wire.specs.declared.error.DecodeError.{DecodeError};
 ghost use Rattle.hickory_wire.specs.declared.error.DecodeError.TheVariants.{DuplicateEdns, EdnsNameNotRoot, InsufficientBytes, RecordAfterSignature, RecordNotInAdditionals};
-ghost use Rattle.hickory_wire.specs.declared.header.Header.{Header};
-ghost use Rattle.hickory_wire.specs.declared.header.Metadata.{Metadata};
-ghost use Rattle.hickory_wire.specs.declared.header.MessageType.TheVariants as message_type;
-ghost use Rattle.hickory_wire.specs.declared.message.Message.{Message};
-ghost use Rattle.hickory_wire.specs.declared.query.Query.{Query};
-ghost use Rattle.hickory_wire.specs.declared.rdata.RData.{RData};
-ghost use Rattle.hickory_wire.specs.declared.record.Proof.TheVariants.{Indeterminate};
-ghost use Rattle.hickory_wire.specs.declared.record.Record.{Record};
+ghost use Rattle.hickory_wire.specs.declared.op.header.Header.{Header};
+ghost use Rattle.hickory_wire.specs.declared.op.header.Metadata.{Metadata};
+ghost use Rattle.hickory_wire.specs.declared.op.header.MessageType.TheVariants as message_type;
+ghost use Rattle.hickory_wire.specs.declared.op.message.Message.{Message};
+ghost use Rattle.hickory_wire.specs.declared.op.query.Query.{Query};
+ghost use Rattle.hickory_wire.specs.declared.rr.rdata.RData.{RData};
+ghost use Rattle.hickory_wire.specs.declared.rr.record.Proof.TheVariants.{Indeterminate};
+ghost use Rattle.hickory_wire.specs.declared.rr.record.Record.{Record};
 
 /// A header that stands at the front of bytes is the one that is read there (RFC 1035 section 4.1.1), and the place behind it is 12.
 pub fn header_readings()

@@ -2,13 +2,13 @@
 
 ghost use Rattle.std.specs.Prelude.{◌≡◌, ◌↔◌, ◌≤◌, ◌++◌, ℕ, List, length, Ok, Err, IsTrue};
 ghost use Rattle.std.specs.declared.cmp.Ordering.TheVariants.{Equal};
-ghost use Rattle.hickory_wire.specs.Bytes.{KeepsFrom};
-ghost use Rattle.hickory_wire.specs.Cursor.{Cursor};
-ghost use Rattle.hickory_wire.specs.DomainName.{DomainName};
-ghost use Rattle.hickory_wire.specs.NameLayout.{NameAt, NameFault, IsFullyQualified};
-ghost use Rattle.hickory_wire.specs.NameOrder.{SameName, name_eq, name_cmp, lower_name, lower_labels};
-ghost use Rattle.hickory_wire.specs.NameHash.{name_hash_input};
-ghost use Rattle.hickory_wire.specs.NameReading.{name};
+ghost use Rattle.hickory_wire.specs.serialize.layout.Bytes.{KeepsFrom};
+ghost use Rattle.hickory_wire.specs.serialize.reading.Cursor.{Cursor};
+ghost use Rattle.hickory_wire.specs.rr.domain.DomainName.{DomainName};
+ghost use Rattle.hickory_wire.specs.serialize.layout.NameLayout.{NameAt, NameFault, IsFullyQualified};
+ghost use Rattle.hickory_wire.specs.rr.domain.NameOrder.{SameName, name_eq, name_cmp, lower_name, lower_labels};
+ghost use Rattle.hickory_wire.specs.rr.domain.NameHash.{name_hash_input};
+ghost use Rattle.hickory_wire.specs.serialize.reading.NameReading.{name};
 ghost use Rattle.hickory_wire.specs.declared.error.DecodeError.{DecodeError};
 
 /// What stands as a name is what is read, and a fault is what reading meets. A name stays where it is when bytes are

@@ -1,14 +1,14 @@
 //! Reading a name from the bytes of a message.
 
 ghost use Rattle.std.specs.Prelude.{◌≡◌, ◌≢◌, ◌≤◌, length, map, MatchResult, IfOk, IfSome, slice_get, ◌<◌, ◌+◌, true, Some, ℕ};
-ghost use Rattle.hickory_wire.specs.NameReading.{labels_from, target};
-ghost use Rattle.hickory_wire.specs.NameLayout.{LabelsFault};
-ghost use Rattle.hickory_wire.specs.DomainName.{AreLabels};
-ghost use Rattle.hickory_wire.specs.Reading.{Fails};
+ghost use Rattle.hickory_wire.specs.serialize.reading.NameReading.{labels_from, target};
+ghost use Rattle.hickory_wire.specs.serialize.layout.NameLayout.{LabelsFault};
+ghost use Rattle.hickory_wire.specs.rr.domain.DomainName.{AreLabels};
+ghost use Rattle.hickory_wire.specs.serialize.reading.Reading.{Fails};
 
 use crate::error::DecodeError;
-use crate::labels::{Labels, MAX_NAME_LEN};
-use crate::name::Name;
+use crate::rr::domain::labels::{Labels, MAX_NAME_LEN};
+use crate::rr::domain::name::Name;
 use std::alloc::Global;
 
 /// The first length byte of no label.

@@ -2,28 +2,28 @@
 
 ghost use Rattle.std.specs.Prelude.{◌≡◌, ◌≢◌, ◌+◌, ◌^◌, ◌<◌, ℕ, Ok, Err, IfOk, IfErr};
 ghost use Rattle.std.specs.Int.{w16};
-ghost use Rattle.hickory_wire.specs.Reading.{Gives, octets};
-ghost use Rattle.hickory_wire.specs.RecordReading.{string, strings_until, counted_octets, soa, mx, tsig, form, record_data, resource, question};
-ghost use Rattle.hickory_wire.specs.MessageLayout.{QuestionRead};
-ghost use Rattle.hickory_wire.specs.RecordFaults.{QuestionFault, RecordFault};
-ghost use Rattle.hickory_wire.specs.RecordLayout.{RecordAt};
+ghost use Rattle.hickory_wire.specs.serialize.reading.Reading.{Gives, octets};
+ghost use Rattle.hickory_wire.specs.serialize.reading.RecordReading.{string, strings_until, counted_octets, soa, mx, tsig, form, record_data, resource, question};
+ghost use Rattle.hickory_wire.specs.serialize.layout.MessageLayout.{QuestionRead};
+ghost use Rattle.hickory_wire.specs.serialize.reading.RecordFaults.{QuestionFault, RecordFault};
+ghost use Rattle.hickory_wire.specs.serialize.layout.RecordLayout.{RecordAt};
 ghost use Rattle.hickory_wire.specs.declared.error.DecodeError.TheVariants.{InsufficientBytes, Memory};
-ghost use Rattle.hickory_wire.specs.declared.query.Query.{Query as Question};
-ghost use Rattle.hickory_wire.specs.declared.rdata.RData.{RData as Data};
-ghost use Rattle.hickory_wire.specs.declared.record.Record.{Record as ResourceRecord};
+ghost use Rattle.hickory_wire.specs.declared.op.query.Query.{Query as Question};
+ghost use Rattle.hickory_wire.specs.declared.rr.rdata.RData.{RData as Data};
+ghost use Rattle.hickory_wire.specs.declared.rr.record.Record.{Record as ResourceRecord};
 
-use crate::boxed::Boxed;
-use crate::decoder::BinDecoder;
-use crate::dns_class::DNSClass;
-use crate::edns_options::options_of;
 use crate::error::DecodeError;
-use crate::items::Items;
-use crate::octets::Octets;
-use crate::query::Query;
-use crate::rdata::{MX, RData, SOA};
-use crate::record::{Proof, Record};
-use crate::record_type::RecordType;
-use crate::tsig::TSIG;
+use crate::op::query::Query;
+use crate::rr::dns_class::DNSClass;
+use crate::rr::rdata::{MX, RData, SOA};
+use crate::rr::record::{Proof, Record};
+use crate::rr::record_type::RecordType;
+use crate::rr::tsig::TSIG;
+use crate::serialize::reading::decoder::BinDecoder;
+use crate::serialize::reading::edns_options::options_of;
+use crate::values::boxed::Boxed;
+use crate::values::items::Items;
+use crate::values::octets::Octets;
 use std::alloc::Global;
 use std::net::{Ipv4Addr, Ipv6Addr};
 

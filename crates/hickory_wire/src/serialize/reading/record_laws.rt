@@ -2,23 +2,23 @@
 
 ghost use Rattle.std.specs.Prelude.{◌≡◌, ◌≤◌, ◌+◌, ◌⊎◌, ◌↔◌, ◌++◌, ℕ, List, [], length, replicate, slice_range, None, Ok};
 ghost use Rattle.std.specs.List.{AllByRecursion, flat_map};
-ghost use Rattle.hickory_wire.specs.Bytes.{AreBytes, BytesAt, KeepsFrom};
-ghost use Rattle.hickory_wire.specs.Cursor.{Cursor};
-ghost use Rattle.hickory_wire.specs.DomainName.{AreLabels, name_len};
-ghost use Rattle.hickory_wire.specs.FullForm.{HasNames, record_octets};
-ghost use Rattle.hickory_wire.specs.MessageLayout.{ItemsAt};
-ghost use Rattle.hickory_wire.specs.QuestionForm.{question_octets};
-ghost use Rattle.hickory_wire.specs.QuestionLayout.{QuestionAt, IsFormedQuestion};
-ghost use Rattle.hickory_wire.specs.ReadingBack.{ReadsBack};
-ghost use Rattle.hickory_wire.specs.RecordData.{OptionsOf};
-ghost use Rattle.hickory_wire.specs.RecordLayout.{FormAt, IsFormedRecord, RecordAt};
-ghost use Rattle.hickory_wire.specs.RecordReading.{options_of, question, resource};
-ghost use Rattle.hickory_wire.specs.RecordSize.{form_fault, full_size};
-ghost use Rattle.hickory_wire.specs.declared.edns.EdnsOption.{EdnsOption};
-ghost use Rattle.hickory_wire.specs.declared.query.Query.{Query};
-ghost use Rattle.hickory_wire.specs.declared.rdata.RData.{RData};
-ghost use Rattle.hickory_wire.specs.declared.rdata.RData.TheVariants.{OPT};
-ghost use Rattle.hickory_wire.specs.declared.record.Record.{Record};
+ghost use Rattle.hickory_wire.specs.serialize.layout.Bytes.{AreBytes, BytesAt, KeepsFrom};
+ghost use Rattle.hickory_wire.specs.serialize.reading.Cursor.{Cursor};
+ghost use Rattle.hickory_wire.specs.rr.domain.DomainName.{AreLabels, name_len};
+ghost use Rattle.hickory_wire.specs.serialize.writing.FullForm.{HasNames, record_octets};
+ghost use Rattle.hickory_wire.specs.serialize.layout.MessageLayout.{ItemsAt};
+ghost use Rattle.hickory_wire.specs.serialize.writing.QuestionForm.{question_octets};
+ghost use Rattle.hickory_wire.specs.serialize.layout.QuestionLayout.{QuestionAt, IsFormedQuestion};
+ghost use Rattle.hickory_wire.specs.serialize.writing.ReadingBack.{ReadsBack};
+ghost use Rattle.hickory_wire.specs.rr.RecordData.{OptionsOf};
+ghost use Rattle.hickory_wire.specs.serialize.layout.RecordLayout.{FormAt, IsFormedRecord, RecordAt};
+ghost use Rattle.hickory_wire.specs.serialize.reading.RecordReading.{options_of, question, resource};
+ghost use Rattle.hickory_wire.specs.serialize.writing.RecordSize.{form_fault, full_size};
+ghost use Rattle.hickory_wire.specs.declared.op.edns.EdnsOption.{EdnsOption};
+ghost use Rattle.hickory_wire.specs.declared.op.query.Query.{Query};
+ghost use Rattle.hickory_wire.specs.declared.rr.rdata.RData.{RData};
+ghost use Rattle.hickory_wire.specs.declared.rr.rdata.RData.TheVariants.{OPT};
+ghost use Rattle.hickory_wire.specs.declared.rr.record.Record.{Record};
 
 /// A record and a question stay where they are when bytes are put behind them or bytes below their floor change.
 pub fn form_keeps()

@@ -3,18 +3,18 @@
 ghost use Rattle.std.specs.Prelude.{◌≡◌, ℕ, ◌+◌, ◌<◌, ◌≤◌, ◌++◌, length, OnOk, MatchResult, Some, None, nat_lt};
 ghost use Rattle.std.specs.List.{flat_map, list_any};
 ghost use Rattle.std.specs.Int.{w16, w32, to_be_bytes};
-ghost use Rattle.hickory_wire.specs.DomainName.{name_len, AreLabels};
-ghost use Rattle.hickory_wire.specs.FullForm.{name_octets, soa_octets, tsig_octets, data_octets, HasNames, HasLength};
-ghost use Rattle.hickory_wire.specs.RecordData.{character_string, option_octets, soa_numbers, tsig_fields, type_of};
-ghost use Rattle.hickory_wire.specs.RecordSize.{data_len, form_fault, length_fault};
-ghost use Rattle.hickory_wire.specs.declared.rdata.RData.TheVariants as rdata_form;
+ghost use Rattle.hickory_wire.specs.rr.domain.DomainName.{name_len, AreLabels};
+ghost use Rattle.hickory_wire.specs.serialize.writing.FullForm.{name_octets, soa_octets, tsig_octets, data_octets, HasNames, HasLength};
+ghost use Rattle.hickory_wire.specs.rr.RecordData.{character_string, option_octets, soa_numbers, tsig_fields, type_of};
+ghost use Rattle.hickory_wire.specs.serialize.writing.RecordSize.{data_len, form_fault, length_fault};
+ghost use Rattle.hickory_wire.specs.declared.rr.rdata.RData.TheVariants as rdata_form;
 
-use crate::edns::EdnsOption;
 use crate::error::ProtoError;
-use crate::name::Name;
-use crate::octets::Octets;
-use crate::rdata::{RData, SOA};
-use crate::tsig::TSIG;
+use crate::op::edns::EdnsOption;
+use crate::rr::domain::name::Name;
+use crate::rr::rdata::{RData, SOA};
+use crate::rr::tsig::TSIG;
+use crate::values::octets::Octets;
 use std::alloc::AllocError;
 
 /// How many bytes a name takes in full.

@@ -16,7 +16,7 @@ pub struct BinEncoder<'a> {
 }
 
 impl<'a> BinEncoder<'a> {
-    ghost use Rattle.hickory_wire.specs.Encoder.{written_bytes, max_size, IsSameVector};
+    ghost use Rattle.hickory_wire.specs.serialize.writing.Encoder.{written_bytes, max_size, IsSameVector};
 
     /// An encoder that writes to this vector, which is emptied. The limit is 65,535 bytes.
     pub fn new(alloc: Global, buffer: &'a mut Vec<u8>) -> BinEncoder<'a>

@@ -1,17 +1,17 @@
 //! Laws of replies that are written, each the contract of a function with nothing to do.
 
 ghost use Rattle.std.specs.Prelude.{◌≡◌, ◌+◌, ℕ, List, ◌<◌, ◌≤◌, ◌^◌, length, max};
-ghost use Rattle.hickory_wire.specs.Bytes.{AreBytes};
-ghost use Rattle.hickory_wire.specs.Decoding.{IsDecodable, decoded_message};
-ghost use Rattle.hickory_wire.specs.MessageLayout.{MessageAt};
-ghost use Rattle.hickory_wire.specs.MessageReading.{Reads};
-ghost use Rattle.hickory_wire.specs.ReadingBack.{ReplyReadsBack};
-ghost use Rattle.hickory_wire.specs.Reply.{Reply};
-ghost use Rattle.hickory_wire.specs.WholeReply.{FitsWhole, IsWhole};
-ghost use Rattle.hickory_wire.specs.Writing.{Encoded, Fronts, GetsStuck, Written, written_header};
+ghost use Rattle.hickory_wire.specs.serialize.layout.Bytes.{AreBytes};
+ghost use Rattle.hickory_wire.specs.serialize.writing.Decoding.{IsDecodable, decoded_message};
+ghost use Rattle.hickory_wire.specs.serialize.layout.MessageLayout.{MessageAt};
+ghost use Rattle.hickory_wire.specs.serialize.reading.MessageReading.{Reads};
+ghost use Rattle.hickory_wire.specs.serialize.writing.ReadingBack.{ReplyReadsBack};
+ghost use Rattle.hickory_wire.specs.serialize.writing.Reply.{Reply};
+ghost use Rattle.hickory_wire.specs.serialize.writing.WholeReply.{FitsWhole, IsWhole};
+ghost use Rattle.hickory_wire.specs.serialize.writing.Writing.{Encoded, Fronts, GetsStuck, Written, written_header};
 ghost use Rattle.hickory_wire.specs.declared.error.ProtoError.{ProtoError};
-ghost use Rattle.hickory_wire.specs.declared.header.Header.{Header};
-ghost use Rattle.hickory_wire.specs.declared.query.Query.{Query};
+ghost use Rattle.hickory_wire.specs.declared.op.header.Header.{Header};
+ghost use Rattle.hickory_wire.specs.declared.op.query.Query.{Query};
 
 /// A reply has at most as many bytes as the limit, and what stands in its place has twelve.
 pub fn what_is_written_keeps_the_limit()

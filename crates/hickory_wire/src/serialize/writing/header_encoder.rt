@@ -1,9 +1,9 @@
 //! The header of a message in bytes.
 
 ghost use Rattle.std.specs.Prelude.{◌≡◌, ℕ, ◌+◌, ◌*◌, ◌^◌, ◌<◌, ◌≤◌, ◌++◌, length, drop, if◌then◌else◌};
-ghost use Rattle.hickory_wire.specs.HeaderLayout.{first_flags, second_flags, header_octets, is_response};
+ghost use Rattle.hickory_wire.specs.serialize.layout.HeaderLayout.{first_flags, second_flags, header_octets, is_response};
 
-use crate::header::{Header, MessageType, Metadata};
+use crate::op::header::{Header, MessageType, Metadata};
 
 // The value of a bit where it is set.
 fn flag(is_set: bool, value: u8) -> u8

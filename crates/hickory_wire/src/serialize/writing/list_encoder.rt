@@ -3,18 +3,20 @@
 ghost use Rattle.std.specs.Prelude.{◌≡◌, ℕ, ◌+◌, ◌<◌, ◌≤◌, length, List, OnOk, IfOk, None, false, option_to_list, option_map};
 ghost use Rattle.std.specs.Iterator.{IsFinite};
 ghost use Rattle.std.specs.Option.{option_copied};
-ghost use Rattle.hickory_wire.specs.Endings.{GivesRecords, ListFollows, seen_ending, count_of_one, front_of_run};
-ghost use Rattle.hickory_wire.specs.MessageLayout.{tsig_record};
-ghost use Rattle.hickory_wire.specs.Reply.{opt_record};
-ghost use Rattle.hickory_wire.specs.Writing.{ListWritten};
-ghost use Rattle.hickory_wire.specs.declared.rdata.RData.{RData};
-ghost use Rattle.hickory_wire.specs.declared.record.Record.{Record};
+ghost use Rattle.hickory_wire.specs.serialize.writing.Endings.{GivesRecords, ListFollows, seen_ending, count_of_one, front_of_run};
+ghost use Rattle.hickory_wire.specs.serialize.layout.MessageLayout.{tsig_record};
+ghost use Rattle.hickory_wire.specs.serialize.writing.Reply.{opt_record};
+ghost use Rattle.hickory_wire.specs.serialize.writing.Writing.{ListWritten};
+ghost use Rattle.hickory_wire.specs.declared.rr.rdata.RData.{RData};
+ghost use Rattle.hickory_wire.specs.declared.rr.record.Record.{Record};
 
-use crate::edns::Edns;
 use crate::error::ProtoError;
-use crate::record::Record;
-use crate::record_encoder::{Ending, write_edns, write_record, write_signature};
-use crate::tsig::TSIG;
+use crate::op::edns::Edns;
+use crate::rr::record::Record;
+use crate::rr::tsig::TSIG;
+use crate::serialize::writing::record_encoder::{
+    Ending, write_edns, write_record, write_signature,
+};
 use std::alloc::AllocError;
 
 /// What was written of a list, and why it, or a list before it, could not be written on.

@@ -2,24 +2,24 @@
 
 ghost use Rattle.std.specs.Prelude.{◌≡◌, ℕ, ◌+◌, ◌≤◌, ◌<◌, ◌↔◌, ◌≢◌, [], length, OnOk, OnErr, IfOk, IfErr, IsTrue};
 ghost use Rattle.std.specs.Iterator.{IsFinite};
-ghost use Rattle.hickory_wire.specs.Bytes.{AreBytes};
-ghost use Rattle.hickory_wire.specs.Encoder.{written_bytes, max_size, IsSameVector};
-ghost use Rattle.hickory_wire.specs.HeaderLayout.{header_octets};
-ghost use Rattle.hickory_wire.specs.Writing.{fallback_header};
-ghost use Rattle.hickory_wire.specs.ReplyParts.{GivesLists, RecordLists, Refused, ReplyEncoded, ReplyWritten, WritesLists, fronts_of, header_with, reply_of};
+ghost use Rattle.hickory_wire.specs.serialize.layout.Bytes.{AreBytes};
+ghost use Rattle.hickory_wire.specs.serialize.writing.Encoder.{written_bytes, max_size, IsSameVector};
+ghost use Rattle.hickory_wire.specs.serialize.layout.HeaderLayout.{header_octets};
+ghost use Rattle.hickory_wire.specs.serialize.writing.Writing.{fallback_header};
+ghost use Rattle.hickory_wire.specs.serialize.writing.ReplyParts.{GivesLists, RecordLists, Refused, ReplyEncoded, ReplyWritten, WritesLists, fronts_of, header_with, reply_of};
 
-use crate::edns::Edns;
-use crate::encoder::BinEncoder;
 use crate::error::ProtoError;
-use crate::header::{Header, HeaderCounts, MessageType, Metadata};
-use crate::header_encoder::{header_bytes, put_header};
-use crate::list_encoder::{
+use crate::op::edns::Edns;
+use crate::op::header::{Header, HeaderCounts, MessageType, Metadata};
+use crate::op::op_code::OpCode;
+use crate::op::response_code::ResponseCode;
+use crate::rr::record::Record;
+use crate::rr::tsig::TSIG;
+use crate::serialize::writing::encoder::BinEncoder;
+use crate::serialize::writing::header_encoder::{header_bytes, put_header};
+use crate::serialize::writing::list_encoder::{
     Front, drain, write_list, write_optional_edns, write_optional_signature,
 };
-use crate::op_code::OpCode;
-use crate::record::Record;
-use crate::response_code::ResponseCode;
-use crate::tsig::TSIG;
 use std::alloc::{AllocError, Global};
 
 // Room for most replies at once: what a reply over UDP may have without EDNS (RFC 1035 section 4.2.1).

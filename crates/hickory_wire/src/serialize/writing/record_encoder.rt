@@ -2,22 +2,22 @@
 
 ghost use Rattle.std.specs.Prelude.{◌≡◌, ℕ, ◌+◌, ◌*◌, ◌^◌, ◌<◌, ◌≤◌, ◌++◌, ◌↔◌, length, OnOk, IfOk, IsTrue};
 ghost use Rattle.std.specs.Int.{w16, w32, to_be_bytes};
-ghost use Rattle.hickory_wire.specs.Endings.{RecordEnds};
-ghost use Rattle.hickory_wire.specs.FullForm.{name_octets};
-ghost use Rattle.hickory_wire.specs.MessageLayout.{tsig_record};
-ghost use Rattle.hickory_wire.specs.RecordSize.{form_fault};
-ghost use Rattle.hickory_wire.specs.Reply.{opt_record};
+ghost use Rattle.hickory_wire.specs.serialize.writing.Endings.{RecordEnds};
+ghost use Rattle.hickory_wire.specs.serialize.writing.FullForm.{name_octets};
+ghost use Rattle.hickory_wire.specs.serialize.layout.MessageLayout.{tsig_record};
+ghost use Rattle.hickory_wire.specs.serialize.writing.RecordSize.{form_fault};
+ghost use Rattle.hickory_wire.specs.serialize.writing.Reply.{opt_record};
 
-use crate::data_encoder::{
+use crate::error::ProtoError;
+use crate::op::edns::Edns;
+use crate::rr::domain::name::Name;
+use crate::rr::record::Record;
+use crate::rr::record_type::RecordType;
+use crate::rr::tsig::TSIG;
+use crate::serialize::writing::data_encoder::{
     full_data_len, full_name_len, options_len, signature_len, write_data, write_name,
     write_options, write_signature_data,
 };
-use crate::edns::Edns;
-use crate::error::ProtoError;
-use crate::name::Name;
-use crate::record::Record;
-use crate::record_type::RecordType;
-use crate::tsig::TSIG;
 use std::alloc::AllocError;
 
 /// How the writing of a record, or of a list of records, ended.

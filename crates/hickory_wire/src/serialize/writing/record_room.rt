@@ -1,17 +1,17 @@
 //! How much room records take with every name in full.
 
 ghost use Rattle.std.specs.Prelude.{◌≡◌, ◌↔◌, ◌+◌, ◌≤◌, ◌<◌, ℕ, List, length, IsTrue, Option};
-ghost use Rattle.hickory_wire.specs.RecordSize.{Leaves, data_len, full_size};
-ghost use Rattle.hickory_wire.specs.Reply.{opt_record};
-ghost use Rattle.hickory_wire.specs.declared.rdata.RData.TheVariants as rdata_form;
+ghost use Rattle.hickory_wire.specs.serialize.writing.RecordSize.{Leaves, data_len, full_size};
+ghost use Rattle.hickory_wire.specs.serialize.writing.Reply.{opt_record};
+ghost use Rattle.hickory_wire.specs.declared.rr.rdata.RData.TheVariants as rdata_form;
 
-use crate::data_encoder::full_name_len;
-use crate::edns::{Edns, EdnsOption};
-use crate::name::Name;
-use crate::octets::Octets;
-use crate::rdata::{RData, SOA};
-use crate::record::Record;
-use crate::tsig::TSIG;
+use crate::op::edns::{Edns, EdnsOption};
+use crate::rr::domain::name::Name;
+use crate::rr::rdata::{RData, SOA};
+use crate::rr::record::Record;
+use crate::rr::tsig::TSIG;
+use crate::serialize::writing::data_encoder::full_name_len;
+use crate::values::octets::Octets;
 
 /// What is left of a room behind so many bytes, if they fit.
 fn left_by(room: usize, size: usize) -> Option<usize>

@@ -1,4 +1,4 @@
-use Rattle.hickory_base.specs.EncodingSinks.{IsEncodingOf}
+use Rattle.hickory_base.specs.responses.EncodingSinks.{IsEncodingOf}
 use Rattle.zone_reply.proofs.LastEntry.{last_shows}
 use Rattle.zone_reply.proofs.run.reply.Goals as goal
 

@@ -1,6 +1,6 @@
 use Rattle.std.proofs.Common.{◌<◌, ◌^◌, sym, subst}
 use Rattle.hickory_base.specs.Access.{width}
-use Rattle.hickory_base.proofs.NetworkText.{first_bits_fit}
+use Rattle.hickory_base.proofs.lemmas.access.NetworkText.{first_bits_fit}
 use Rattle.hickory_base.proofs.access.Address.prefix.Goals as goal
 
 pub returns-clause-fits : goal.returns-clause-fits

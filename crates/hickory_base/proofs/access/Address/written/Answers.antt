@@ -3,7 +3,7 @@ use Rattle.hickory_base.specs.declared.access.Address.{Address}
 use Rattle.hickory_base.specs.declared.access.Family.{Family}
 use Rattle.hickory_base.specs.declared.access.Family.TheVariants.{Ipv4, Ipv6}
 use Rattle.hickory_base.specs.Access.{width}
-use Rattle.hickory_base.proofs.NetworkText.{ipv4_back, ipv6_back}
+use Rattle.hickory_base.proofs.lemmas.access.NetworkText.{ipv4_back, ipv6_back}
 use Rattle.hickory_base.proofs.access.Address.written.Goals as goal
 
 with_bits : (family : Family) (bits : ℕ) (a : Address) → a.family ≡ family → bits ≡ a.bits → record { family = family; bits = bits } ≡ a

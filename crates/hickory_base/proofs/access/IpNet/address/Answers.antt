@@ -1,6 +1,6 @@
 use Rattle.std.proofs.Common.{◌<◌, ◌-◌, ◌^◌, ℕ, ap, ◌∙◌, subst, sym}
 use Rattle.hickory_base.specs.Access.{width, network_of, first_address}
-use Rattle.hickory_base.proofs.NetworkText.{prefix_fits, shifted, lies}
+use Rattle.hickory_base.proofs.lemmas.access.NetworkText.{prefix_fits, shifted, lies}
 use Rattle.hickory_base.proofs.access.IpNet.address.Goals as goal
 
 pub written-requires : goal.written-requires

@@ -1,4 +1,4 @@
-use Rattle.hickory_base.proofs.Networks.{inserted, inserted_first}
+use Rattle.hickory_base.proofs.lemmas.access.Networks.{inserted, inserted_first}
 use Rattle.hickory_base.proofs.access.NetworkSet.insert.Goals as goal
 
 pub returns-clause-ok : goal.returns-clause-ok

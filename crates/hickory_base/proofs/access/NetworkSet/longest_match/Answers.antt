@@ -1,6 +1,6 @@
 use Rattle.std.proofs.Common.{ap, ◌∙◌}
 use Rattle.hickory_base.specs.Access.{Network}
-use Rattle.hickory_base.proofs.Networks.{longest_match_past, longest_match_more}
+use Rattle.hickory_base.proofs.lemmas.access.Networks.{longest_match_past, longest_match_more}
 use Rattle.hickory_base.proofs.access.NetworkSet.longest_match.Goals as goal
 use Rattle.hickory_base.proofs.access.NetworkSet.longest_match.Goals.{then-matches, else-matches}
 

@@ -1,9 +1,9 @@
 use Rattle.std.proofs.Common.{◌∙◌, ◌∷◌, [], arith}
 use Rattle.std.proofs.lemmas.List.{length-append}
 use Rattle.std.proofs.lemmas.Result.{err_from_is_err_and}
-use Rattle.hickory_wire.specs.RecordReading.{question}
-use Rattle.hickory_wire.proofs.ItemsRead.{items_go_on, items_fail, items_done}
-use Rattle.hickory_base.proofs.request_reading.read_lower_queries.Goals as goal
+use Rattle.hickory_wire.specs.serialize.reading.RecordReading.{question}
+use Rattle.hickory_wire.proofs.lemmas.serialize.reading.ItemsRead.{items_go_on, items_fail, items_done}
+use Rattle.hickory_base.proofs.requests.request_reading.read_lower_queries.Goals as goal
 
 pub returns-in_err-query-clause-exact : goal.returns-in_err-query-clause-exact
 returns-in_err-query-clause-exact c =

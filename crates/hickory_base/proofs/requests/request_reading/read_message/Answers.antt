@@ -1,13 +1,13 @@
 use Rattle.std.proofs.Common.{◌≡◌, arith, ap, sym, subst, ◌∙◌, IfOk, Result, Ok, Err, List, ℕ}
-use Rattle.hickory_wire.specs.Cursor.{Cursor}
-use Rattle.hickory_wire.specs.MessageReading.{message, front_of, Reads}
-use Rattle.hickory_wire.specs.Reading.{Gives}
+use Rattle.hickory_wire.specs.serialize.reading.Cursor.{Cursor}
+use Rattle.hickory_wire.specs.serialize.reading.MessageReading.{message, front_of, Reads}
+use Rattle.hickory_wire.specs.serialize.reading.Reading.{Gives}
 use Rattle.hickory_wire.specs.declared.error.DecodeError.{DecodeError}
-use Rattle.hickory_wire.specs.Bytes.{AreBytes}
-use Rattle.hickory_base.specs.RequestReading.{FollowsHeader, IsQuestionSection, message_of}
-use Rattle.hickory_base.specs.declared.message_request.MessageRequest.{MessageRequest}
-use Rattle.hickory_base.proofs.RequestParts.{section_stands}
-use Rattle.hickory_base.proofs.request_reading.read_message.Goals as goal
+use Rattle.hickory_wire.specs.serialize.layout.Bytes.{AreBytes}
+use Rattle.hickory_base.specs.requests.RequestReading.{FollowsHeader, IsQuestionSection, message_of}
+use Rattle.hickory_base.specs.declared.requests.message_request.MessageRequest.{MessageRequest}
+use Rattle.hickory_base.proofs.lemmas.requests.RequestParts.{section_stands}
+use Rattle.hickory_base.proofs.requests.request_reading.read_message.Goals as goal
 
 reads_from_gives : (result : Result MessageRequest DecodeError) (bytes : List ℕ) (old new : Cursor) → old ≡ front_of bytes → Gives message_of result old new message → IfOk result (λ m. Reads bytes (message_of m))
 reads_from_gives (Ok m) bytes old new front given = record { stop = new; reads = ap message (sym front) ∙ given.0 }

@@ -1,7 +1,7 @@
 use Rattle.std.proofs.Common.{map}
-use Rattle.hickory_wire.specs.ReplyParts.{RecordLists}
-use Rattle.hickory_base.proofs.ResultMaps.{if_ok_map}
-use Rattle.hickory_base.proofs.response_encoding.encode_parts.Goals as goal
+use Rattle.hickory_wire.specs.serialize.writing.ReplyParts.{RecordLists}
+use Rattle.hickory_base.proofs.lemmas.ResultMaps.{if_ok_map}
+use Rattle.hickory_base.proofs.responses.response_encoding.encode_parts.Goals as goal
 
 pub returns-clause-encoded : goal.returns-clause-encoded
 returns-clause-encoded g c =

@@ -1,9 +1,9 @@
 use Rattle.std.proofs.Common.{◌≡◌, List, ℕ, refl, sym}
 use Rattle.std.specs.Option.{option_copied}
-use Rattle.hickory_wire.specs.Reply.{Reply}
-use Rattle.hickory_wire.specs.ReplyParts.{ReplyEncoded}
-use Rattle.hickory_wire.specs.declared.header.Header.{Header}
-use Rattle.hickory_base.proofs.response_encoding.encode_response.Goals as goal
+use Rattle.hickory_wire.specs.serialize.writing.Reply.{Reply}
+use Rattle.hickory_wire.specs.serialize.writing.ReplyParts.{ReplyEncoded}
+use Rattle.hickory_wire.specs.declared.op.header.Header.{Header}
+use Rattle.hickory_base.proofs.responses.response_encoding.encode_response.Goals as goal
 
 -- the reply that was encoded, at the limit and with the header that the contract names
 encoded_at : {limit named : ℕ} {header told : Header} {reply : Reply} {bytes : List ℕ} → limit ≡ named → told ≡ header → ReplyEncoded limit reply bytes header → ReplyEncoded named reply bytes told

@@ -1,5 +1,5 @@
 use Rattle.std.proofs.Common.{◌≡◌}
-use Rattle.hickory_base.proofs.response_encoding.lenders.Given as goal
+use Rattle.hickory_base.proofs.responses.response_encoding.lenders.Given as goal
 
 abbrev pub invariant-records : goal.invariant-records
 invariant-records g l =

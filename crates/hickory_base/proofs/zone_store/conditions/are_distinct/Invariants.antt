@@ -1,6 +1,6 @@
 -- The records are distinct where the rest is. The rest gets shorter.
 use Rattle.std.proofs.Common.{◌↔◌, length}
-use Rattle.hickory_base.specs.ZoneSets.{AreDistinct}
+use Rattle.hickory_base.specs.zone_store.ZoneSets.{AreDistinct}
 use Rattle.hickory_base.proofs.zone_store.conditions.are_distinct.Given as goal
 
 abbrev pub invariant-loop-rest : goal.invariant-loop-rest

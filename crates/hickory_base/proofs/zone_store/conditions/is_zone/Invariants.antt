@@ -1,6 +1,6 @@
 -- The sets are those of a zone where the sets to come are.
 use Rattle.std.proofs.Common.{◌↔◌}
-use Rattle.hickory_base.specs.ZoneSets.{IsZone, sets_of, shared_sets}
+use Rattle.hickory_base.specs.zone_store.ZoneSets.{IsZone, sets_of, shared_sets}
 use Rattle.hickory_base.proofs.zone_store.conditions.is_zone.Given as goal
 
 abbrev pub invariant-loop-key : goal.invariant-loop-key

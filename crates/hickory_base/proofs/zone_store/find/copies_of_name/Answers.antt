@@ -1,8 +1,8 @@
 use Rattle.std.proofs.Common.{◌++◌, sym, ap, ◌∙◌}
 use Rattle.std.specs.List.{flat_map}
-use Rattle.hickory_base.proofs.KeyOrder.{from_first_on, of_name, while_of}
-use Rattle.hickory_base.proofs.SharedSets.{records-shared}
-use Rattle.hickory_base.specs.ZoneSets.{has_name}
+use Rattle.hickory_base.proofs.lemmas.zone_store.KeyOrder.{from_first_on, of_name, while_of}
+use Rattle.hickory_base.proofs.lemmas.zone_store.SharedSets.{records-shared}
+use Rattle.hickory_base.specs.zone_store.ZoneSets.{has_name}
 use Rattle.hickory_base.proofs.zone_store.find.copies_of_name.Goals as goal
 
 pub loop-key-init : goal.loop-key-init

@@ -1,9 +1,9 @@
 -- What was copied and what is still of the name are all records of the name.
 use Rattle.std.proofs.Common.{◌≡◌, ◌++◌}
 use Rattle.std.specs.List.{flat_map}
-use Rattle.hickory_base.proofs.KeyOrder.{of_name, while_of}
-use Rattle.hickory_base.specs.ZoneAnswers.{records_at}
-use Rattle.hickory_base.specs.ZoneSets.{sets_of}
+use Rattle.hickory_base.proofs.lemmas.zone_store.KeyOrder.{of_name, while_of}
+use Rattle.hickory_base.specs.zone_store.ZoneAnswers.{records_at}
+use Rattle.hickory_base.specs.zone_store.ZoneSets.{sets_of}
 use Rattle.hickory_base.proofs.zone_store.find.copies_of_name.Given as goal
 
 abbrev pub invariant-loop-key : goal.invariant-loop-key

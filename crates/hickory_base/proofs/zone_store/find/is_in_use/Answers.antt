@@ -1,7 +1,7 @@
 use Rattle.std.proofs.Common.{sym, ap, ◌∙◌}
-use Rattle.hickory_base.proofs.KeyOrder.{in_use_by_first, first_is, of_name}
-use Rattle.hickory_base.proofs.SharedSets.{any-shared}
-use Rattle.hickory_base.specs.ZoneSets.{has_name}
+use Rattle.hickory_base.proofs.lemmas.zone_store.KeyOrder.{in_use_by_first, first_is, of_name}
+use Rattle.hickory_base.proofs.lemmas.zone_store.SharedSets.{any-shared}
+use Rattle.hickory_base.specs.zone_store.ZoneSets.{has_name}
 use Rattle.hickory_base.proofs.zone_store.find.is_in_use.Goals as goal
 
 pub returns-in-Some : goal.returns-in-Some

@@ -1,7 +1,7 @@
 use Rattle.std.proofs.Common.{sym, ap, ◌∙◌, Some, None}
 use Rattle.std.specs.Option.{option_copied}
-use Rattle.hickory_base.proofs.SharedSets.{lookup-is}
-use Rattle.hickory_base.specs.ZoneSets.{is_key}
+use Rattle.hickory_base.proofs.lemmas.zone_store.SharedSets.{lookup-is}
+use Rattle.hickory_base.specs.zone_store.ZoneSets.{is_key}
 use Rattle.hickory_base.proofs.zone_store.find.set_under.Goals as goal
 
 pub returns-in-Some : goal.returns-in-Some

@@ -1,5 +1,5 @@
 use Rattle.std.proofs.Common.{◌≡◌, None, Some, rules, refl}
-use Rattle.hickory_wire.specs.Reply.{Reply}
+use Rattle.hickory_wire.specs.serialize.writing.Reply.{Reply}
 use Rattle.hickory_catalog.specs.Replies.{error_reply}
 use Rattle.hickory_catalog.specs.ReplyEdns.{reply_edns}
 use Rattle.hickory_catalog.specs.Requests.{RequestReply, asks, refused, request_fault}

@@ -1,6 +1,6 @@
 -- The first refusal is that of the records to come.
 use Rattle.std.proofs.Common.{◌≡◌, drop}
-use Rattle.hickory_base.specs.ZoneSets.{zone_records}
+use Rattle.hickory_base.specs.zone_store.ZoneSets.{zone_records}
 use Rattle.hickory_store.specs.Prerequisites.{prerequisite_refusal}
 use Rattle.hickory_store.specs.Refusals.{first_refusal}
 use Rattle.hickory_store.proofs.sqlite.prerequisites.check_all.Given as goal

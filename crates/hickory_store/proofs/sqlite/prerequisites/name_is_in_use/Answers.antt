@@ -1,8 +1,8 @@
 use Rattle.std.proofs.Common.{ap, ◌∙◌}
 use Rattle.std.specs.List.{list_any}
-use Rattle.hickory_wire.specs.DomainName.{DomainName}
-use Rattle.hickory_base.specs.ZoneRecords.{is_at}
-use Rattle.hickory_base.specs.ZoneSets.{zone_records}
+use Rattle.hickory_wire.specs.rr.domain.DomainName.{DomainName}
+use Rattle.hickory_base.specs.zone_store.ZoneRecords.{is_at}
+use Rattle.hickory_base.specs.zone_store.ZoneSets.{zone_records}
 use Rattle.hickory_store.proofs.NamedSets.{any_at}
 use Rattle.hickory_store.proofs.sqlite.prerequisites.name_is_in_use.Goals as goal
 

@@ -1,9 +1,9 @@
 use Rattle.std.proofs.Common.{◌≡◌, ap, ◌∙◌, refl, Some, None, Option, Bor}
 use Rattle.std.specs.Prelude.{is_some}
 use Rattle.std.specs.Option.{option_copied}
-use Rattle.hickory_wire.specs.RecordData.{type_of}
-use Rattle.hickory_base.specs.ZoneRecords.{is_of}
-use Rattle.hickory_base.specs.ZoneSets.{zone_records}
+use Rattle.hickory_wire.specs.rr.RecordData.{type_of}
+use Rattle.hickory_base.specs.zone_store.ZoneRecords.{is_of}
+use Rattle.hickory_base.specs.zone_store.ZoneSets.{zone_records}
 use Rattle.hickory_store.proofs.NamedSets.{exists_any}
 use Rattle.hickory_store.proofs.sqlite.prerequisites.rrset_exists.Goals as goal
 

@@ -1,6 +1,6 @@
 -- The records match where the rest of them do. The rest gets shorter.
 use Rattle.std.proofs.Common.{◌≡◌, length}
-use Rattle.hickory_base.specs.ZoneSets.{zone_records}
+use Rattle.hickory_base.specs.zone_store.ZoneSets.{zone_records}
 use Rattle.hickory_store.specs.Prerequisites.{collected}
 use Rattle.hickory_store.specs.SetsByRecord.{are_matched}
 use Rattle.hickory_store.proofs.sqlite.required_sets.are_matched.Given as goal

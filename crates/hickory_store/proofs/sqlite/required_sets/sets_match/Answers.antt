@@ -1,5 +1,5 @@
 use Rattle.std.proofs.Common.{◌∙◌}
-use Rattle.hickory_base.specs.ZoneSets.{zone_records}
+use Rattle.hickory_base.specs.zone_store.ZoneSets.{zone_records}
 use Rattle.hickory_store.specs.Prerequisites.{collected}
 use Rattle.hickory_store.proofs.RecordByRecord.{matched_by_record}
 use Rattle.hickory_store.proofs.sqlite.required_sets.sets_match.Goals as goal

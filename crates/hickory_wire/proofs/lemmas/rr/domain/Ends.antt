@@ -9,12 +9,12 @@ use Rattle.std.proofs.lemmas.List.{length-map, get_or-drop, drop_at}
 use Rattle.std.proofs.Math.Seq.{drop-nil}
 use Rattle.std.proofs.lemmas.List.Elements.{recursion_from_All, All-from_recursion}
 use Rattle.std.specs.Str.{bytes_eq}
-use Rattle.hickory_wire.specs.DomainName.{wire_form, cut, IsLabel, AreLabels, IsWire}
+use Rattle.hickory_wire.specs.rr.domain.DomainName.{wire_form, cut, IsLabel, AreLabels, IsWire}
 use Rattle.std.specs.Bool.{IsTrue}
-use Rattle.hickory_wire.specs.NameOrder.{lower_label, lower_labels, label_cmp, Encloses}
-use Rattle.hickory_wire.proofs.WireForm.{name_len-wire_form, is_wire_of, cut_of}
-use Rattle.hickory_wire.specs.NameHash.{equal_is}
-use Rattle.hickory_wire.proofs.SameNames.{lower-wire, lower-wire_all, wire-same, both_ways, eq_is, eq_from, same_cmp, is_false}
+use Rattle.hickory_wire.specs.rr.domain.NameOrder.{lower_label, lower_labels, label_cmp, Encloses}
+use Rattle.hickory_wire.proofs.lemmas.rr.domain.WireForm.{name_len-wire_form, is_wire_of, cut_of}
+use Rattle.hickory_wire.specs.rr.domain.NameHash.{equal_is}
+use Rattle.hickory_wire.proofs.lemmas.rr.domain.SameNames.{lower-wire, lower-wire_all, wire-same, both_ways, eq_is, eq_from, same_cmp, is_false}
 
 -- these labels are the same, letter case aside
 abbrev pub same_labels : List (List ℕ) → List (List ℕ) → Bool

@@ -1,9 +1,9 @@
 -- Labels in wire form, without the first of them.
 use Rattle.std.proofs.Common.{◌≡◌, ℕ, ◌+◌, ◌<◌, ◌≤◌, List, [], ◌∷◌, length, drop, get_or, refl, sym, ap, ◌∙◌, arith}
 use Rattle.std.proofs.lemmas.List.Elements.{All-drop}
-use Rattle.hickory_wire.specs.DomainName.{wire_form, cut, IsLabel, AreLabels, IsWire, name_len, label_offset}
-use Rattle.hickory_wire.proofs.WireForm.{offset-rest, is_wire_of, cut_of}
-use Rattle.hickory_wire.proofs.LabelOrder.{Advance, advance}
+use Rattle.hickory_wire.specs.rr.domain.DomainName.{wire_form, cut, IsLabel, AreLabels, IsWire, name_len, label_offset}
+use Rattle.hickory_wire.proofs.lemmas.rr.domain.WireForm.{offset-rest, is_wire_of, cut_of}
+use Rattle.hickory_wire.proofs.lemmas.rr.domain.LabelOrder.{Advance, advance}
 
 less_len : (ls : List (List ℕ)) → name_len (drop 1 ls) ≤ name_len ls
 less_len [] = omega arith

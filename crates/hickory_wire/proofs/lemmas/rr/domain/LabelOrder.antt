@@ -6,8 +6,8 @@ use Rattle.std.specs.Ordering.{nat_cmp, ordering_then}
 use Rattle.std.specs.Cmp.Lexicographic.{slice_cmp}
 use Rattle.std.proofs.lemmas.List.{reverse-append, take_more, length-reverse, length-take}
 use Rattle.std.proofs.lemmas.Grind.{common_steps}
-use Rattle.hickory_wire.specs.DomainName.{wire_form, cut, IsWire, label_offset}
-use Rattle.hickory_wire.proofs.WireForm.{Step, step, step_below}
+use Rattle.hickory_wire.specs.rr.domain.DomainName.{wire_form, cut, IsWire, label_offset}
+use Rattle.hickory_wire.proofs.lemmas.rr.domain.WireForm.{Step, step, step_below}
 
 -- a label stands at a place
 pub record Site (bytes : List ℕ) (start : ℕ) (text : List ℕ) : Type 0 where

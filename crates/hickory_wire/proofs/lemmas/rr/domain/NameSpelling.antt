@@ -5,9 +5,9 @@ use Rattle.std.specs.List.{AllByRecursion, position, position_or_len}
 use Rattle.std.proofs.lemmas.Bool.{cases_lt, cases_eq, lt-ltb, le-ltb, ne_eqb, eq-eqb}
 use Rattle.std.proofs.lemmas.List.{append-nil, take_at, drop_at, take_rest}
 use Rattle.std.proofs.lemmas.List.Elements.{recursion_from_All, All-from_recursion}
-use Rattle.hickory_wire.specs.DomainName.{DomainName, IsLabel, wire_form, name_len}
-use Rattle.hickory_wire.specs.NameText.{IsNameByte, IsTextLabel, name_text, IsNameText}
-use Rattle.hickory_wire.proofs.WireForm.{name_len-wire_form, wire-append}
+use Rattle.hickory_wire.specs.rr.domain.DomainName.{DomainName, IsLabel, wire_form, name_len}
+use Rattle.hickory_wire.specs.rr.domain.NameText.{IsNameByte, IsTextLabel, name_text, IsNameText}
+use Rattle.hickory_wire.proofs.lemmas.rr.domain.WireForm.{name_len-wire_form, wire-append}
 
 -- where the first dot stands, or the end
 abbrev pub dot_at : List ℕ → ℕ

@@ -15,10 +15,10 @@ use Rattle.std.proofs.lemmas.Str.Ascii.{lowercase_is, lowercase-lowercase}
 use Rattle.std.specs.Str.{bytes_eq}
 use Rattle.std.specs.Bool.{IsTrue}
 use Rattle.std.proofs.lemmas.Map.Text.{is_eq-slice_cmp}
-use Rattle.hickory_wire.specs.DomainName.{DomainName, wire_form, cut, IsLabel, AreLabels}
-use Rattle.hickory_wire.specs.NameOrder.{lower_labels, lower_name, SameName, lower_label, label_cmp, name_cmp, name_eq}
-use Rattle.hickory_wire.specs.NameHash.{then-equal, equal_is, map-reverse, labels_exact}
-use Rattle.hickory_wire.proofs.WireForm.{cut-wire}
+use Rattle.hickory_wire.specs.rr.domain.DomainName.{DomainName, wire_form, cut, IsLabel, AreLabels}
+use Rattle.hickory_wire.specs.rr.domain.NameOrder.{lower_labels, lower_name, SameName, lower_label, label_cmp, name_cmp, name_eq}
+use Rattle.hickory_wire.specs.rr.domain.NameHash.{then-equal, equal_is, map-reverse, labels_exact}
+use Rattle.hickory_wire.proofs.lemmas.rr.domain.WireForm.{cut-wire}
 
 pub lower-wire_all : (ls : List (List ℕ)) → AllByRecursion IsLabel ls → map to_ascii_lowercase (wire_form ls) ≡ wire_form (map lower_label ls)
 lower-wire_all [] h = refl

@@ -1,9 +1,9 @@
 -- Names as text, label by label.
 use Rattle.std.proofs.Common.{◌≡◌, ◌∙◌, ℕ, zero, suc, ◌+◌, ◌<◌, List, [], ◌∷◌, ◌++◌, length, take, get_or, ap, sym, arith, Bool, false, flat_map, append-nil, codes, if◌then◌else◌, ◌≤◌, refl}
 use Rattle.std.proofs.lemmas.List.{take_more, flat_map_more, take_all}
-use Rattle.hickory_wire.specs.DomainName.{DomainName, wire_form, label_offset}
-use Rattle.hickory_wire.specs.TextForm.{bytes_text, labels_text, spelled_name}
-use Rattle.hickory_wire.proofs.WireForm.{below_at}
+use Rattle.hickory_wire.specs.rr.domain.DomainName.{DomainName, wire_form, label_offset}
+use Rattle.hickory_wire.specs.text.TextForm.{bytes_text, labels_text, spelled_name}
+use Rattle.hickory_wire.proofs.lemmas.rr.domain.WireForm.{below_at}
 
 -- what stands before a label, and the label
 abbrev pub piece : ℕ → List ℕ → List ℕ

@@ -7,7 +7,7 @@ use Rattle.std.proofs.Math.ListN.{set}
 use Rattle.std.proofs.lemmas.List.{take_more_set, length-set, length-take, take_at, drop_at, get_or-drop, drop_more, append_assoc, append-nil, drop_all}
 use Rattle.std.proofs.lemmas.List.Elements.{All-push, recursion_from_All}
 use Rattle.std.specs.List.{AllByRecursion}
-use Rattle.hickory_wire.specs.DomainName.{wire_form, cut, cut_within, IsLabel, AreLabels, IsWire, label_offset, name_len}
+use Rattle.hickory_wire.specs.rr.domain.DomainName.{wire_form, cut, cut_within, IsLabel, AreLabels, IsWire, label_offset, name_len}
 
 cut_within-wire : (fuel : ℕ) (ls : List (List ℕ)) → length (wire_form ls) ≤ fuel → cut_within fuel (wire_form ls) ≡ ls
 cut_within-wire zero [] h = refl

@@ -3,21 +3,21 @@ use Rattle.std.proofs.Common.{◌≡◌, ℕ, List, [], ◌∷◌, ◌++◌, len
 use Rattle.std.specs.Prelude.{filter, option_to_list}
 use Rattle.std.proofs.lemmas.Bool.{ne_eqb}
 use Rattle.std.proofs.lemmas.List.{append-nil}
-use Rattle.hickory_wire.specs.EdnsFields.{EdnsFields}
-use Rattle.hickory_wire.specs.MessageLayout.{is_opt, is_tsig, SaysEdns, HasEdns, tsig_record, AdditionalSection}
-use Rattle.hickory_wire.specs.Reading.{◌>>=◌}
-use Rattle.hickory_wire.specs.RecordData.{type_of}
-use Rattle.hickory_wire.specs.SectionReading.{Additionals, edns_of, with_data, placed, add_record, no_additionals}
-use Rattle.hickory_wire.specs.declared.edns.EdnsOption.{EdnsOption}
+use Rattle.hickory_wire.specs.op.EdnsFields.{EdnsFields}
+use Rattle.hickory_wire.specs.serialize.layout.MessageLayout.{is_opt, is_tsig, SaysEdns, HasEdns, tsig_record, AdditionalSection}
+use Rattle.hickory_wire.specs.serialize.reading.Reading.{◌>>=◌}
+use Rattle.hickory_wire.specs.rr.RecordData.{type_of}
+use Rattle.hickory_wire.specs.serialize.reading.SectionReading.{Additionals, edns_of, with_data, placed, add_record, no_additionals}
+use Rattle.hickory_wire.specs.declared.op.edns.EdnsOption.{EdnsOption}
 use Rattle.hickory_wire.specs.declared.error.DecodeError.{DecodeError}
 use Rattle.hickory_wire.specs.declared.error.DecodeError.TheVariants.{DuplicateEdns, EdnsNameNotRoot}
-use Rattle.hickory_wire.specs.declared.rdata.RData.{RData}
-use Rattle.hickory_wire.specs.declared.rdata.RData.TheVariants as rdata
-use Rattle.hickory_wire.specs.declared.record.Record.{Record}
-use Rattle.hickory_wire.specs.declared.tsig.TSIG.{TSIG}
-use Rattle.hickory_wire.proofs.RecordSorts.{Sort, AreSorted}
-use Rattle.hickory_wire.proofs.RecordSorts.Sort.{an_opt, a_tsig, other}
-use Rattle.hickory_wire.proofs.StringSteps.{wrap, ok_is, bind_ok, guard_ok}
+use Rattle.hickory_wire.specs.declared.rr.rdata.RData.{RData}
+use Rattle.hickory_wire.specs.declared.rr.rdata.RData.TheVariants as rdata
+use Rattle.hickory_wire.specs.declared.rr.record.Record.{Record}
+use Rattle.hickory_wire.specs.declared.rr.tsig.TSIG.{TSIG}
+use Rattle.hickory_wire.proofs.lemmas.serialize.reading.RecordSorts.{Sort, AreSorted}
+use Rattle.hickory_wire.proofs.lemmas.serialize.reading.RecordSorts.Sort.{an_opt, a_tsig, other}
+use Rattle.hickory_wire.proofs.lemmas.serialize.reading.StringSteps.{wrap, ok_is, bind_ok, guard_ok}
 
 -- these records, placed one after another
 abbrev pub placed_all : Additionals → List (Record RData) → Result Additionals DecodeError

@@ -5,12 +5,12 @@ use Rattle.std.specs.Int.{Width, w16, w32, byte_len, to_be_bytes, from_be_bytes}
 use Rattle.std.proofs.lemmas.Bool.{le-ltb, cases_lt}
 use Rattle.std.proofs.lemmas.List.{get_or-drop, get_or-take, get_or_append_left, get_or-append-add, ext_get_or, length-take, length-drop}
 use Rattle.std.proofs.lemmas.Nat.{from_be_bytes-to_be_bytes_2, from_be_bytes-to_be_bytes_4}
-use Rattle.hickory_wire.specs.Cursor.{Cursor}
-use Rattle.hickory_wire.specs.Reading.{Read, number, octets}
-use Rattle.hickory_wire.specs.Bytes.{BytesAt}
-use Rattle.hickory_wire.specs.RecordData.{character_string}
-use Rattle.hickory_wire.specs.RecordReading.{byte, first_byte, string, strings_within, strings_until, counted_octets}
-use Rattle.hickory_wire.proofs.StringSteps.{strings_until-step}
+use Rattle.hickory_wire.specs.serialize.reading.Cursor.{Cursor}
+use Rattle.hickory_wire.specs.serialize.reading.Reading.{Read, number, octets}
+use Rattle.hickory_wire.specs.serialize.layout.Bytes.{BytesAt}
+use Rattle.hickory_wire.specs.rr.RecordData.{character_string}
+use Rattle.hickory_wire.specs.serialize.reading.RecordReading.{byte, first_byte, string, strings_within, strings_until, counted_octets}
+use Rattle.hickory_wire.proofs.lemmas.serialize.reading.StringSteps.{strings_until-step}
 
 -- the cursor at a place
 abbrev pub here : List ℕ → ℕ → Cursor

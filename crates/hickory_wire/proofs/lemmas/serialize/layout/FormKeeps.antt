@@ -1,15 +1,15 @@
 -- A record and a question stay where they are when bytes are put behind them, and when bytes below their floor change.
 use Rattle.std.proofs.Common.{ℕ, ◌<◌, ◌≤◌, List, length, arith}
-use Rattle.hickory_wire.specs.Bytes.{KeepsFrom}
-use Rattle.hickory_wire.specs.NameLayout.{LabelsAt}
-use Rattle.hickory_wire.specs.NameLayout.LabelsAt.{at_end, at_label, at_pointer}
-use Rattle.hickory_wire.specs.QuestionLayout.{QuestionAt}
-use Rattle.hickory_wire.specs.RecordLayout.{OctetsAt, DataAt, FormAt}
-use Rattle.hickory_wire.specs.declared.query.Query.{Query}
-use Rattle.hickory_wire.specs.declared.rdata.RData.{RData}
-use Rattle.hickory_wire.specs.declared.rdata.RData.TheVariants as rdata
-use Rattle.hickory_wire.specs.declared.record.Record.{Record}
-use Rattle.hickory_wire.proofs.Stable.{BytesAt-keeps, NameAt-keeps}
+use Rattle.hickory_wire.specs.serialize.layout.Bytes.{KeepsFrom}
+use Rattle.hickory_wire.specs.serialize.layout.NameLayout.{LabelsAt}
+use Rattle.hickory_wire.specs.serialize.layout.NameLayout.LabelsAt.{at_end, at_label, at_pointer}
+use Rattle.hickory_wire.specs.serialize.layout.QuestionLayout.{QuestionAt}
+use Rattle.hickory_wire.specs.serialize.layout.RecordLayout.{OctetsAt, DataAt, FormAt}
+use Rattle.hickory_wire.specs.declared.op.query.Query.{Query}
+use Rattle.hickory_wire.specs.declared.rr.rdata.RData.{RData}
+use Rattle.hickory_wire.specs.declared.rr.rdata.RData.TheVariants as rdata
+use Rattle.hickory_wire.specs.declared.rr.record.Record.{Record}
+use Rattle.hickory_wire.proofs.lemmas.serialize.layout.Stable.{BytesAt-keeps, NameAt-keeps}
 
 -- labels take at least a byte, lie in the bytes, and not below their floor
 pub LabelsAt-longer : {floor : ℕ} {bytes : List ℕ} {start place next : ℕ} {labels : List (List ℕ)} → LabelsAt floor bytes start place labels next → (place < next) × (next ≤ length bytes) × (floor ≤ place)

@@ -1,9 +1,9 @@
 -- The two bytes of flags keep each bit.
 use Rattle.std.proofs.Common.{◌≡◌, ℕ, ◌+◌, ◌*◌, ◌/◌, ◌%◌, ◌^◌, ◌<◌, Bool, true, false, eqb, cond, refl, ap, ◌∙◌, arith}
-use Rattle.hickory_wire.specs.HeaderLayout.{bit, flag, metadata_of, is_response, first_flags, second_flags}
-use Rattle.hickory_wire.specs.declared.header.MessageType.{MessageType}
-use Rattle.hickory_wire.specs.declared.header.MessageType.TheVariants as message_type
-use Rattle.hickory_wire.specs.declared.header.Metadata.{Metadata}
+use Rattle.hickory_wire.specs.serialize.layout.HeaderLayout.{bit, flag, metadata_of, is_response, first_flags, second_flags}
+use Rattle.hickory_wire.specs.declared.op.header.MessageType.{MessageType}
+use Rattle.hickory_wire.specs.declared.op.header.MessageType.TheVariants as message_type
+use Rattle.hickory_wire.specs.declared.op.header.Metadata.{Metadata}
 
 -- a bit as a number
 value : Bool → ℕ

@@ -2,11 +2,11 @@
 use Rattle.std.proofs.Common.{◌≡◌, ℕ, List, Ok, arith}
 use Rattle.std.specs.List.{AllByRecursion}
 use Rattle.std.proofs.lemmas.List.Elements.{All-from_recursion}
-use Rattle.hickory_wire.specs.DomainName.{IsLabel, AreLabels}
-use Rattle.hickory_wire.specs.NameReading.{labels_from}
-use Rattle.hickory_wire.specs.NameLayout.{LabelsAt}
-use Rattle.hickory_wire.specs.NameLayout.LabelsAt.{at_end, at_label, at_pointer}
-use Rattle.hickory_wire.proofs.LabelSteps.{labels_from-answers}
+use Rattle.hickory_wire.specs.rr.domain.DomainName.{IsLabel, AreLabels}
+use Rattle.hickory_wire.specs.serialize.reading.NameReading.{labels_from}
+use Rattle.hickory_wire.specs.serialize.layout.NameLayout.{LabelsAt}
+use Rattle.hickory_wire.specs.serialize.layout.NameLayout.LabelsAt.{at_end, at_label, at_pointer}
+use Rattle.hickory_wire.proofs.lemmas.serialize.reading.LabelSteps.{labels_from-answers}
 
 pub each_is_label : {floor : ℕ} {bytes : List ℕ} {start place next : ℕ} {labels : List (List ℕ)} → LabelsAt floor bytes start place labels next → AllByRecursion IsLabel labels
 each_is_label (at_end a s e) = tt

@@ -2,18 +2,18 @@
 use Rattle.std.proofs.Common.{◌≡◌, inl, inr, ℕ, ◌+◌, ◌-◌, ◌≤◌, List, [], ◌∷◌, ◌++◌, length, get_or, arith}
 use Rattle.std.proofs.lemmas.Bool.{cases_lt}
 use Rattle.std.proofs.lemmas.List.{get_or_append_left, get_or-append-add}
-use Rattle.hickory_wire.specs.Bytes.{AreBytes, KeepsFrom}
-use Rattle.hickory_wire.specs.HeaderLayout.{HeaderAt}
-use Rattle.hickory_wire.specs.MessageLayout.{ItemsAt, QuestionRead, MessageAt}
-use Rattle.hickory_wire.specs.RecordLayout.{DataRead, RecordAt}
-use Rattle.hickory_wire.specs.declared.header.Header.{Header}
-use Rattle.hickory_wire.specs.declared.message.Message.{Message}
-use Rattle.hickory_wire.specs.declared.query.Query.{Query}
-use Rattle.hickory_wire.specs.declared.rdata.RData.{RData}
-use Rattle.hickory_wire.specs.declared.rdata.RData.TheVariants as rdata
-use Rattle.hickory_wire.specs.declared.record.Record.{Record}
-use Rattle.hickory_wire.proofs.FormKeeps.{OctetsAt-keeps, DataAt-keeps, QuestionAt-keeps}
-use Rattle.hickory_wire.proofs.Stable.{BytesAt-keeps, NameAt-keeps}
+use Rattle.hickory_wire.specs.serialize.layout.Bytes.{AreBytes, KeepsFrom}
+use Rattle.hickory_wire.specs.serialize.layout.HeaderLayout.{HeaderAt}
+use Rattle.hickory_wire.specs.serialize.layout.MessageLayout.{ItemsAt, QuestionRead, MessageAt}
+use Rattle.hickory_wire.specs.serialize.layout.RecordLayout.{DataRead, RecordAt}
+use Rattle.hickory_wire.specs.declared.op.header.Header.{Header}
+use Rattle.hickory_wire.specs.declared.op.message.Message.{Message}
+use Rattle.hickory_wire.specs.declared.op.query.Query.{Query}
+use Rattle.hickory_wire.specs.declared.rr.rdata.RData.{RData}
+use Rattle.hickory_wire.specs.declared.rr.rdata.RData.TheVariants as rdata
+use Rattle.hickory_wire.specs.declared.rr.record.Record.{Record}
+use Rattle.hickory_wire.proofs.lemmas.serialize.layout.FormKeeps.{OctetsAt-keeps, DataAt-keeps, QuestionAt-keeps}
+use Rattle.hickory_wire.proofs.lemmas.serialize.layout.Stable.{BytesAt-keeps, NameAt-keeps}
 
 none_below : 0 ≤ 0
 none_below = omega arith

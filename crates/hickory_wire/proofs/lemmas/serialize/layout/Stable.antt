@@ -1,10 +1,10 @@
 -- A name stays where it is when bytes are added, and when bytes below its floor change; bytes have at most one name at a place.
 use Rattle.std.proofs.Common.{◌≡◌, ℕ, suc, ◌+◌, ◌≤◌, List, ◌∷◌, ◌++◌, length, get_or, refl, sym, ap, ◌∙◌, arith, length-append}
 use Rattle.std.proofs.lemmas.List.{get_or_append_left, get_or-append-add, ext_get_or}
-use Rattle.hickory_wire.specs.DomainName.{DomainName}
-use Rattle.hickory_wire.specs.Bytes.{BytesAt, KeepsFrom}
-use Rattle.hickory_wire.specs.NameLayout.{LabelsAt, NameAt}
-use Rattle.hickory_wire.specs.NameLayout.LabelsAt.{at_end, at_label, at_pointer}
+use Rattle.hickory_wire.specs.rr.domain.DomainName.{DomainName}
+use Rattle.hickory_wire.specs.serialize.layout.Bytes.{BytesAt, KeepsFrom}
+use Rattle.hickory_wire.specs.serialize.layout.NameLayout.{LabelsAt, NameAt}
+use Rattle.hickory_wire.specs.serialize.layout.NameLayout.LabelsAt.{at_end, at_label, at_pointer}
 
 pub BytesAt-keeps : {old new text : List ℕ} {floor place : ℕ} → KeepsFrom floor old new → floor ≤ place → BytesAt old place text → BytesAt new place text
 BytesAt-keeps {old} {new} {text} {floor} {place} k h s = record {

@@ -5,9 +5,9 @@ use Rattle.std.proofs.Common.{inl, inr, zero}
 use Rattle.std.proofs.lemmas.Bool.{cases_lt}
 use Rattle.std.proofs.lemmas.Option.{slice_get_within, slice_get-get_or, get_or_from_slice_get, slice_get_past}
 use Rattle.std.proofs.lemmas.List.{get_or-drop, ext_get_or, length-take, length-drop, get_or-take}
-use Rattle.hickory_wire.specs.Bytes.{BytesAt}
-use Rattle.hickory_wire.specs.NameReading.{label_at}
-use Rattle.hickory_wire.specs.DomainName.{name_len}
+use Rattle.hickory_wire.specs.serialize.layout.Bytes.{BytesAt}
+use Rattle.hickory_wire.specs.serialize.reading.NameReading.{label_at}
+use Rattle.hickory_wire.specs.rr.domain.DomainName.{name_len}
 
 pub name_len-pos : (ls : List (List ℕ)) → 0 < name_len ls
 name_len-pos [] = omega arith

@@ -1,20 +1,20 @@
 -- So many records of the additional section are read exactly where they stand one behind the other and make an additional section.
 use Rattle.std.proofs.Common.{◌≡◌, ℕ, zero, suc, List, [], ◌∷◌, length, Ok, refl, sym, ap, subst, arith}
-use Rattle.hickory_wire.specs.Bytes.{AreBytes}
-use Rattle.hickory_wire.specs.Cursor.{Cursor}
-use Rattle.hickory_wire.specs.MessageLayout.{ItemsAt, AdditionalSection}
-use Rattle.hickory_wire.specs.Reading.{◌>>=◌}
-use Rattle.hickory_wire.specs.RecordLayout.{RecordAt}
-use Rattle.hickory_wire.specs.RecordReading.{resource}
-use Rattle.hickory_wire.specs.SectionReading.{Additionals, add_record, additionals_after, no_additionals}
-use Rattle.hickory_wire.specs.declared.rdata.RData.{RData}
-use Rattle.hickory_wire.specs.declared.record.Record.{Record}
-use Rattle.hickory_wire.proofs.Additional.{placed_all, then_placed, section_found, section_placed}
-use Rattle.hickory_wire.proofs.ByteTexts.{here, read_here}
-use Rattle.hickory_wire.proofs.CountedItems.{at_place}
-use Rattle.hickory_wire.proofs.RecordSorts.{sorts_of}
-use Rattle.hickory_wire.proofs.SectionItems.{records_find, records_reach}
-use Rattle.hickory_wire.proofs.StringSteps.{wrap, ok_is, bind_ok}
+use Rattle.hickory_wire.specs.serialize.layout.Bytes.{AreBytes}
+use Rattle.hickory_wire.specs.serialize.reading.Cursor.{Cursor}
+use Rattle.hickory_wire.specs.serialize.layout.MessageLayout.{ItemsAt, AdditionalSection}
+use Rattle.hickory_wire.specs.serialize.reading.Reading.{◌>>=◌}
+use Rattle.hickory_wire.specs.serialize.layout.RecordLayout.{RecordAt}
+use Rattle.hickory_wire.specs.serialize.reading.RecordReading.{resource}
+use Rattle.hickory_wire.specs.serialize.reading.SectionReading.{Additionals, add_record, additionals_after, no_additionals}
+use Rattle.hickory_wire.specs.declared.rr.rdata.RData.{RData}
+use Rattle.hickory_wire.specs.declared.rr.record.Record.{Record}
+use Rattle.hickory_wire.proofs.lemmas.serialize.layout.Additional.{placed_all, then_placed, section_found, section_placed}
+use Rattle.hickory_wire.proofs.lemmas.serialize.layout.ByteTexts.{here, read_here}
+use Rattle.hickory_wire.proofs.lemmas.serialize.reading.CountedItems.{at_place}
+use Rattle.hickory_wire.proofs.lemmas.serialize.reading.RecordSorts.{sorts_of}
+use Rattle.hickory_wire.proofs.lemmas.serialize.reading.SectionItems.{records_find, records_reach}
+use Rattle.hickory_wire.proofs.lemmas.serialize.reading.StringSteps.{wrap, ok_is, bind_ok}
 
 -- records that stand one behind the other, and what they make of what was read before
 record Placed (bytes : List ℕ) (n : ℕ) (x : Additionals) (place : ℕ) (y : Additionals) (next : Cursor) : Type 0 where

@@ -1,12 +1,12 @@
 -- So many items are read, one behind the other, exactly where so many stand one behind the other.
 use Rattle.std.proofs.Common.{◌≡◌, ◌↔◌, ℕ, zero, suc, List, [], ◌∷◌, ◌++◌, length, Ok, refl, sym, ap, subst, ◌∙◌, append_assoc}
 use Rattle.std.proofs.lemmas.List.{append-nil}
-use Rattle.hickory_wire.specs.Cursor.{Cursor}
-use Rattle.hickory_wire.specs.MessageLayout.{ItemsAt}
-use Rattle.hickory_wire.specs.Reading.{Read}
-use Rattle.hickory_wire.specs.SectionReading.{items}
-use Rattle.hickory_wire.proofs.ByteTexts.{here, read_here}
-use Rattle.hickory_wire.proofs.StringSteps.{ok_is, bind_ok}
+use Rattle.hickory_wire.specs.serialize.reading.Cursor.{Cursor}
+use Rattle.hickory_wire.specs.serialize.layout.MessageLayout.{ItemsAt}
+use Rattle.hickory_wire.specs.serialize.reading.Reading.{Read}
+use Rattle.hickory_wire.specs.serialize.reading.SectionReading.{items}
+use Rattle.hickory_wire.proofs.lemmas.serialize.layout.ByteTexts.{here, read_here}
+use Rattle.hickory_wire.proofs.lemmas.serialize.reading.StringSteps.{ok_is, bind_ok}
 
 -- a cursor of these bytes is at its place in them
 pub is_here : {bytes : List ℕ} (c : Cursor) → c.bytes ≡ bytes → c ≡ here bytes c.place

@@ -3,21 +3,21 @@ use Rattle.std.proofs.Common.{◌≡◌, ◌⊎◌, inl, inr, ℕ, ◌+◌, ◌<
 use Rattle.std.specs.Int.{Width, w16, byte_len, from_be_bytes}
 use Rattle.std.proofs.lemmas.Bool.{cases_lt, lt-ltb, le-ltb}
 use Rattle.std.proofs.lemmas.List.{length-drop}
-use Rattle.hickory_wire.specs.Bytes.{AreBytes}
-use Rattle.hickory_wire.specs.Cursor.{Cursor}
-use Rattle.hickory_wire.specs.DomainName.{DomainName}
-use Rattle.hickory_wire.specs.NameLayout.{NameAt, NameFault}
-use Rattle.hickory_wire.specs.NameReading.{name, qualified}
-use Rattle.hickory_wire.specs.Reading.{Read, ◌>>=◌, number, octets}
-use Rattle.hickory_wire.specs.RecordFaults.{NumberAt}
-use Rattle.hickory_wire.specs.RecordReading.{byte, first_byte}
+use Rattle.hickory_wire.specs.serialize.layout.Bytes.{AreBytes}
+use Rattle.hickory_wire.specs.serialize.reading.Cursor.{Cursor}
+use Rattle.hickory_wire.specs.rr.domain.DomainName.{DomainName}
+use Rattle.hickory_wire.specs.serialize.layout.NameLayout.{NameAt, NameFault}
+use Rattle.hickory_wire.specs.serialize.reading.NameReading.{name, qualified}
+use Rattle.hickory_wire.specs.serialize.reading.Reading.{Read, ◌>>=◌, number, octets}
+use Rattle.hickory_wire.specs.serialize.reading.RecordFaults.{NumberAt}
+use Rattle.hickory_wire.specs.serialize.reading.RecordReading.{byte, first_byte}
 use Rattle.hickory_wire.specs.declared.error.DecodeError.{DecodeError}
 use Rattle.hickory_wire.specs.declared.error.DecodeError.TheVariants.{InsufficientBytes}
-use Rattle.hickory_wire.proofs.ByteTexts.{here, read_here}
-use Rattle.hickory_wire.proofs.FormKeeps.{LabelsAt-longer}
-use Rattle.hickory_wire.proofs.NameLaws.{found_name, name_found, name_fault}
-use Rattle.hickory_wire.proofs.CountedItems.{is_here}
-use Rattle.hickory_wire.proofs.ReadFields.{name_keeps, number16_in}
+use Rattle.hickory_wire.proofs.lemmas.serialize.layout.ByteTexts.{here, read_here}
+use Rattle.hickory_wire.proofs.lemmas.serialize.layout.FormKeeps.{LabelsAt-longer}
+use Rattle.hickory_wire.proofs.lemmas.serialize.reading.NameLaws.{found_name, name_found, name_fault}
+use Rattle.hickory_wire.proofs.lemmas.serialize.reading.CountedItems.{is_here}
+use Rattle.hickory_wire.proofs.lemmas.serialize.reading.ReadFields.{name_keeps, number16_in}
 
 -- an error
 abbrev pub fail : {A : Type 0} → DecodeError → Result A DecodeError

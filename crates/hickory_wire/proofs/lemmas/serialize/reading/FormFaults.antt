@@ -4,33 +4,33 @@ use Rattle.std.specs.Int.{w16, w32}
 use Rattle.std.specs.Net.Addr.{ipv6_octets}
 use Rattle.std.proofs.lemmas.Bool.{cases_eq, cases_lt, lt-ltb, le-ltb, eq-eqb, ne_eqb}
 use Rattle.std.proofs.lemmas.List.{length-drop}
-use Rattle.hickory_wire.specs.Addresses.{ipv4_of, ipv6_of, IsIpv6}
-use Rattle.hickory_wire.specs.Bytes.{AreBytes}
-use Rattle.hickory_wire.specs.Cursor.{Cursor}
-use Rattle.hickory_wire.specs.DomainName.{DomainName}
-use Rattle.hickory_wire.specs.NameLayout.{NameAt, NameFault, IsFullyQualified}
-use Rattle.hickory_wire.specs.NameReading.{name, qualified}
-use Rattle.hickory_wire.specs.Reading.{Read, ◌>>=◌, number, octets}
-use Rattle.hickory_wire.specs.RecordData.{type_of}
-use Rattle.hickory_wire.specs.RecordFaults.{EndsItself, FormFault, DataFault}
-use Rattle.hickory_wire.specs.RecordFaults.FormFault.{ipv4_missing, ipv6_missing, ns_faulty, cname_faulty, ptr_faulty, preference_missing, exchange_faulty, mname_faulty, rname_faulty, numbers_missing, string_missing, string_too_long, algorithm_faulty, mac_size_missing, other_len_missing, other_missing, ends_elsewhere}
-use Rattle.hickory_wire.specs.RecordFaults.DataFault.{no_octets, form_faulty}
-use Rattle.hickory_wire.specs.RecordLayout.{OctetsAt, DataRead}
-use Rattle.hickory_wire.specs.RecordReading.{soa, mx, tsig, form, record_data, strings_until, counted_octets, options_of}
+use Rattle.hickory_wire.specs.rr.Addresses.{ipv4_of, ipv6_of, IsIpv6}
+use Rattle.hickory_wire.specs.serialize.layout.Bytes.{AreBytes}
+use Rattle.hickory_wire.specs.serialize.reading.Cursor.{Cursor}
+use Rattle.hickory_wire.specs.rr.domain.DomainName.{DomainName}
+use Rattle.hickory_wire.specs.serialize.layout.NameLayout.{NameAt, NameFault, IsFullyQualified}
+use Rattle.hickory_wire.specs.serialize.reading.NameReading.{name, qualified}
+use Rattle.hickory_wire.specs.serialize.reading.Reading.{Read, ◌>>=◌, number, octets}
+use Rattle.hickory_wire.specs.rr.RecordData.{type_of}
+use Rattle.hickory_wire.specs.serialize.reading.RecordFaults.{EndsItself, FormFault, DataFault}
+use Rattle.hickory_wire.specs.serialize.reading.RecordFaults.FormFault.{ipv4_missing, ipv6_missing, ns_faulty, cname_faulty, ptr_faulty, preference_missing, exchange_faulty, mname_faulty, rname_faulty, numbers_missing, string_missing, string_too_long, algorithm_faulty, mac_size_missing, other_len_missing, other_missing, ends_elsewhere}
+use Rattle.hickory_wire.specs.serialize.reading.RecordFaults.DataFault.{no_octets, form_faulty}
+use Rattle.hickory_wire.specs.serialize.layout.RecordLayout.{OctetsAt, DataRead}
+use Rattle.hickory_wire.specs.serialize.reading.RecordReading.{soa, mx, tsig, form, record_data, strings_until, counted_octets, options_of}
 use Rattle.hickory_wire.specs.declared.error.DecodeError.{DecodeError}
 use Rattle.hickory_wire.specs.declared.error.DecodeError.TheVariants.{InsufficientBytes, IncorrectDataLength}
-use Rattle.hickory_wire.specs.declared.rdata.RData.{RData}
-use Rattle.hickory_wire.specs.declared.rdata.RData.TheVariants as rdata
-use Rattle.hickory_wire.proofs.AddressOctets.{as_segments}
-use Rattle.hickory_wire.proofs.TextFaults.{texts_err, texts_past, next_cut, next_past}
-use Rattle.hickory_wire.proofs.TsigFaults.{tsig_part, size_short, len_short, end_short}
-use Rattle.hickory_wire.proofs.ByteTexts.{here, read_here, octets_here}
-use Rattle.hickory_wire.proofs.FaultSteps.{Runs, fail, fail_is, bind_err, branch_err, octets_run, number_run, done_run, then_run, run_err, run_short, run_ok, short_is, name_read, name_err}
-use Rattle.hickory_wire.proofs.FormIsRead.{aaaa_here, name_here, mx_here, soa_here, tsig_here}
-use Rattle.hickory_wire.proofs.NameLaws.{fault_name}
-use Rattle.hickory_wire.proofs.ReadData.{Gave, mx_in, soa_in, tsig_in}
-use Rattle.hickory_wire.proofs.ReadFields.{bind_then, name_in, ne_of, octets_in, stands_bytes}
-use Rattle.hickory_wire.proofs.StringSteps.{ok_is}
+use Rattle.hickory_wire.specs.declared.rr.rdata.RData.{RData}
+use Rattle.hickory_wire.specs.declared.rr.rdata.RData.TheVariants as rdata
+use Rattle.hickory_wire.proofs.lemmas.rr.AddressOctets.{as_segments}
+use Rattle.hickory_wire.proofs.lemmas.serialize.reading.TextFaults.{texts_err, texts_past, next_cut, next_past}
+use Rattle.hickory_wire.proofs.lemmas.serialize.reading.TsigFaults.{tsig_part, size_short, len_short, end_short}
+use Rattle.hickory_wire.proofs.lemmas.serialize.layout.ByteTexts.{here, read_here, octets_here}
+use Rattle.hickory_wire.proofs.lemmas.serialize.reading.FaultSteps.{Runs, fail, fail_is, bind_err, branch_err, octets_run, number_run, done_run, then_run, run_err, run_short, run_ok, short_is, name_read, name_err}
+use Rattle.hickory_wire.proofs.lemmas.serialize.reading.FormIsRead.{aaaa_here, name_here, mx_here, soa_here, tsig_here}
+use Rattle.hickory_wire.proofs.lemmas.serialize.reading.NameLaws.{fault_name}
+use Rattle.hickory_wire.proofs.lemmas.serialize.reading.ReadData.{Gave, mx_in, soa_in, tsig_in}
+use Rattle.hickory_wire.proofs.lemmas.serialize.reading.ReadFields.{bind_then, name_in, ne_of, octets_in, stands_bytes}
+use Rattle.hickory_wire.proofs.lemmas.serialize.reading.StringSteps.{ok_is}
 
 -- ---- data with their length
 

@@ -7,28 +7,28 @@ use Rattle.std.proofs.lemmas.List.{length-drop}
 use Rattle.std.proofs.lemmas.Nat.{div-add-mod', div_below, mod_below}
 use Rattle.std.specs.Net.Addr.{ipv6_octets}
 use Rattle.std.specs.declared.net.ipv6_addr.Ipv6Addr.{Ipv6Addr}
-use Rattle.hickory_wire.specs.Addresses.{ipv6_of, IsIpv6}
-use Rattle.hickory_wire.specs.Bytes.{BytesAt}
-use Rattle.hickory_wire.specs.DomainName.{DomainName}
-use Rattle.hickory_wire.specs.NameLayout.{NameAt, IsFullyQualified}
-use Rattle.hickory_wire.specs.NameReading.{name}
-use Rattle.hickory_wire.specs.Reading.{◌>>=◌, octets}
-use Rattle.hickory_wire.specs.RecordData.{character_string, option_octets, type_of}
-use Rattle.hickory_wire.specs.RecordLayout.{OctetsAt, MxAt, SoaAt, TsigAt, DataAt, fixed_fields, FormAt, IsFormed, IsFormedRecord}
-use Rattle.hickory_wire.specs.RecordReading.{soa, mx, tsig, form, record_data, resource}
-use Rattle.hickory_wire.specs.declared.edns.EdnsOption.{EdnsOption}
-use Rattle.hickory_wire.specs.declared.rdata.MX.{MX}
-use Rattle.hickory_wire.specs.declared.rdata.SOA.{SOA}
-use Rattle.hickory_wire.specs.declared.rdata.RData.{RData}
-use Rattle.hickory_wire.specs.declared.rdata.RData.TheVariants as rdata
-use Rattle.hickory_wire.specs.declared.record.Proof.TheVariants.{Indeterminate}
-use Rattle.hickory_wire.specs.declared.record.Record.{Record}
-use Rattle.hickory_wire.specs.declared.tsig.TSIG.{TSIG}
-use Rattle.hickory_wire.proofs.AddressOctets.{segments_again, octets_len}
-use Rattle.hickory_wire.proofs.ByteTexts.{here, read_here, BytesAt-left, BytesAt-right, number16_here, number32_here, octets_here, strings_here, counted_here}
-use Rattle.hickory_wire.proofs.FormKeeps.{LabelsAt-longer}
-use Rattle.hickory_wire.proofs.NameLaws.{found_name}
-use Rattle.hickory_wire.proofs.OptionSteps.{options_again}
+use Rattle.hickory_wire.specs.rr.Addresses.{ipv6_of, IsIpv6}
+use Rattle.hickory_wire.specs.serialize.layout.Bytes.{BytesAt}
+use Rattle.hickory_wire.specs.rr.domain.DomainName.{DomainName}
+use Rattle.hickory_wire.specs.serialize.layout.NameLayout.{NameAt, IsFullyQualified}
+use Rattle.hickory_wire.specs.serialize.reading.NameReading.{name}
+use Rattle.hickory_wire.specs.serialize.reading.Reading.{◌>>=◌, octets}
+use Rattle.hickory_wire.specs.rr.RecordData.{character_string, option_octets, type_of}
+use Rattle.hickory_wire.specs.serialize.layout.RecordLayout.{OctetsAt, MxAt, SoaAt, TsigAt, DataAt, fixed_fields, FormAt, IsFormed, IsFormedRecord}
+use Rattle.hickory_wire.specs.serialize.reading.RecordReading.{soa, mx, tsig, form, record_data, resource}
+use Rattle.hickory_wire.specs.declared.op.edns.EdnsOption.{EdnsOption}
+use Rattle.hickory_wire.specs.declared.rr.rdata.MX.{MX}
+use Rattle.hickory_wire.specs.declared.rr.rdata.SOA.{SOA}
+use Rattle.hickory_wire.specs.declared.rr.rdata.RData.{RData}
+use Rattle.hickory_wire.specs.declared.rr.rdata.RData.TheVariants as rdata
+use Rattle.hickory_wire.specs.declared.rr.record.Proof.TheVariants.{Indeterminate}
+use Rattle.hickory_wire.specs.declared.rr.record.Record.{Record}
+use Rattle.hickory_wire.specs.declared.rr.tsig.TSIG.{TSIG}
+use Rattle.hickory_wire.proofs.lemmas.rr.AddressOctets.{segments_again, octets_len}
+use Rattle.hickory_wire.proofs.lemmas.serialize.layout.ByteTexts.{here, read_here, BytesAt-left, BytesAt-right, number16_here, number32_here, octets_here, strings_here, counted_here}
+use Rattle.hickory_wire.proofs.lemmas.serialize.layout.FormKeeps.{LabelsAt-longer}
+use Rattle.hickory_wire.proofs.lemmas.serialize.reading.NameLaws.{found_name}
+use Rattle.hickory_wire.proofs.lemmas.serialize.reading.OptionSteps.{options_again}
 
 -- ---- the forms of data
 

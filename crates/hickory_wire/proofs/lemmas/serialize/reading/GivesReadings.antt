@@ -1,21 +1,21 @@
 -- What a call that gives what reading gives found, where something that is read stands exactly where it is read so.
 use Rattle.std.proofs.Common.{◌≡◌, ◌≢◌, ℕ, Result, Ok, Err, ap}
 use Rattle.std.specs.Prelude.{IfOk, IfErr}
-use Rattle.hickory_wire.specs.Bytes.{AreBytes}
-use Rattle.hickory_wire.specs.Cursor.{Cursor}
-use Rattle.hickory_wire.specs.MessageLayout.{QuestionRead}
-use Rattle.hickory_wire.specs.Reading.{Read, Gives}
-use Rattle.hickory_wire.specs.RecordFaults.{QuestionFault, RecordFault}
-use Rattle.hickory_wire.specs.RecordLayout.{RecordAt}
-use Rattle.hickory_wire.specs.RecordReading.{question, resource}
+use Rattle.hickory_wire.specs.serialize.layout.Bytes.{AreBytes}
+use Rattle.hickory_wire.specs.serialize.reading.Cursor.{Cursor}
+use Rattle.hickory_wire.specs.serialize.layout.MessageLayout.{QuestionRead}
+use Rattle.hickory_wire.specs.serialize.reading.Reading.{Read, Gives}
+use Rattle.hickory_wire.specs.serialize.reading.RecordFaults.{QuestionFault, RecordFault}
+use Rattle.hickory_wire.specs.serialize.layout.RecordLayout.{RecordAt}
+use Rattle.hickory_wire.specs.serialize.reading.RecordReading.{question, resource}
 use Rattle.hickory_wire.specs.declared.error.DecodeError.{DecodeError}
 use Rattle.hickory_wire.specs.declared.error.DecodeError.TheVariants.{Memory}
-use Rattle.hickory_wire.specs.declared.query.Query.{Query}
-use Rattle.hickory_wire.specs.declared.rdata.RData.{RData}
-use Rattle.hickory_wire.specs.declared.record.Record.{Record}
-use Rattle.hickory_wire.proofs.ByteTexts.{here}
-use Rattle.hickory_wire.proofs.RecordFaultLaws.{question_err, resource_err}
-use Rattle.hickory_wire.proofs.SectionItems.{questions_find, questions_reach, records_find, records_reach}
+use Rattle.hickory_wire.specs.declared.op.query.Query.{Query}
+use Rattle.hickory_wire.specs.declared.rr.rdata.RData.{RData}
+use Rattle.hickory_wire.specs.declared.rr.record.Record.{Record}
+use Rattle.hickory_wire.proofs.lemmas.serialize.layout.ByteTexts.{here}
+use Rattle.hickory_wire.proofs.lemmas.serialize.reading.RecordFaultLaws.{question_err, resource_err}
+use Rattle.hickory_wire.proofs.lemmas.serialize.reading.SectionItems.{questions_find, questions_reach, records_find, records_reach}
 
 abbrev fault : {A : Type 0} → DecodeError → Result A DecodeError
 fault e = Err e

@@ -3,21 +3,21 @@ use Rattle.std.proofs.Common.{◌≡◌, ℕ, ◌+◌, ◌%◌, ◌^◌, ◌<◌
 use Rattle.std.proofs.lemmas.Bool.{ltb-false}
 use Rattle.std.proofs.lemmas.List.{length-drop}
 use Rattle.std.specs.Int.{w16, to_be_bytes}
-use Rattle.hickory_wire.specs.Bytes.{AreBytes, BytesAt}
-use Rattle.hickory_wire.specs.Cursor.{Cursor}
-use Rattle.hickory_wire.specs.HeaderLayout.{metadata_of, first_flags, second_flags, count_octets, header_octets, AreCounts, HeaderAt}
-use Rattle.hickory_wire.specs.MessageReading.{front_of}
-use Rattle.hickory_wire.specs.Reading.{Read, ◌>>=◌, number, rest_of, moved}
-use Rattle.hickory_wire.specs.RecordLayout.{OctetsAt}
-use Rattle.hickory_wire.specs.RecordReading.{byte, first_byte}
-use Rattle.hickory_wire.specs.SectionReading.{header}
+use Rattle.hickory_wire.specs.serialize.layout.Bytes.{AreBytes, BytesAt}
+use Rattle.hickory_wire.specs.serialize.reading.Cursor.{Cursor}
+use Rattle.hickory_wire.specs.serialize.layout.HeaderLayout.{metadata_of, first_flags, second_flags, count_octets, header_octets, AreCounts, HeaderAt}
+use Rattle.hickory_wire.specs.serialize.reading.MessageReading.{front_of}
+use Rattle.hickory_wire.specs.serialize.reading.Reading.{Read, ◌>>=◌, number, rest_of, moved}
+use Rattle.hickory_wire.specs.serialize.layout.RecordLayout.{OctetsAt}
+use Rattle.hickory_wire.specs.serialize.reading.RecordReading.{byte, first_byte}
+use Rattle.hickory_wire.specs.serialize.reading.SectionReading.{header}
 use Rattle.hickory_wire.specs.declared.error.DecodeError.TheVariants.{InsufficientBytes}
-use Rattle.hickory_wire.specs.declared.header.Header.{Header}
-use Rattle.hickory_wire.specs.declared.header.Metadata.{Metadata}
-use Rattle.hickory_wire.proofs.HeaderBits.{bits_kept}
-use Rattle.hickory_wire.proofs.StringSteps.{wrap, ok_is, guard_ok, bind_ok}
-use Rattle.hickory_wire.proofs.ReadFields.{In, join_octets, number16_in}
-use Rattle.hickory_wire.proofs.ByteTexts.{read_here, BytesAt-left, BytesAt-right, number16_here, byte_is, byte_here}
+use Rattle.hickory_wire.specs.declared.op.header.Header.{Header}
+use Rattle.hickory_wire.specs.declared.op.header.Metadata.{Metadata}
+use Rattle.hickory_wire.proofs.lemmas.serialize.layout.HeaderBits.{bits_kept}
+use Rattle.hickory_wire.proofs.lemmas.serialize.reading.StringSteps.{wrap, ok_is, guard_ok, bind_ok}
+use Rattle.hickory_wire.proofs.lemmas.serialize.reading.ReadFields.{In, join_octets, number16_in}
+use Rattle.hickory_wire.proofs.lemmas.serialize.layout.ByteTexts.{read_here, BytesAt-left, BytesAt-right, number16_here, byte_is, byte_here}
 
 -- a header that was written stands there, with the low four bits of its code
 pub header_stands : (bytes : List ℕ) (h : Header) → h.metadata.id < 2 ^ 16 → h.metadata.op_code < 16 → AreCounts h.counts → BytesAt bytes 0 (header_octets h)

@@ -1,12 +1,12 @@
 -- Items that were read before, and those that are still read.
 use Rattle.std.proofs.Common.{◌≡◌, ℕ, suc, ◌+◌, ◌-◌, ◌<◌, ◌≤◌, List, [], ◌∷◌, ◌++◌, Ok, Err, refl, sym, ◌∙◌, arith}
 use Rattle.hickory_wire.specs.declared.error.DecodeError.{DecodeError}
-use Rattle.hickory_wire.specs.declared.rdata.RData.{RData}
-use Rattle.hickory_wire.specs.declared.record.Record.{Record}
-use Rattle.hickory_wire.specs.Cursor.{Cursor}
-use Rattle.hickory_wire.specs.Reading.{Read, Fails}
-use Rattle.hickory_wire.specs.RecordReading.{resource}
-use Rattle.hickory_wire.specs.SectionReading.{items, Additionals, add_record, additionals_after}
+use Rattle.hickory_wire.specs.declared.rr.rdata.RData.{RData}
+use Rattle.hickory_wire.specs.declared.rr.record.Record.{Record}
+use Rattle.hickory_wire.specs.serialize.reading.Cursor.{Cursor}
+use Rattle.hickory_wire.specs.serialize.reading.Reading.{Read, Fails}
+use Rattle.hickory_wire.specs.serialize.reading.RecordReading.{resource}
+use Rattle.hickory_wire.specs.serialize.reading.SectionReading.{items, Additionals, add_record, additionals_after}
 
 module _ {A : Type 0} (read : Cursor → Read A) (count i : ℕ) (before : List A) (c : Cursor) (total : Read (List A)) (so_far : items read (count - i) before c ≡ total) where
   pub items_go_on : (x : A) (d : Cursor) → i < count → read c ≡ Ok (x, d) → items read (count - (i + 1)) (before ++ x ∷ []) d ≡ total

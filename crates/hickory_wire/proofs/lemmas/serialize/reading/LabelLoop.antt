@@ -3,14 +3,14 @@ use Rattle.std.proofs.Common.{◌≡◌, ℕ, ◌+◌, ◌<◌, ◌≤◌, List,
 use Rattle.std.specs.Prelude.{unwrap_or, slice_get, IfSome}
 use Rattle.std.proofs.lemmas.List.{append-nil}
 use Rattle.hickory_wire.specs.declared.error.DecodeError.{DecodeError}
-use Rattle.hickory_wire.specs.Reading.{◌>>=◌, Fails}
+use Rattle.hickory_wire.specs.serialize.reading.Reading.{◌>>=◌, Fails}
 use Rattle.std.specs.Prelude.{MatchResult}
 use Rattle.std.specs.Result.{IsErrAnd}
-use Rattle.hickory_wire.specs.NameReading.{LabelsRead, target, label_at, labels_from}
-use Rattle.hickory_wire.specs.NameLayout.{LabelsFault}
-use Rattle.hickory_wire.specs.NameLayout.LabelsAt.{at_end}
-use Rattle.hickory_wire.proofs.Stands.{stands_one}
-use Rattle.hickory_wire.proofs.LabelSteps.{from_LabelsAt, from_LabelsFault, labels_from-label, labels_from-pointer}
+use Rattle.hickory_wire.specs.serialize.reading.NameReading.{LabelsRead, target, label_at, labels_from}
+use Rattle.hickory_wire.specs.serialize.layout.NameLayout.{LabelsFault}
+use Rattle.hickory_wire.specs.serialize.layout.NameLayout.LabelsAt.{at_end}
+use Rattle.hickory_wire.proofs.lemmas.serialize.layout.Stands.{stands_one}
+use Rattle.hickory_wire.proofs.lemmas.serialize.reading.LabelSteps.{from_LabelsAt, from_LabelsFault, labels_from-label, labels_from-pointer}
 
 abbrev pub with_front : List (List ℕ) → Option ℕ → LabelsRead → LabelsRead
 with_front front after found = found >>= λ x. Ok (front ++ x.0, unwrap_or after x.1)

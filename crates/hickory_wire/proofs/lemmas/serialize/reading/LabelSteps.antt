@@ -4,13 +4,13 @@ use Rattle.std.specs.Prelude.{slice_get, MatchResult}
 use Rattle.std.proofs.lemmas.Bool.{cases_lt, cases_eq, lt-ltb, le-ltb, ne_eqb}
 use Rattle.hickory_wire.specs.declared.error.DecodeError.{DecodeError}
 use Rattle.hickory_wire.specs.declared.error.DecodeError.TheVariants.{InsufficientBytes, UnrecognizedLabelCode, PointerNotPriorToLabel, NameTooLong}
-use Rattle.hickory_wire.specs.Reading.{◌>>=◌}
-use Rattle.hickory_wire.specs.NameReading.{target, label_at, LabelsRead, byte_or_fault, label_step, pointer_step, labels_step, labels_within, labels_from}
-use Rattle.hickory_wire.specs.NameLayout.{LabelsAt, LabelsFault}
-use Rattle.hickory_wire.specs.NameLayout.LabelsAt.{at_end, at_label, at_pointer}
-use Rattle.hickory_wire.specs.NameLayout.LabelsFault.{byte_missing, code_unknown, label_missing, too_long, after_label, pointer_missing, not_prior, after_pointer}
-use Rattle.hickory_wire.specs.DomainName.{name_len}
-use Rattle.hickory_wire.proofs.Stands.{stands_one, stands_two, stands_label, byte_one, byte_two, missing_from, missing_is, label_of, label_len, name_len-pos}
+use Rattle.hickory_wire.specs.serialize.reading.Reading.{◌>>=◌}
+use Rattle.hickory_wire.specs.serialize.reading.NameReading.{target, label_at, LabelsRead, byte_or_fault, label_step, pointer_step, labels_step, labels_within, labels_from}
+use Rattle.hickory_wire.specs.serialize.layout.NameLayout.{LabelsAt, LabelsFault}
+use Rattle.hickory_wire.specs.serialize.layout.NameLayout.LabelsAt.{at_end, at_label, at_pointer}
+use Rattle.hickory_wire.specs.serialize.layout.NameLayout.LabelsFault.{byte_missing, code_unknown, label_missing, too_long, after_label, pointer_missing, not_prior, after_pointer}
+use Rattle.hickory_wire.specs.rr.domain.DomainName.{name_len}
+use Rattle.hickory_wire.proofs.lemmas.serialize.layout.Stands.{stands_one, stands_two, stands_label, byte_one, byte_two, missing_from, missing_is, label_of, label_len, name_len-pos}
 
 -- ---- what a step gives, by cases on the bytes
 

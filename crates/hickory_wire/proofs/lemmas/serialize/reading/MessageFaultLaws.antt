@@ -1,20 +1,20 @@
 -- Bytes have a first fault exactly where reading a message meets it.
 use Rattle.std.proofs.Common.{◌≡◌, ℕ, List, [], Ok, Err, refl, sym, ap, subst, ◌∙◌, arith}
 use Rattle.std.specs.Int.{w16}
-use Rattle.hickory_wire.specs.Bytes.{AreBytes}
-use Rattle.hickory_wire.specs.Cursor.{Cursor}
-use Rattle.hickory_wire.specs.MessageFaults.{MessageFault}
-use Rattle.hickory_wire.specs.MessageFaults.MessageFault.{header_missing, in_questions, in_answers, in_authorities, in_additionals}
-use Rattle.hickory_wire.specs.MessageReading.{message, front_of}
-use Rattle.hickory_wire.specs.Reading.{Read, number}
-use Rattle.hickory_wire.specs.RecordReading.{byte, question}
-use Rattle.hickory_wire.specs.SectionReading.{header, items, section_record, additionals_after, no_additionals}
+use Rattle.hickory_wire.specs.serialize.layout.Bytes.{AreBytes}
+use Rattle.hickory_wire.specs.serialize.reading.Cursor.{Cursor}
+use Rattle.hickory_wire.specs.serialize.reading.MessageFaults.{MessageFault}
+use Rattle.hickory_wire.specs.serialize.reading.MessageFaults.MessageFault.{header_missing, in_questions, in_answers, in_authorities, in_additionals}
+use Rattle.hickory_wire.specs.serialize.reading.MessageReading.{message, front_of}
+use Rattle.hickory_wire.specs.serialize.reading.Reading.{Read, number}
+use Rattle.hickory_wire.specs.serialize.reading.RecordReading.{byte, question}
+use Rattle.hickory_wire.specs.serialize.reading.SectionReading.{header, items, section_record, additionals_after, no_additionals}
 use Rattle.hickory_wire.specs.declared.error.DecodeError.{DecodeError}
-use Rattle.hickory_wire.proofs.ByteTexts.{here}
-use Rattle.hickory_wire.proofs.CountedItems.{is_here}
-use Rattle.hickory_wire.proofs.FaultSteps.{Runs, bind_err, byte_run, number_run, done_run, then_run, run_err, short_is}
-use Rattle.hickory_wire.proofs.HeaderLaws.{header_here, header_found}
-use Rattle.hickory_wire.proofs.SectionFaults.{questions_err, err_questions, questions_stand, stand_questions, records_err, err_records, records_stand, stand_records, additionals_err, err_additionals}
+use Rattle.hickory_wire.proofs.lemmas.serialize.layout.ByteTexts.{here}
+use Rattle.hickory_wire.proofs.lemmas.serialize.reading.CountedItems.{is_here}
+use Rattle.hickory_wire.proofs.lemmas.serialize.reading.FaultSteps.{Runs, bind_err, byte_run, number_run, done_run, then_run, run_err, short_is}
+use Rattle.hickory_wire.proofs.lemmas.serialize.reading.HeaderLaws.{header_here, header_found}
+use Rattle.hickory_wire.proofs.lemmas.serialize.reading.SectionFaults.{questions_err, err_questions, questions_stand, stand_questions, records_err, err_records, records_stand, stand_records, additionals_err, err_additionals}
 
 -- a header takes twelve octets
 header_run : (bytes : List ℕ) → Runs bytes header 12 0

@@ -1,13 +1,13 @@
 -- Reading a name gives the name that stands there, or the first fault.
 use Rattle.std.proofs.Common.{◌≡◌, ◌≢◌, ℕ, Bool, Result, Ok, Err, refl, sym, ap, subst, ◌∙◌, arith}
 use Rattle.hickory_wire.specs.declared.error.DecodeError.{DecodeError}
-use Rattle.hickory_wire.specs.Cursor.{Cursor}
-use Rattle.hickory_wire.specs.DomainName.{DomainName}
-use Rattle.hickory_wire.specs.Reading.{Read, ◌>>=◌, Gives}
+use Rattle.hickory_wire.specs.serialize.reading.Cursor.{Cursor}
+use Rattle.hickory_wire.specs.rr.domain.DomainName.{DomainName}
+use Rattle.hickory_wire.specs.serialize.reading.Reading.{Read, ◌>>=◌, Gives}
 use Rattle.hickory_wire.specs.declared.error.DecodeError.TheVariants.{Memory}
-use Rattle.hickory_wire.specs.NameReading.{LabelsRead, labels_from, qualified, name}
-use Rattle.hickory_wire.specs.NameLayout.{NameAt, IsFullyQualified, NameFault}
-use Rattle.hickory_wire.proofs.LabelSteps.{from_LabelsAt, from_LabelsFault, Answers, labels_from-answers}
+use Rattle.hickory_wire.specs.serialize.reading.NameReading.{LabelsRead, labels_from, qualified, name}
+use Rattle.hickory_wire.specs.serialize.layout.NameLayout.{NameAt, IsFullyQualified, NameFault}
+use Rattle.hickory_wire.proofs.lemmas.serialize.reading.LabelSteps.{from_LabelsAt, from_LabelsFault, Answers, labels_from-answers}
 use Rattle.std.specs.Prelude.{IfOk, IfErr}
 
 abbrev wrap : {A : Type 0} → A → Result A DecodeError

@@ -5,11 +5,11 @@ use Rattle.std.specs.Int.{w16, to_be_bytes, from_be_bytes}
 use Rattle.std.proofs.lemmas.Bool.{le-ltb, lt-ltb, cases_lt}
 use Rattle.std.proofs.lemmas.List.{length-take, get_or-drop, take_at, drop_at}
 use Rattle.std.proofs.lemmas.Nat.{from_be_bytes-to_be_bytes_2, be_bytes_2}
-use Rattle.hickory_wire.specs.Bytes.{AreBytes}
-use Rattle.hickory_wire.specs.RecordData.{option_octets, IsOption, OptionsOf}
-use Rattle.hickory_wire.specs.RecordData.OptionsOf.{well_formed, malformed}
-use Rattle.hickory_wire.specs.RecordReading.{options_within, options_of}
-use Rattle.hickory_wire.specs.declared.edns.EdnsOption.{EdnsOption}
+use Rattle.hickory_wire.specs.serialize.layout.Bytes.{AreBytes}
+use Rattle.hickory_wire.specs.rr.RecordData.{option_octets, IsOption, OptionsOf}
+use Rattle.hickory_wire.specs.rr.RecordData.OptionsOf.{well_formed, malformed}
+use Rattle.hickory_wire.specs.serialize.reading.RecordReading.{options_within, options_of}
+use Rattle.hickory_wire.specs.declared.op.edns.EdnsOption.{EdnsOption}
 
 -- the length that the first option gives of its data
 abbrev pub size_in : List ℕ → ℕ

@@ -1,9 +1,9 @@
 -- Options that were taken from octets before, and those that are still taken.
 use Rattle.std.proofs.Common.{◌≡◌, ℕ, zero, suc, ◌+◌, ◌-◌, ◌<◌, ◌≤◌, List, [], ◌∷◌, ◌++◌, length, take, drop, Option, Some, None, option_map, true, false, refl, sym, ap, ◌∙◌, append_assoc, arith, length-drop, length-append, cond}
 use Rattle.std.proofs.lemmas.List.{append-nil}
-use Rattle.hickory_wire.specs.OptionReading.{option_code, option_len, ends_early}
-use Rattle.hickory_wire.specs.RecordReading.{options_within, options_of}
-use Rattle.hickory_wire.specs.declared.edns.EdnsOption.{EdnsOption}
+use Rattle.hickory_wire.specs.serialize.reading.OptionReading.{option_code, option_len, ends_early}
+use Rattle.hickory_wire.specs.serialize.reading.RecordReading.{options_within, options_of}
+use Rattle.hickory_wire.specs.declared.op.edns.EdnsOption.{EdnsOption}
 
 -- options that were taken before those that are taken now
 abbrev pub with_options : List EdnsOption → Option (List EdnsOption) → Option (List EdnsOption)

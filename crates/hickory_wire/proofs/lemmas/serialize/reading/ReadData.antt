@@ -4,22 +4,22 @@ use Rattle.std.specs.List.{flat_map}
 use Rattle.std.specs.Int.{w16, w32, to_be_bytes}
 use Rattle.std.specs.Net.Addr.{ipv6_octets}
 use Rattle.std.proofs.lemmas.Nat.{div-mul-add, mod-mul-add}
-use Rattle.hickory_wire.specs.Addresses.{ipv4_of, ipv6_of, IsIpv6}
-use Rattle.hickory_wire.specs.Bytes.{AreBytes}
-use Rattle.hickory_wire.specs.Cursor.{Cursor}
-use Rattle.hickory_wire.specs.DomainName.{DomainName}
-use Rattle.hickory_wire.specs.NameLayout.{NameAt, IsFullyQualified}
-use Rattle.hickory_wire.specs.NameReading.{name}
-use Rattle.hickory_wire.specs.Reading.{Read, ◌>>=◌, number, octets}
-use Rattle.hickory_wire.specs.RecordData.{character_string, type_of}
-use Rattle.hickory_wire.specs.RecordLayout.{OctetsAt, DataRead}
-use Rattle.hickory_wire.specs.RecordReading.{soa, mx, tsig, form, strings_until, options_of, counted_octets}
-use Rattle.hickory_wire.specs.declared.rdata.RData.{RData}
-use Rattle.hickory_wire.specs.declared.rdata.RData.TheVariants as rdata
-use Rattle.hickory_wire.proofs.AddressOctets.{as_segments}
-use Rattle.hickory_wire.proofs.OptionSteps.{options_held}
-use Rattle.hickory_wire.proofs.ReadFields.{bind_then, branch, eq_of, ne_of, stands_bytes, In, join_octets, number16_in, number32_in, octets_in, counted_in, name_in, strings_in}
-use Rattle.hickory_wire.proofs.StringSteps.{ok_is, wrap}
+use Rattle.hickory_wire.specs.rr.Addresses.{ipv4_of, ipv6_of, IsIpv6}
+use Rattle.hickory_wire.specs.serialize.layout.Bytes.{AreBytes}
+use Rattle.hickory_wire.specs.serialize.reading.Cursor.{Cursor}
+use Rattle.hickory_wire.specs.rr.domain.DomainName.{DomainName}
+use Rattle.hickory_wire.specs.serialize.layout.NameLayout.{NameAt, IsFullyQualified}
+use Rattle.hickory_wire.specs.serialize.reading.NameReading.{name}
+use Rattle.hickory_wire.specs.serialize.reading.Reading.{Read, ◌>>=◌, number, octets}
+use Rattle.hickory_wire.specs.rr.RecordData.{character_string, type_of}
+use Rattle.hickory_wire.specs.serialize.layout.RecordLayout.{OctetsAt, DataRead}
+use Rattle.hickory_wire.specs.serialize.reading.RecordReading.{soa, mx, tsig, form, strings_until, options_of, counted_octets}
+use Rattle.hickory_wire.specs.declared.rr.rdata.RData.{RData}
+use Rattle.hickory_wire.specs.declared.rr.rdata.RData.TheVariants as rdata
+use Rattle.hickory_wire.proofs.lemmas.rr.AddressOctets.{as_segments}
+use Rattle.hickory_wire.proofs.lemmas.serialize.reading.OptionSteps.{options_held}
+use Rattle.hickory_wire.proofs.lemmas.serialize.reading.ReadFields.{bind_then, branch, eq_of, ne_of, stands_bytes, In, join_octets, number16_in, number32_in, octets_in, counted_in, name_in, strings_in}
+use Rattle.hickory_wire.proofs.lemmas.serialize.reading.StringSteps.{ok_is, wrap}
 
 module _ (bytes : List ℕ) (a : AreBytes bytes) where
   -- what is read of data of a type, and that they are of it

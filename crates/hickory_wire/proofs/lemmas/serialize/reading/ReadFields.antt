@@ -5,21 +5,21 @@ use Rattle.std.specs.Int.{Width, w16, w32, byte_len, to_be_bytes, from_be_bytes}
 use Rattle.std.proofs.lemmas.Bool.{lt-ltb, cases_lt, cases_eq, eq-eqb, ne_eqb}
 use Rattle.std.proofs.lemmas.List.{length-drop, length-take, get_or-take, get_or-drop, get_or_past}
 use Rattle.std.proofs.lemmas.Nat.{be_bytes_2, be_bytes_4}
-use Rattle.hickory_wire.specs.Bytes.{AreBytes, BytesAt}
-use Rattle.hickory_wire.specs.Cursor.{Cursor}
-use Rattle.hickory_wire.specs.DomainName.{DomainName}
-use Rattle.hickory_wire.specs.NameLayout.{NameAt, IsFullyQualified}
-use Rattle.hickory_wire.specs.NameReading.{name, labels_from, qualified}
-use Rattle.hickory_wire.specs.Reading.{Read, ◌>>=◌, number, octets, rest_of, moved}
-use Rattle.hickory_wire.specs.RecordData.{character_string}
-use Rattle.hickory_wire.specs.RecordLayout.{OctetsAt}
-use Rattle.hickory_wire.specs.RecordReading.{byte, first_byte, string, strings_within, counted_octets}
+use Rattle.hickory_wire.specs.serialize.layout.Bytes.{AreBytes, BytesAt}
+use Rattle.hickory_wire.specs.serialize.reading.Cursor.{Cursor}
+use Rattle.hickory_wire.specs.rr.domain.DomainName.{DomainName}
+use Rattle.hickory_wire.specs.serialize.layout.NameLayout.{NameAt, IsFullyQualified}
+use Rattle.hickory_wire.specs.serialize.reading.NameReading.{name, labels_from, qualified}
+use Rattle.hickory_wire.specs.serialize.reading.Reading.{Read, ◌>>=◌, number, octets, rest_of, moved}
+use Rattle.hickory_wire.specs.rr.RecordData.{character_string}
+use Rattle.hickory_wire.specs.serialize.layout.RecordLayout.{OctetsAt}
+use Rattle.hickory_wire.specs.serialize.reading.RecordReading.{byte, first_byte, string, strings_within, counted_octets}
 use Rattle.hickory_wire.specs.declared.error.DecodeError.{DecodeError}
 use Rattle.hickory_wire.specs.declared.error.DecodeError.TheVariants.{InsufficientBytes}
-use Rattle.hickory_wire.proofs.ByteTexts.{take_stands, BytesAt-both, byte_is}
-use Rattle.hickory_wire.proofs.FormKeeps.{LabelsAt-longer}
-use Rattle.hickory_wire.proofs.NameLaws.{name_found}
-use Rattle.hickory_wire.proofs.StringSteps.{bind_ok, guard_ok, ok_is, wrap}
+use Rattle.hickory_wire.proofs.lemmas.serialize.layout.ByteTexts.{take_stands, BytesAt-both, byte_is}
+use Rattle.hickory_wire.proofs.lemmas.serialize.layout.FormKeeps.{LabelsAt-longer}
+use Rattle.hickory_wire.proofs.lemmas.serialize.reading.NameLaws.{name_found}
+use Rattle.hickory_wire.proofs.lemmas.serialize.reading.StringSteps.{bind_ok, guard_ok, ok_is, wrap}
 
 -- ---- what a reading that went well says of its parts
 

@@ -2,24 +2,24 @@
 use Rattle.std.proofs.Common.{◌≡◌, ◌≢◌, inl, inr, ℕ, ◌+◌, ◌^◌, ◌<◌, List, ◌++◌, length, Bool, true, false, not, ◌&&◌, cond, ltb, eqb, Ok, Err, refl, sym, ap, subst, ◌∙◌, arith}
 use Rattle.std.specs.Int.{w16, w32, to_be_bytes}
 use Rattle.std.proofs.lemmas.Bool.{cases_eq, eq-eqb, ne_eqb}
-use Rattle.hickory_wire.specs.Bytes.{AreBytes, BytesAt}
-use Rattle.hickory_wire.specs.Cursor.{Cursor}
-use Rattle.hickory_wire.specs.DomainName.{DomainName}
-use Rattle.hickory_wire.specs.NameReading.{name}
-use Rattle.hickory_wire.specs.QuestionLayout.{QuestionAt, IsFormedQuestion}
-use Rattle.hickory_wire.specs.Reading.{Read, ◌>>=◌, number, rest_of}
-use Rattle.hickory_wire.specs.RecordLayout.{DataRead, RecordAt}
-use Rattle.hickory_wire.specs.RecordReading.{form, record_data, resource, question}
+use Rattle.hickory_wire.specs.serialize.layout.Bytes.{AreBytes, BytesAt}
+use Rattle.hickory_wire.specs.serialize.reading.Cursor.{Cursor}
+use Rattle.hickory_wire.specs.rr.domain.DomainName.{DomainName}
+use Rattle.hickory_wire.specs.serialize.reading.NameReading.{name}
+use Rattle.hickory_wire.specs.serialize.layout.QuestionLayout.{QuestionAt, IsFormedQuestion}
+use Rattle.hickory_wire.specs.serialize.reading.Reading.{Read, ◌>>=◌, number, rest_of}
+use Rattle.hickory_wire.specs.serialize.layout.RecordLayout.{DataRead, RecordAt}
+use Rattle.hickory_wire.specs.serialize.reading.RecordReading.{form, record_data, resource, question}
 use Rattle.hickory_wire.specs.declared.error.DecodeError.{DecodeError}
 use Rattle.hickory_wire.specs.declared.error.DecodeError.TheVariants.{InsufficientBytes, IncorrectDataLength}
-use Rattle.hickory_wire.specs.declared.query.Query.{Query}
-use Rattle.hickory_wire.specs.declared.rdata.RData.{RData}
-use Rattle.hickory_wire.specs.declared.rdata.RData.TheVariants as rdata
-use Rattle.hickory_wire.specs.declared.record.Proof.TheVariants.{Indeterminate}
-use Rattle.hickory_wire.specs.declared.record.Record.{Record}
-use Rattle.hickory_wire.proofs.ReadData.{Gave, gave, form_in}
-use Rattle.hickory_wire.proofs.ReadFields.{bind_then, branch, eq_of, ne_of, In, join_octets, number16_in, number32_in, name_in}
-use Rattle.hickory_wire.proofs.StringSteps.{ok_is, wrap}
+use Rattle.hickory_wire.specs.declared.op.query.Query.{Query}
+use Rattle.hickory_wire.specs.declared.rr.rdata.RData.{RData}
+use Rattle.hickory_wire.specs.declared.rr.rdata.RData.TheVariants as rdata
+use Rattle.hickory_wire.specs.declared.rr.record.Proof.TheVariants.{Indeterminate}
+use Rattle.hickory_wire.specs.declared.rr.record.Record.{Record}
+use Rattle.hickory_wire.proofs.lemmas.serialize.reading.ReadData.{Gave, gave, form_in}
+use Rattle.hickory_wire.proofs.lemmas.serialize.reading.ReadFields.{bind_then, branch, eq_of, ne_of, In, join_octets, number16_in, number32_in, name_in}
+use Rattle.hickory_wire.proofs.lemmas.serialize.reading.StringSteps.{ok_is, wrap}
 
 -- three tests passed
 first_true : (b c d : Bool) → (b && c && d) ≡ true → (b ≡ true) × (c ≡ true) × (d ≡ true)

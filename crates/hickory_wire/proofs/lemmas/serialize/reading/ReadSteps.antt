@@ -1,6 +1,6 @@
 -- One step of reading after another.
 use Rattle.std.proofs.Common.{◌≡◌, Bool, true, false, cond, Result, Ok, Err, refl}
-use Rattle.hickory_wire.specs.Reading.{◌>>=◌}
+use Rattle.hickory_wire.specs.serialize.reading.Reading.{◌>>=◌}
 use Rattle.hickory_wire.specs.declared.error.DecodeError.{DecodeError}
 
 -- what follows may be changed where it is reached

@@ -1,26 +1,26 @@
 -- A record and a question have a first fault exactly where reading meets it.
 use Rattle.std.proofs.Common.{◌≡◌, ℕ, ◌+◌, ◌<◌, ◌≤◌, List, length, Ok, Err, refl, sym, ap, subst, ◌∙◌, arith}
 use Rattle.std.specs.Int.{w16, w32, to_be_bytes}
-use Rattle.hickory_wire.specs.Bytes.{AreBytes, BytesAt}
-use Rattle.hickory_wire.specs.Cursor.{Cursor}
-use Rattle.hickory_wire.specs.DomainName.{DomainName}
-use Rattle.hickory_wire.specs.NameLayout.{NameAt}
-use Rattle.hickory_wire.specs.Reading.{Read, ◌>>=◌, number}
-use Rattle.hickory_wire.specs.RecordFaults.{NumberAt, RecordFault, QuestionFault}
-use Rattle.hickory_wire.specs.RecordFaults.RecordFault.{owner_faulty, fields_missing, data_missing, data_faulty}
-use Rattle.hickory_wire.specs.RecordFaults.QuestionFault.{name_faulty, type_missing}
-use Rattle.hickory_wire.specs.RecordReading.{record_data, resource, question}
+use Rattle.hickory_wire.specs.serialize.layout.Bytes.{AreBytes, BytesAt}
+use Rattle.hickory_wire.specs.serialize.reading.Cursor.{Cursor}
+use Rattle.hickory_wire.specs.rr.domain.DomainName.{DomainName}
+use Rattle.hickory_wire.specs.serialize.layout.NameLayout.{NameAt}
+use Rattle.hickory_wire.specs.serialize.reading.Reading.{Read, ◌>>=◌, number}
+use Rattle.hickory_wire.specs.serialize.reading.RecordFaults.{NumberAt, RecordFault, QuestionFault}
+use Rattle.hickory_wire.specs.serialize.reading.RecordFaults.RecordFault.{owner_faulty, fields_missing, data_missing, data_faulty}
+use Rattle.hickory_wire.specs.serialize.reading.RecordFaults.QuestionFault.{name_faulty, type_missing}
+use Rattle.hickory_wire.specs.serialize.reading.RecordReading.{record_data, resource, question}
 use Rattle.hickory_wire.specs.declared.error.DecodeError.{DecodeError}
 use Rattle.hickory_wire.specs.declared.error.DecodeError.TheVariants.{InsufficientBytes}
-use Rattle.hickory_wire.specs.declared.query.Query.{Query}
-use Rattle.hickory_wire.proofs.ByteTexts.{here, read_here, number16_here}
-use Rattle.hickory_wire.specs.declared.rdata.RData.{RData}
-use Rattle.hickory_wire.specs.declared.record.Proof.TheVariants.{Indeterminate}
-use Rattle.hickory_wire.specs.declared.record.Record.{Record}
-use Rattle.hickory_wire.proofs.FaultSteps.{Runs, number_run, done_run, then_run, short_then, run_err, run_short, run_ok, short_is, bind_err, name_read, name_err, number_at}
-use Rattle.hickory_wire.proofs.FormFaults.{data_too_short, data_err, err_data}
-use Rattle.hickory_wire.proofs.NameLaws.{fault_name}
-use Rattle.hickory_wire.proofs.StringSteps.{ok_is}
+use Rattle.hickory_wire.specs.declared.op.query.Query.{Query}
+use Rattle.hickory_wire.proofs.lemmas.serialize.layout.ByteTexts.{here, read_here, number16_here}
+use Rattle.hickory_wire.specs.declared.rr.rdata.RData.{RData}
+use Rattle.hickory_wire.specs.declared.rr.record.Proof.TheVariants.{Indeterminate}
+use Rattle.hickory_wire.specs.declared.rr.record.Record.{Record}
+use Rattle.hickory_wire.proofs.lemmas.serialize.reading.FaultSteps.{Runs, number_run, done_run, then_run, short_then, run_err, run_short, run_ok, short_is, bind_err, name_read, name_err, number_at}
+use Rattle.hickory_wire.proofs.lemmas.serialize.reading.FormFaults.{data_too_short, data_err, err_data}
+use Rattle.hickory_wire.proofs.lemmas.serialize.reading.NameLaws.{fault_name}
+use Rattle.hickory_wire.proofs.lemmas.serialize.reading.StringSteps.{ok_is}
 
 -- ---- questions
 

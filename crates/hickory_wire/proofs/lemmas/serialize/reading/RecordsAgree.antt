@@ -2,27 +2,27 @@
 use Rattle.std.proofs.Common.{◌≡◌, ◌⊎◌, inl, inr, ℕ, ◌+◌, ◌^◌, ◌<◌, ◌≤◌, List, [], length, eqb, Ok, refl, sym, ap, subst, ◌∙◌, arith}
 use Rattle.std.specs.List.{flat_map}
 use Rattle.std.specs.Int.{w16, to_be_bytes}
-use Rattle.hickory_wire.specs.Bytes.{AreBytes}
-use Rattle.hickory_wire.specs.Cursor.{Cursor}
-use Rattle.hickory_wire.specs.QuestionLayout.{QuestionAt, IsFormedQuestion}
-use Rattle.hickory_wire.specs.Reading.{Read}
-use Rattle.hickory_wire.specs.RecordData.{option_octets, type_of}
-use Rattle.hickory_wire.specs.RecordData.OptionsOf.{well_formed, malformed}
-use Rattle.hickory_wire.specs.RecordLayout.{OctetsAt, DataAt, DataRead, FormAt, IsFormed, IsFormedRecord, RecordAt}
-use Rattle.hickory_wire.specs.RecordReading.{form, record_data, resource, question}
-use Rattle.hickory_wire.specs.declared.edns.EdnsOption.{EdnsOption}
-use Rattle.hickory_wire.specs.declared.query.Query.{Query}
-use Rattle.hickory_wire.specs.declared.rdata.RData.{RData}
-use Rattle.hickory_wire.specs.declared.rdata.RData.TheVariants as rdata
-use Rattle.hickory_wire.specs.declared.record.Record.{Record}
-use Rattle.hickory_wire.proofs.ByteTexts.{here, read_here, BytesAt-left, BytesAt-right, number16_here, octets_here}
-use Rattle.hickory_wire.proofs.FormIsRead.{name_here, by_form, opt_is_used, data_here, type_small, record_here, form_read}
-use Rattle.hickory_wire.proofs.FormKeeps.{LabelsAt-longer, FormAt-keeps}
-use Rattle.hickory_wire.proofs.Stable.{KeepsFrom-same}
-use Rattle.hickory_wire.proofs.OptionSteps.{options_read}
-use Rattle.hickory_wire.proofs.ReadFields.{stands_bytes}
-use Rattle.hickory_wire.proofs.ReadRecords.{resource_in, question_in}
-use Rattle.hickory_wire.proofs.StringSteps.{ok_is}
+use Rattle.hickory_wire.specs.serialize.layout.Bytes.{AreBytes}
+use Rattle.hickory_wire.specs.serialize.reading.Cursor.{Cursor}
+use Rattle.hickory_wire.specs.serialize.layout.QuestionLayout.{QuestionAt, IsFormedQuestion}
+use Rattle.hickory_wire.specs.serialize.reading.Reading.{Read}
+use Rattle.hickory_wire.specs.rr.RecordData.{option_octets, type_of}
+use Rattle.hickory_wire.specs.rr.RecordData.OptionsOf.{well_formed, malformed}
+use Rattle.hickory_wire.specs.serialize.layout.RecordLayout.{OctetsAt, DataAt, DataRead, FormAt, IsFormed, IsFormedRecord, RecordAt}
+use Rattle.hickory_wire.specs.serialize.reading.RecordReading.{form, record_data, resource, question}
+use Rattle.hickory_wire.specs.declared.op.edns.EdnsOption.{EdnsOption}
+use Rattle.hickory_wire.specs.declared.op.query.Query.{Query}
+use Rattle.hickory_wire.specs.declared.rr.rdata.RData.{RData}
+use Rattle.hickory_wire.specs.declared.rr.rdata.RData.TheVariants as rdata
+use Rattle.hickory_wire.specs.declared.rr.record.Record.{Record}
+use Rattle.hickory_wire.proofs.lemmas.serialize.layout.ByteTexts.{here, read_here, BytesAt-left, BytesAt-right, number16_here, octets_here}
+use Rattle.hickory_wire.proofs.lemmas.serialize.reading.FormIsRead.{name_here, by_form, opt_is_used, data_here, type_small, record_here, form_read}
+use Rattle.hickory_wire.proofs.lemmas.serialize.layout.FormKeeps.{LabelsAt-longer, FormAt-keeps}
+use Rattle.hickory_wire.proofs.lemmas.serialize.layout.Stable.{KeepsFrom-same}
+use Rattle.hickory_wire.proofs.lemmas.serialize.reading.OptionSteps.{options_read}
+use Rattle.hickory_wire.proofs.lemmas.serialize.reading.ReadFields.{stands_bytes}
+use Rattle.hickory_wire.proofs.lemmas.serialize.reading.ReadRecords.{resource_in, question_in}
+use Rattle.hickory_wire.proofs.lemmas.serialize.reading.StringSteps.{ok_is}
 
 -- ---- what stands as it is read, is read
 

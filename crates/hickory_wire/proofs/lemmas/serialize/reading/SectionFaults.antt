@@ -2,34 +2,34 @@
 use Rattle.std.proofs.Common.{◌≡◌, ◌≢◌, ◌⊎◌, inl, inr, ℕ, zero, suc, ◌<◌, List, [], ◌∷◌, ◌++◌, length, true, false, not, cond, eqb, Option, Some, None, Result, Ok, Err, refl, sym, ap, subst, ◌∙◌, arith}
 use Rattle.std.specs.Prelude.{is_some}
 use Rattle.std.proofs.lemmas.Bool.{eq-eqb, ne_eqb}
-use Rattle.hickory_wire.specs.Bytes.{AreBytes}
-use Rattle.hickory_wire.specs.Cursor.{Cursor}
-use Rattle.hickory_wire.specs.MessageFaults.{QuestionsStand, RecordsStand, QuestionsFault, MisplacedOrFaulty, RecordsFault, UnfitOrFaulty, AdditionalsFault}
-use Rattle.hickory_wire.specs.MessageFaults.MisplacedOrFaulty.{faulty as faulty_itself, misplaced}
-use Rattle.hickory_wire.specs.MessageFaults.UnfitOrFaulty.{faulty, after_signature, not_at_root, second_opt}
-use Rattle.hickory_wire.specs.MessageLayout.{QuestionRead, is_opt}
-use Rattle.hickory_wire.specs.Reading.{Read, ◌>>=◌}
-use Rattle.hickory_wire.specs.RecordData.{type_of}
-use Rattle.hickory_wire.specs.RecordLayout.{RecordAt}
-use Rattle.hickory_wire.specs.RecordReading.{resource, question}
-use Rattle.hickory_wire.specs.SectionReading.{Additionals, items, section_record, is_additional_type, placed, edns_of, with_data, add_record, additionals_after, no_additionals}
-use Rattle.hickory_wire.specs.declared.edns.EdnsOption.{EdnsOption}
+use Rattle.hickory_wire.specs.serialize.layout.Bytes.{AreBytes}
+use Rattle.hickory_wire.specs.serialize.reading.Cursor.{Cursor}
+use Rattle.hickory_wire.specs.serialize.reading.MessageFaults.{QuestionsStand, RecordsStand, QuestionsFault, MisplacedOrFaulty, RecordsFault, UnfitOrFaulty, AdditionalsFault}
+use Rattle.hickory_wire.specs.serialize.reading.MessageFaults.MisplacedOrFaulty.{faulty as faulty_itself, misplaced}
+use Rattle.hickory_wire.specs.serialize.reading.MessageFaults.UnfitOrFaulty.{faulty, after_signature, not_at_root, second_opt}
+use Rattle.hickory_wire.specs.serialize.layout.MessageLayout.{QuestionRead, is_opt}
+use Rattle.hickory_wire.specs.serialize.reading.Reading.{Read, ◌>>=◌}
+use Rattle.hickory_wire.specs.rr.RecordData.{type_of}
+use Rattle.hickory_wire.specs.serialize.layout.RecordLayout.{RecordAt}
+use Rattle.hickory_wire.specs.serialize.reading.RecordReading.{resource, question}
+use Rattle.hickory_wire.specs.serialize.reading.SectionReading.{Additionals, items, section_record, is_additional_type, placed, edns_of, with_data, add_record, additionals_after, no_additionals}
+use Rattle.hickory_wire.specs.declared.op.edns.EdnsOption.{EdnsOption}
 use Rattle.hickory_wire.specs.declared.error.DecodeError.{DecodeError}
 use Rattle.hickory_wire.specs.declared.error.DecodeError.TheVariants.{RecordNotInAdditionals, RecordAfterSignature, EdnsNameNotRoot, DuplicateEdns}
-use Rattle.hickory_wire.specs.declared.query.Query.{Query}
-use Rattle.hickory_wire.specs.declared.rdata.RData.{RData}
-use Rattle.hickory_wire.specs.declared.rdata.RData.TheVariants as rdata
-use Rattle.hickory_wire.specs.declared.record.Record.{Record}
-use Rattle.hickory_wire.proofs.AdditionalItems.{section_read, section_here}
-use Rattle.hickory_wire.proofs.ByteTexts.{here, read_here}
-use Rattle.hickory_wire.proofs.CountedItems.{is_here, items_found, items_both}
-use Rattle.hickory_wire.proofs.FaultSteps.{fail, fail_is, bind_err, branch_err}
-use Rattle.hickory_wire.proofs.ReadFields.{eq_of}
-use Rattle.hickory_wire.proofs.RecordFaultLaws.{question_err, err_question, resource_err, err_resource}
-use Rattle.hickory_wire.proofs.RecordSorts.{Sort, sorts_of}
-use Rattle.hickory_wire.proofs.RecordSorts.Sort.{an_opt, a_tsig, other}
-use Rattle.hickory_wire.proofs.SectionItems.{PlainAt, questions_find, questions_reach, records_find, records_reach, plain_find, plain_reach, plain_parts, plain_whole}
-use Rattle.hickory_wire.proofs.StringSteps.{wrap, ok_is, bind_ok}
+use Rattle.hickory_wire.specs.declared.op.query.Query.{Query}
+use Rattle.hickory_wire.specs.declared.rr.rdata.RData.{RData}
+use Rattle.hickory_wire.specs.declared.rr.rdata.RData.TheVariants as rdata
+use Rattle.hickory_wire.specs.declared.rr.record.Record.{Record}
+use Rattle.hickory_wire.proofs.lemmas.serialize.reading.AdditionalItems.{section_read, section_here}
+use Rattle.hickory_wire.proofs.lemmas.serialize.layout.ByteTexts.{here, read_here}
+use Rattle.hickory_wire.proofs.lemmas.serialize.reading.CountedItems.{is_here, items_found, items_both}
+use Rattle.hickory_wire.proofs.lemmas.serialize.reading.FaultSteps.{fail, fail_is, bind_err, branch_err}
+use Rattle.hickory_wire.proofs.lemmas.serialize.reading.ReadFields.{eq_of}
+use Rattle.hickory_wire.proofs.lemmas.serialize.reading.RecordFaultLaws.{question_err, err_question, resource_err, err_resource}
+use Rattle.hickory_wire.proofs.lemmas.serialize.reading.RecordSorts.{Sort, sorts_of}
+use Rattle.hickory_wire.proofs.lemmas.serialize.reading.RecordSorts.Sort.{an_opt, a_tsig, other}
+use Rattle.hickory_wire.proofs.lemmas.serialize.reading.SectionItems.{PlainAt, questions_find, questions_reach, records_find, records_reach, plain_find, plain_reach, plain_parts, plain_whole}
+use Rattle.hickory_wire.proofs.lemmas.serialize.reading.StringSteps.{wrap, ok_is, bind_ok}
 
 -- ---- items, one after another
 

@@ -1,20 +1,20 @@
 -- Questions and the records of a section are read exactly where they stand.
 use Rattle.std.proofs.Common.{◌≡◌, ℕ, List, [], ◌∷◌, cond, Ok, Err, refl, sym, ap, ◌∙◌}
 use Rattle.std.specs.List.{AllByRecursion}
-use Rattle.hickory_wire.specs.Bytes.{AreBytes}
-use Rattle.hickory_wire.specs.Cursor.{Cursor}
-use Rattle.hickory_wire.specs.MessageLayout.{ItemsAt, QuestionRead, IsSectionRecord}
-use Rattle.hickory_wire.specs.RecordData.{type_of}
-use Rattle.hickory_wire.specs.RecordLayout.{RecordAt}
-use Rattle.hickory_wire.specs.RecordReading.{resource, question}
-use Rattle.hickory_wire.specs.SectionReading.{is_additional_type, section_record}
+use Rattle.hickory_wire.specs.serialize.layout.Bytes.{AreBytes}
+use Rattle.hickory_wire.specs.serialize.reading.Cursor.{Cursor}
+use Rattle.hickory_wire.specs.serialize.layout.MessageLayout.{ItemsAt, QuestionRead, IsSectionRecord}
+use Rattle.hickory_wire.specs.rr.RecordData.{type_of}
+use Rattle.hickory_wire.specs.serialize.layout.RecordLayout.{RecordAt}
+use Rattle.hickory_wire.specs.serialize.reading.RecordReading.{resource, question}
+use Rattle.hickory_wire.specs.serialize.reading.SectionReading.{is_additional_type, section_record}
 use Rattle.hickory_wire.specs.declared.error.DecodeError.TheVariants.{RecordNotInAdditionals}
-use Rattle.hickory_wire.specs.declared.rdata.RData.{RData}
-use Rattle.hickory_wire.specs.declared.record.Record.{Record}
-use Rattle.hickory_wire.proofs.ByteTexts.{here}
-use Rattle.hickory_wire.proofs.CountedItems.{Finds, Reaches}
-use Rattle.hickory_wire.proofs.RecordsAgree.{record_found, record_read, question_found, question_read}
-use Rattle.hickory_wire.proofs.StringSteps.{wrap, guard_ok, bind_ok}
+use Rattle.hickory_wire.specs.declared.rr.rdata.RData.{RData}
+use Rattle.hickory_wire.specs.declared.rr.record.Record.{Record}
+use Rattle.hickory_wire.proofs.lemmas.serialize.layout.ByteTexts.{here}
+use Rattle.hickory_wire.proofs.lemmas.serialize.reading.CountedItems.{Finds, Reaches}
+use Rattle.hickory_wire.proofs.lemmas.serialize.reading.RecordsAgree.{record_found, record_read, question_found, question_read}
+use Rattle.hickory_wire.proofs.lemmas.serialize.reading.StringSteps.{wrap, guard_ok, bind_ok}
 
 -- a record that may stand in any section
 pub record PlainAt (bytes : List ℕ) (place : ℕ) (r : Record RData) (next : ℕ) : Type 0 where

@@ -4,10 +4,10 @@ use Rattle.std.proofs.lemmas.Bool.{lt-ltb, le-ltb}
 use Rattle.std.proofs.lemmas.List.{append-nil}
 use Rattle.hickory_wire.specs.declared.error.DecodeError.TheVariants.{InsufficientBytes}
 use Rattle.hickory_wire.specs.declared.error.DecodeError.{DecodeError}
-use Rattle.hickory_wire.specs.Cursor.{Cursor}
-use Rattle.hickory_wire.specs.Reading.{Read, ◌>>=◌, octets, rest_of, moved, Fails}
-use Rattle.hickory_wire.specs.RecordReading.{byte, first_byte, string, strings_within, strings_until}
-use Rattle.hickory_wire.proofs.ReadSteps.{then_alike, guard_ok, bind_ok}
+use Rattle.hickory_wire.specs.serialize.reading.Cursor.{Cursor}
+use Rattle.hickory_wire.specs.serialize.reading.Reading.{Read, ◌>>=◌, octets, rest_of, moved, Fails}
+use Rattle.hickory_wire.specs.serialize.reading.RecordReading.{byte, first_byte, string, strings_within, strings_until}
+use Rattle.hickory_wire.proofs.lemmas.serialize.reading.ReadSteps.{then_alike, guard_ok, bind_ok}
 
 -- strings that were read before those that are read now
 abbrev pub with_front : List (List ℕ) → Read (List (List ℕ)) → Read (List (List ℕ))

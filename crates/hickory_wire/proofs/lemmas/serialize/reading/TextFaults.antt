@@ -3,19 +3,19 @@ use Rattle.std.proofs.Common.{◌≡◌, ◌≢◌, inl, inr, ℕ, zero, suc, �
 use Rattle.std.specs.List.{flat_map}
 use Rattle.std.proofs.lemmas.Bool.{cases_lt, lt-ltb, le-ltb}
 use Rattle.std.proofs.lemmas.List.{length-drop, length-take}
-use Rattle.hickory_wire.specs.Bytes.{BytesAt}
-use Rattle.hickory_wire.specs.Cursor.{Cursor}
-use Rattle.hickory_wire.specs.Reading.{Read, ◌>>=◌, octets}
-use Rattle.hickory_wire.specs.RecordData.{character_string}
-use Rattle.hickory_wire.specs.RecordFaults.{StringBegins}
-use Rattle.hickory_wire.specs.RecordLayout.{OctetsAt}
-use Rattle.hickory_wire.specs.RecordReading.{string, strings_within, strings_until}
+use Rattle.hickory_wire.specs.serialize.layout.Bytes.{BytesAt}
+use Rattle.hickory_wire.specs.serialize.reading.Cursor.{Cursor}
+use Rattle.hickory_wire.specs.serialize.reading.Reading.{Read, ◌>>=◌, octets}
+use Rattle.hickory_wire.specs.rr.RecordData.{character_string}
+use Rattle.hickory_wire.specs.serialize.reading.RecordFaults.{StringBegins}
+use Rattle.hickory_wire.specs.serialize.layout.RecordLayout.{OctetsAt}
+use Rattle.hickory_wire.specs.serialize.reading.RecordReading.{string, strings_within, strings_until}
 use Rattle.hickory_wire.specs.declared.error.DecodeError.{DecodeError}
 use Rattle.hickory_wire.specs.declared.error.DecodeError.TheVariants.{InsufficientBytes}
-use Rattle.hickory_wire.proofs.ByteTexts.{here, read_here, take_stands, BytesAt-both, BytesAt-left, BytesAt-right, byte_here, string_here}
-use Rattle.hickory_wire.proofs.FaultSteps.{fail, fail_is, bind_err, octets_run, short_is}
-use Rattle.hickory_wire.proofs.ReadFields.{bind_then, join_octets}
-use Rattle.hickory_wire.proofs.StringSteps.{with_front, ok_is, strings_until-step}
+use Rattle.hickory_wire.proofs.lemmas.serialize.layout.ByteTexts.{here, read_here, take_stands, BytesAt-both, BytesAt-left, BytesAt-right, byte_here, string_here}
+use Rattle.hickory_wire.proofs.lemmas.serialize.reading.FaultSteps.{fail, fail_is, bind_err, octets_run, short_is}
+use Rattle.hickory_wire.proofs.lemmas.serialize.reading.ReadFields.{bind_then, join_octets}
+use Rattle.hickory_wire.proofs.lemmas.serialize.reading.StringSteps.{with_front, ok_is, strings_until-step}
 
 -- ---- a string
 

@@ -2,19 +2,19 @@
 use Rattle.std.proofs.Common.{◌≡◌, inl, inr, ℕ, ◌+◌, ◌<◌, ◌≤◌, List, length, Err, refl, sym, ap, subst, ◌∙◌, arith}
 use Rattle.std.specs.Int.{w16, w32}
 use Rattle.std.proofs.lemmas.Bool.{cases_lt}
-use Rattle.hickory_wire.specs.Bytes.{AreBytes}
-use Rattle.hickory_wire.specs.Cursor.{Cursor}
-use Rattle.hickory_wire.specs.DomainName.{DomainName}
-use Rattle.hickory_wire.specs.NameLayout.{NameAt}
-use Rattle.hickory_wire.specs.Reading.{Read, ◌>>=◌, number, octets}
-use Rattle.hickory_wire.specs.RecordFaults.{NumberAt, FormFault}
-use Rattle.hickory_wire.specs.RecordFaults.FormFault.{algorithm_faulty, mac_size_missing, other_len_missing, other_missing}
-use Rattle.hickory_wire.specs.RecordReading.{tsig, counted_octets}
+use Rattle.hickory_wire.specs.serialize.layout.Bytes.{AreBytes}
+use Rattle.hickory_wire.specs.serialize.reading.Cursor.{Cursor}
+use Rattle.hickory_wire.specs.rr.domain.DomainName.{DomainName}
+use Rattle.hickory_wire.specs.serialize.layout.NameLayout.{NameAt}
+use Rattle.hickory_wire.specs.serialize.reading.Reading.{Read, ◌>>=◌, number, octets}
+use Rattle.hickory_wire.specs.serialize.reading.RecordFaults.{NumberAt, FormFault}
+use Rattle.hickory_wire.specs.serialize.reading.RecordFaults.FormFault.{algorithm_faulty, mac_size_missing, other_len_missing, other_missing}
+use Rattle.hickory_wire.specs.serialize.reading.RecordReading.{tsig, counted_octets}
 use Rattle.hickory_wire.specs.declared.error.DecodeError.{DecodeError}
 use Rattle.hickory_wire.specs.declared.error.DecodeError.TheVariants.{InsufficientBytes}
-use Rattle.hickory_wire.proofs.ByteTexts.{here, read_here, number16_here}
-use Rattle.hickory_wire.proofs.FaultSteps.{Runs, octets_run, number_run, short_then, run_err, run_ok, short_is, name_read, name_err, number_at}
-use Rattle.hickory_wire.proofs.FaultSteps.Runs.{too_short, reads}
+use Rattle.hickory_wire.proofs.lemmas.serialize.layout.ByteTexts.{here, read_here, number16_here}
+use Rattle.hickory_wire.proofs.lemmas.serialize.reading.FaultSteps.{Runs, octets_run, number_run, short_then, run_err, run_ok, short_is, name_read, name_err, number_at}
+use Rattle.hickory_wire.proofs.lemmas.serialize.reading.FaultSteps.Runs.{too_short, reads}
 
 -- ---- octets behind their length
 

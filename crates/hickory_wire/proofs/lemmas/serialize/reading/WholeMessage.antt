@@ -1,25 +1,25 @@
 -- A message is read exactly where it stands at the front of bytes.
 use Rattle.std.proofs.Common.{◌≡◌, ℕ, List, [], ◌++◌, length, Ok, refl, sym, ap, subst, ◌∙◌}
-use Rattle.hickory_wire.specs.Bytes.{AreBytes}
-use Rattle.hickory_wire.specs.Cursor.{Cursor}
-use Rattle.hickory_wire.specs.HeaderLayout.{HeaderAt}
-use Rattle.hickory_wire.specs.MessageLayout.{ItemsAt, QuestionRead, MessageAt}
-use Rattle.hickory_wire.specs.MessageReading.{high_code, with_high_code, message, front_of}
-use Rattle.hickory_wire.specs.Reading.{Read, ◌>>=◌}
-use Rattle.hickory_wire.specs.RecordReading.{question}
-use Rattle.hickory_wire.specs.SectionReading.{Additionals, header, items, section_record, additionals_after, no_additionals}
-use Rattle.hickory_wire.specs.declared.header.Header.{Header}
-use Rattle.hickory_wire.specs.declared.header.Metadata.{Metadata}
-use Rattle.hickory_wire.specs.declared.message.Message.{Message}
-use Rattle.hickory_wire.specs.declared.query.Query.{Query}
-use Rattle.hickory_wire.specs.declared.rdata.RData.{RData}
-use Rattle.hickory_wire.specs.declared.record.Record.{Record}
-use Rattle.hickory_wire.proofs.AdditionalItems.{Section, section_read, section_here}
-use Rattle.hickory_wire.proofs.ByteTexts.{here, read_here}
-use Rattle.hickory_wire.proofs.CountedItems.{Found, at_place, items_found, items_here}
-use Rattle.hickory_wire.proofs.HeaderLaws.{header_here, header_found}
-use Rattle.hickory_wire.proofs.SectionItems.{PlainAt, questions_find, questions_reach, plain_find, plain_reach, plain_parts, plain_whole}
-use Rattle.hickory_wire.proofs.StringSteps.{wrap, ok_is, bind_ok}
+use Rattle.hickory_wire.specs.serialize.layout.Bytes.{AreBytes}
+use Rattle.hickory_wire.specs.serialize.reading.Cursor.{Cursor}
+use Rattle.hickory_wire.specs.serialize.layout.HeaderLayout.{HeaderAt}
+use Rattle.hickory_wire.specs.serialize.layout.MessageLayout.{ItemsAt, QuestionRead, MessageAt}
+use Rattle.hickory_wire.specs.serialize.reading.MessageReading.{high_code, with_high_code, message, front_of}
+use Rattle.hickory_wire.specs.serialize.reading.Reading.{Read, ◌>>=◌}
+use Rattle.hickory_wire.specs.serialize.reading.RecordReading.{question}
+use Rattle.hickory_wire.specs.serialize.reading.SectionReading.{Additionals, header, items, section_record, additionals_after, no_additionals}
+use Rattle.hickory_wire.specs.declared.op.header.Header.{Header}
+use Rattle.hickory_wire.specs.declared.op.header.Metadata.{Metadata}
+use Rattle.hickory_wire.specs.declared.op.message.Message.{Message}
+use Rattle.hickory_wire.specs.declared.op.query.Query.{Query}
+use Rattle.hickory_wire.specs.declared.rr.rdata.RData.{RData}
+use Rattle.hickory_wire.specs.declared.rr.record.Record.{Record}
+use Rattle.hickory_wire.proofs.lemmas.serialize.reading.AdditionalItems.{Section, section_read, section_here}
+use Rattle.hickory_wire.proofs.lemmas.serialize.layout.ByteTexts.{here, read_here}
+use Rattle.hickory_wire.proofs.lemmas.serialize.reading.CountedItems.{Found, at_place, items_found, items_here}
+use Rattle.hickory_wire.proofs.lemmas.serialize.reading.HeaderLaws.{header_here, header_found}
+use Rattle.hickory_wire.proofs.lemmas.serialize.reading.SectionItems.{PlainAt, questions_find, questions_reach, plain_find, plain_reach, plain_parts, plain_whole}
+use Rattle.hickory_wire.proofs.lemmas.serialize.reading.StringSteps.{wrap, ok_is, bind_ok}
 
 -- the message of what was read
 abbrev message_of : Header → List Query → List (Record RData) → List (Record RData) → Additionals → Message

@@ -2,11 +2,11 @@
 use Rattle.std.proofs.Common.{◌≡◌, ℕ, ◌^◌, ◌<◌, ◌≤◌, Bool, true, false, List, length, Option, None, Some, arith, nat_lt, nat_le}
 use Rattle.std.specs.List.{list_any}
 use Rattle.std.specs.Prelude.{if◌then◌else◌}
-use Rattle.hickory_wire.specs.RecordSize.{data_len, form_fault, length_fault}
-use Rattle.hickory_wire.proofs.OctetLengths.{fitted}
+use Rattle.hickory_wire.specs.serialize.writing.RecordSize.{data_len, form_fault, length_fault}
+use Rattle.hickory_wire.proofs.lemmas.serialize.writing.OctetLengths.{fitted}
 use Rattle.hickory_wire.specs.declared.error.ProtoError.{ProtoError}
-use Rattle.hickory_wire.specs.declared.rdata.RData.{RData}
-use Rattle.hickory_wire.specs.declared.rdata.RData.TheVariants as rdata
+use Rattle.hickory_wire.specs.declared.rr.rdata.RData.{RData}
+use Rattle.hickory_wire.specs.declared.rr.rdata.RData.TheVariants as rdata
 
 -- no fault means a length of sixteen bits
 pub small_len : (n : ℕ) → length_fault n ≡ None → n < 2 ^ 16

@@ -4,23 +4,23 @@ use Rattle.std.proofs.lemmas.List.{append_assoc}
 use Rattle.std.proofs.lemmas.List.Elements.{recursion_from_All}
 use Rattle.std.specs.List.{AllByRecursion}
 use Rattle.std.specs.Int.{w16, w32, to_be_bytes}
-use Rattle.hickory_wire.specs.Bytes.{BytesAt}
-use Rattle.hickory_wire.specs.DomainName.{DomainName, IsLabel, AreLabels, wire_form, name_len}
-use Rattle.hickory_wire.specs.FullForm.{name_octets, data_octets, record_octets, EndsInFull, HasNames}
-use Rattle.hickory_wire.specs.NameLayout.{LabelsAt, NameAt}
-use Rattle.hickory_wire.specs.NameLayout.LabelsAt.{at_end, at_label}
-use Rattle.hickory_wire.specs.QuestionForm.{question_octets}
-use Rattle.hickory_wire.specs.QuestionLayout.{QuestionAt}
-use Rattle.hickory_wire.specs.RecordData.{soa_numbers, tsig_fields, type_of}
-use Rattle.hickory_wire.specs.RecordLayout.{OctetsAt, DataAt, FormAt, fixed_fields}
-use Rattle.hickory_wire.specs.RecordSize.{data_len, full_size, form_fault}
-use Rattle.hickory_wire.specs.Writing.{Puts}
-use Rattle.hickory_wire.specs.declared.query.Query.{Query}
-use Rattle.hickory_wire.specs.declared.rdata.RData.{RData}
-use Rattle.hickory_wire.specs.declared.rdata.RData.TheVariants as rdata
-use Rattle.hickory_wire.specs.declared.record.Record.{Record}
-use Rattle.hickory_wire.proofs.ByteTexts.{BytesAt-left, BytesAt-right}
-use Rattle.hickory_wire.proofs.Stable.{BytesAt-append}
+use Rattle.hickory_wire.specs.serialize.layout.Bytes.{BytesAt}
+use Rattle.hickory_wire.specs.rr.domain.DomainName.{DomainName, IsLabel, AreLabels, wire_form, name_len}
+use Rattle.hickory_wire.specs.serialize.writing.FullForm.{name_octets, data_octets, record_octets, EndsInFull, HasNames}
+use Rattle.hickory_wire.specs.serialize.layout.NameLayout.{LabelsAt, NameAt}
+use Rattle.hickory_wire.specs.serialize.layout.NameLayout.LabelsAt.{at_end, at_label}
+use Rattle.hickory_wire.specs.serialize.writing.QuestionForm.{question_octets}
+use Rattle.hickory_wire.specs.serialize.layout.QuestionLayout.{QuestionAt}
+use Rattle.hickory_wire.specs.rr.RecordData.{soa_numbers, tsig_fields, type_of}
+use Rattle.hickory_wire.specs.serialize.layout.RecordLayout.{OctetsAt, DataAt, FormAt, fixed_fields}
+use Rattle.hickory_wire.specs.serialize.writing.RecordSize.{data_len, full_size, form_fault}
+use Rattle.hickory_wire.specs.serialize.writing.Writing.{Puts}
+use Rattle.hickory_wire.specs.declared.op.query.Query.{Query}
+use Rattle.hickory_wire.specs.declared.rr.rdata.RData.{RData}
+use Rattle.hickory_wire.specs.declared.rr.rdata.RData.TheVariants as rdata
+use Rattle.hickory_wire.specs.declared.rr.record.Record.{Record}
+use Rattle.hickory_wire.proofs.lemmas.serialize.layout.ByteTexts.{BytesAt-left, BytesAt-right}
+use Rattle.hickory_wire.proofs.lemmas.serialize.layout.Stable.{BytesAt-append}
 
 -- a name in full is as long as it says
 pub name_octets-len : (labels : List (List ℕ)) → length (name_octets labels) ≡ name_len labels

@@ -5,7 +5,7 @@ use Rattle.std.specs.List.{flat_map}
 use Rattle.std.proofs.lemmas.Bool.{le-ltb, lt-ltb, cases_lt}
 use Rattle.std.proofs.lemmas.List.{take_more, flat_map_more}
 use Rattle.std.proofs.lemmas.List.Folds.{length-flat_map-take}
-use Rattle.hickory_wire.specs.RecordSize.{length_fault}
+use Rattle.hickory_wire.specs.serialize.writing.RecordSize.{length_fault}
 use Rattle.hickory_wire.specs.declared.error.ProtoError.TheVariants.{DataTooLong}
 
 -- a length of 16 bits is no fault, and any other is one

@@ -4,17 +4,17 @@ use Rattle.std.proofs.lemmas.List.{get_or-append-add, get_or-drop, get_or-take, 
 use Rattle.std.specs.Prelude.{slice_range}
 use Rattle.std.specs.List.{AllByRecursion, flat_map}
 use Rattle.std.specs.Int.{w16, to_be_bytes}
-use Rattle.hickory_wire.specs.Bytes.{BytesAt}
-use Rattle.hickory_wire.specs.DomainName.{AreLabels}
-use Rattle.hickory_wire.specs.MessageLayout.{ItemsAt}
-use Rattle.hickory_wire.specs.NameLayout.{LabelsAt, NameAt}
-use Rattle.hickory_wire.specs.NameLayout.LabelsAt.{at_end, at_label, at_pointer}
-use Rattle.hickory_wire.specs.QuestionForm.{question_octets}
-use Rattle.hickory_wire.specs.QuestionLayout.{QuestionAt}
-use Rattle.hickory_wire.specs.declared.query.Query.{Query}
-use Rattle.hickory_wire.proofs.ByteTexts.{BytesAt-left, BytesAt-right}
-use Rattle.hickory_wire.proofs.FormKeeps.{LabelsAt-longer}
-use Rattle.hickory_wire.proofs.FullForms.{question_stands}
+use Rattle.hickory_wire.specs.serialize.layout.Bytes.{BytesAt}
+use Rattle.hickory_wire.specs.rr.domain.DomainName.{AreLabels}
+use Rattle.hickory_wire.specs.serialize.layout.MessageLayout.{ItemsAt}
+use Rattle.hickory_wire.specs.serialize.layout.NameLayout.{LabelsAt, NameAt}
+use Rattle.hickory_wire.specs.serialize.layout.NameLayout.LabelsAt.{at_end, at_label, at_pointer}
+use Rattle.hickory_wire.specs.serialize.writing.QuestionForm.{question_octets}
+use Rattle.hickory_wire.specs.serialize.layout.QuestionLayout.{QuestionAt}
+use Rattle.hickory_wire.specs.declared.op.query.Query.{Query}
+use Rattle.hickory_wire.proofs.lemmas.serialize.layout.ByteTexts.{BytesAt-left, BytesAt-right}
+use Rattle.hickory_wire.proofs.lemmas.serialize.layout.FormKeeps.{LabelsAt-longer}
+use Rattle.hickory_wire.proofs.lemmas.serialize.writing.FullForms.{question_stands}
 
 -- each byte from a place up to another is the same
 pub record Agree (from to : ℕ) (old new : List ℕ) : Type 0 where

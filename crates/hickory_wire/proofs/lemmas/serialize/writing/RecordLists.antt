@@ -3,16 +3,16 @@ use Rattle.std.proofs.Common.{◌≡◌, ◌≢◌, ℕ, ◌+◌, ◌<◌, ◌�
 use Rattle.std.specs.Prelude.{is_some}
 use Rattle.std.proofs.lemmas.List.{take_all, take-append-le, drop-append-le, drop_at, map-append}
 use Rattle.std.specs.Borrow.{Bor}
-use Rattle.hickory_wire.specs.Endings.{RecordEnds, seen_ending, count_of_one, front_of_ending, ListFollows}
-use Rattle.hickory_wire.specs.Writing as writing
-use Rattle.hickory_wire.specs.Writing.{Puts, PutsAll, IsCut, IsStuck, Ends, ListWritten, ListFront, ListsWritten, ending_of}
-use Rattle.hickory_wire.specs.Writing.ListsWritten.{none_left, next_list, stuck_list}
+use Rattle.hickory_wire.specs.serialize.writing.Endings.{RecordEnds, seen_ending, count_of_one, front_of_ending, ListFollows}
+use Rattle.hickory_wire.specs.serialize.writing.Writing as writing
+use Rattle.hickory_wire.specs.serialize.writing.Writing.{Puts, PutsAll, IsCut, IsStuck, Ends, ListWritten, ListFront, ListsWritten, ending_of}
+use Rattle.hickory_wire.specs.serialize.writing.Writing.ListsWritten.{none_left, next_list, stuck_list}
 use Rattle.hickory_wire.specs.declared.error.ProtoError.{ProtoError}
-use Rattle.hickory_wire.specs.declared.rdata.RData.{RData}
-use Rattle.hickory_wire.specs.declared.record.Record.{Record}
-use Rattle.hickory_wire.specs.declared.record_encoder.Ending.{Ending}
-use Rattle.hickory_wire.specs.declared.record_encoder.Ending.TheVariants.{Whole, Cut, Stuck}
-use Rattle.hickory_wire.proofs.FormKeeps.{LabelsAt-longer}
+use Rattle.hickory_wire.specs.declared.rr.rdata.RData.{RData}
+use Rattle.hickory_wire.specs.declared.rr.record.Record.{Record}
+use Rattle.hickory_wire.specs.declared.serialize.writing.record_encoder.Ending.{Ending}
+use Rattle.hickory_wire.specs.declared.serialize.writing.record_encoder.Ending.TheVariants.{Whole, Cut, Stuck}
+use Rattle.hickory_wire.proofs.lemmas.serialize.layout.FormKeeps.{LabelsAt-longer}
 
 -- a record takes a byte at least
 pub Puts-longer : {limit : ℕ} {old new : List ℕ} {r : Record RData} → Puts limit old r new → length old < length new

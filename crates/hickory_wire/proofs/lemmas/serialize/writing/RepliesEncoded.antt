@@ -2,16 +2,16 @@
 use Rattle.std.proofs.Common.{◌≡◌, inl, inr, ℕ, ◌<◌, ◌^◌, List, length, get_or, sym, subst, arith}
 use Rattle.std.proofs.lemmas.Bool.{cases_lt}
 use Rattle.std.proofs.lemmas.List.{get_or_past}
-use Rattle.hickory_wire.specs.Bytes.{AreBytes}
-use Rattle.hickory_wire.specs.HeaderLayout.{header_octets}
-use Rattle.hickory_wire.specs.Reply.{Reply}
-use Rattle.hickory_wire.specs.ReplyParts.{ReplyWritten, ReplyEncoded, Refused}
-use Rattle.hickory_wire.specs.ReplyParts.Refused.{too_large as refused_large, formless as refused_formless}
-use Rattle.hickory_wire.specs.Writing.{Encoded, fallback_header}
-use Rattle.hickory_wire.specs.Writing.Encoded.{written, too_large, formless}
+use Rattle.hickory_wire.specs.serialize.layout.Bytes.{AreBytes}
+use Rattle.hickory_wire.specs.serialize.layout.HeaderLayout.{header_octets}
+use Rattle.hickory_wire.specs.serialize.writing.Reply.{Reply}
+use Rattle.hickory_wire.specs.serialize.writing.ReplyParts.{ReplyWritten, ReplyEncoded, Refused}
+use Rattle.hickory_wire.specs.serialize.writing.ReplyParts.Refused.{too_large as refused_large, formless as refused_formless}
+use Rattle.hickory_wire.specs.serialize.writing.Writing.{Encoded, fallback_header}
+use Rattle.hickory_wire.specs.serialize.writing.Writing.Encoded.{written, too_large, formless}
 use Rattle.hickory_wire.specs.declared.error.ProtoError.{ProtoError}
-use Rattle.hickory_wire.specs.declared.header.Header.{Header}
-use Rattle.hickory_wire.proofs.WrittenMessage.{message_stands, written_reads}
+use Rattle.hickory_wire.specs.declared.op.header.Header.{Header}
+use Rattle.hickory_wire.proofs.lemmas.serialize.writing.WrittenMessage.{message_stands, written_reads}
 
 pub encoded_written : (limit : ℕ) (reply : Reply) (bytes : List ℕ) (header : Header) → ReplyWritten limit reply bytes header → Encoded limit reply bytes header
 encoded_written limit reply bytes header w = subst (λ (h : Header). Encoded limit reply bytes h) (sym w.header_is) (written w.written)

@@ -4,15 +4,15 @@ use Rattle.std.proofs.lemmas.List.{take_all}
 use Rattle.std.proofs.lemmas.List.Sums.{sum_by-cons}
 use Rattle.std.specs.Prelude.{sum_by}
 use Rattle.std.specs.List.{AllByRecursion}
-use Rattle.hickory_wire.specs.RecordSize.{full_size}
-use Rattle.hickory_wire.specs.Reply.{Reply}
-use Rattle.hickory_wire.specs.WholeReply.{HasForm, total_size, FitsWhole, IsWhole}
-use Rattle.hickory_wire.specs.Writing as writing
-use Rattle.hickory_wire.specs.Writing.{Puts, PutsAll, ListWritten, ListFront, ListsWritten, Fronts, fronts_list, is_any_cut, ending_of, Written, GetsStuck, asked_bytes}
-use Rattle.hickory_wire.specs.Writing.ListsWritten.{none_left, next_list, stuck_list}
+use Rattle.hickory_wire.specs.serialize.writing.RecordSize.{full_size}
+use Rattle.hickory_wire.specs.serialize.writing.Reply.{Reply}
+use Rattle.hickory_wire.specs.serialize.writing.WholeReply.{HasForm, total_size, FitsWhole, IsWhole}
+use Rattle.hickory_wire.specs.serialize.writing.Writing as writing
+use Rattle.hickory_wire.specs.serialize.writing.Writing.{Puts, PutsAll, ListWritten, ListFront, ListsWritten, Fronts, fronts_list, is_any_cut, ending_of, Written, GetsStuck, asked_bytes}
+use Rattle.hickory_wire.specs.serialize.writing.Writing.ListsWritten.{none_left, next_list, stuck_list}
 use Rattle.hickory_wire.specs.declared.error.ProtoError.{ProtoError}
-use Rattle.hickory_wire.specs.declared.rdata.RData.{RData}
-use Rattle.hickory_wire.specs.declared.record.Record.{Record}
+use Rattle.hickory_wire.specs.declared.rr.rdata.RData.{RData}
+use Rattle.hickory_wire.specs.declared.rr.record.Record.{Record}
 
 puts_small : (limit : ℕ) (rs : List (Record RData)) (old new : List ℕ) → PutsAll limit old rs new → length new ≤ length old + sum_by full_size rs
 puts_small limit [] old new e = omega (arith, ap length e)

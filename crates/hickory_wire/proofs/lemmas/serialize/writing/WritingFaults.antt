@@ -3,15 +3,15 @@ use Rattle.std.proofs.Common.{◌≡◌, ◌⊎◌, inl, inr, ℕ, List, Bool, t
 use Rattle.std.proofs.lemmas.Bool.{cases_lt}
 use Rattle.std.specs.Prelude.{if◌then◌else◌, nat_lt, nat_le, length, ◌^◌}
 use Rattle.std.specs.List.{list_any}
-use Rattle.hickory_wire.specs.RecordSize.{length_fault, form_fault, data_len}
-use Rattle.hickory_wire.specs.Writing.{ListFront, ListsWritten}
-use Rattle.hickory_wire.specs.Writing.ListsWritten.{none_left, next_list, stuck_list}
+use Rattle.hickory_wire.specs.serialize.writing.RecordSize.{length_fault, form_fault, data_len}
+use Rattle.hickory_wire.specs.serialize.writing.Writing.{ListFront, ListsWritten}
+use Rattle.hickory_wire.specs.serialize.writing.Writing.ListsWritten.{none_left, next_list, stuck_list}
 use Rattle.hickory_wire.specs.declared.error.ProtoError.{ProtoError}
 use Rattle.hickory_wire.specs.declared.error.ProtoError.TheVariants.{CharacterDataTooLong, DataTooLong}
-use Rattle.hickory_wire.specs.declared.rdata.RData.{RData}
-use Rattle.hickory_wire.specs.declared.rdata.RData.TheVariants as rdata
-use Rattle.hickory_wire.specs.declared.record.Record.{Record}
-use Rattle.hickory_wire.proofs.OctetLengths.{fits, too_long}
+use Rattle.hickory_wire.specs.declared.rr.rdata.RData.{RData}
+use Rattle.hickory_wire.specs.declared.rr.rdata.RData.TheVariants as rdata
+use Rattle.hickory_wire.specs.declared.rr.record.Record.{Record}
+use Rattle.hickory_wire.proofs.lemmas.serialize.writing.OctetLengths.{fits, too_long}
 
 abbrev pub IsFormFault : ProtoError → Type 0
 IsFormFault e = (e ≡ CharacterDataTooLong) ⊎ (e ≡ DataTooLong)

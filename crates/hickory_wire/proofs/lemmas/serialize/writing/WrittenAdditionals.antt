@@ -4,19 +4,19 @@ use Rattle.std.specs.Prelude.{filter, not, option_map, option_to_list, IfSome, �
 use Rattle.std.specs.List.{AllByRecursion}
 use Rattle.std.proofs.lemmas.List.{append-nil}
 use Rattle.std.proofs.lemmas.List.Elements.{filter-append}
-use Rattle.hickory_wire.specs.Decoding.{without_proof, front_of_option, IsFormedEdns}
-use Rattle.hickory_wire.specs.EdnsFields.{EdnsFields}
-use Rattle.hickory_wire.specs.HeaderLayout.{flag}
-use Rattle.hickory_wire.specs.MessageLayout.{ItemsAt, IsSectionRecord, is_opt, is_tsig, HasEdns, AdditionalSection, tsig_record}
-use Rattle.hickory_wire.specs.RecordData.{type_of}
-use Rattle.hickory_wire.specs.RecordLayout.{FormAt, RecordAt, IsFormedRecord}
-use Rattle.hickory_wire.specs.Reply.{opt_record}
-use Rattle.hickory_wire.specs.SectionReading.{edns_of}
-use Rattle.hickory_wire.specs.declared.rdata.RData.{RData}
-use Rattle.hickory_wire.specs.declared.record.Record.{Record}
-use Rattle.hickory_wire.specs.declared.tsig.TSIG.{TSIG}
-use Rattle.hickory_wire.proofs.RecordsAgree.{formed_record}
-use Rattle.hickory_wire.proofs.WrittenItems.{form_without_proof}
+use Rattle.hickory_wire.specs.serialize.writing.Decoding.{without_proof, front_of_option, IsFormedEdns}
+use Rattle.hickory_wire.specs.op.EdnsFields.{EdnsFields}
+use Rattle.hickory_wire.specs.serialize.layout.HeaderLayout.{flag}
+use Rattle.hickory_wire.specs.serialize.layout.MessageLayout.{ItemsAt, IsSectionRecord, is_opt, is_tsig, HasEdns, AdditionalSection, tsig_record}
+use Rattle.hickory_wire.specs.rr.RecordData.{type_of}
+use Rattle.hickory_wire.specs.serialize.layout.RecordLayout.{FormAt, RecordAt, IsFormedRecord}
+use Rattle.hickory_wire.specs.serialize.writing.Reply.{opt_record}
+use Rattle.hickory_wire.specs.serialize.reading.SectionReading.{edns_of}
+use Rattle.hickory_wire.specs.declared.rr.rdata.RData.{RData}
+use Rattle.hickory_wire.specs.declared.rr.record.Record.{Record}
+use Rattle.hickory_wire.specs.declared.rr.tsig.TSIG.{TSIG}
+use Rattle.hickory_wire.proofs.lemmas.serialize.reading.RecordsAgree.{formed_record}
+use Rattle.hickory_wire.proofs.lemmas.serialize.writing.WrittenItems.{form_without_proof}
 
 -- a set flag is a bit
 flag_bit : (b : Bool) → (n : ℕ) × (n < 2) × (flag b 15 ≡ n * 2 ^ 15) × (eqb n 1 ≡ b)

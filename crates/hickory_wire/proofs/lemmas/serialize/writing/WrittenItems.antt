@@ -1,19 +1,19 @@
 -- Records that were put stand one behind the other, and as they are read.
 use Rattle.std.proofs.Common.{ℕ, zero, suc, ◌+◌, ◌≤◌, List, [], ◌∷◌, ◌++◌, length, map, take, sym, ap, subst, arith}
 use Rattle.std.specs.List.{AllByRecursion}
-use Rattle.hickory_wire.specs.Bytes.{KeepsFrom}
-use Rattle.hickory_wire.specs.Decoding.{without_proof, IsReadable}
-use Rattle.hickory_wire.specs.MessageLayout.{ItemsAt, IsSectionRecord, QuestionRead}
-use Rattle.hickory_wire.specs.QuestionLayout.{QuestionAt, IsFormedQuestion}
-use Rattle.hickory_wire.specs.RecordLayout.{FormAt, RecordAt}
-use Rattle.hickory_wire.specs.Writing.{Puts, PutsAll}
-use Rattle.hickory_wire.specs.declared.query.Query.{Query}
-use Rattle.hickory_wire.specs.declared.rdata.RData.{RData}
-use Rattle.hickory_wire.specs.declared.record.Record.{Record}
-use Rattle.hickory_wire.proofs.FormKeeps.{LabelsAt-longer, FormAt-keeps, QuestionAt-keeps}
-use Rattle.hickory_wire.proofs.RecordLists.{Puts-longer}
-use Rattle.hickory_wire.proofs.RecordsAgree.{formed_record}
-use Rattle.hickory_wire.proofs.Stable.{KeepsFrom-append, KeepsFrom-same, KeepsFrom-trans}
+use Rattle.hickory_wire.specs.serialize.layout.Bytes.{KeepsFrom}
+use Rattle.hickory_wire.specs.serialize.writing.Decoding.{without_proof, IsReadable}
+use Rattle.hickory_wire.specs.serialize.layout.MessageLayout.{ItemsAt, IsSectionRecord, QuestionRead}
+use Rattle.hickory_wire.specs.serialize.layout.QuestionLayout.{QuestionAt, IsFormedQuestion}
+use Rattle.hickory_wire.specs.serialize.layout.RecordLayout.{FormAt, RecordAt}
+use Rattle.hickory_wire.specs.serialize.writing.Writing.{Puts, PutsAll}
+use Rattle.hickory_wire.specs.declared.op.query.Query.{Query}
+use Rattle.hickory_wire.specs.declared.rr.rdata.RData.{RData}
+use Rattle.hickory_wire.specs.declared.rr.record.Record.{Record}
+use Rattle.hickory_wire.proofs.lemmas.serialize.layout.FormKeeps.{LabelsAt-longer, FormAt-keeps, QuestionAt-keeps}
+use Rattle.hickory_wire.proofs.lemmas.serialize.writing.RecordLists.{Puts-longer}
+use Rattle.hickory_wire.proofs.lemmas.serialize.reading.RecordsAgree.{formed_record}
+use Rattle.hickory_wire.proofs.lemmas.serialize.layout.Stable.{KeepsFrom-append, KeepsFrom-same, KeepsFrom-trans}
 
 Puts-keeps : {limit : ℕ} {old new : List ℕ} {r : Record RData} → Puts limit old r new → KeepsFrom 12 old new
 Puts-keeps {limit} {old} p = subst (λ m. KeepsFrom 12 old m) (sym p.appended) (KeepsFrom-append 12 old p.more)

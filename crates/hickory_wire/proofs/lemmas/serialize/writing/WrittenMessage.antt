@@ -2,25 +2,25 @@
 use Rattle.std.proofs.Common.{◌≡◌, ℕ, ◌+◌, ◌-◌, ◌%◌, ◌^◌, ◌<◌, ◌≤◌, List, [], ◌∷◌, ◌++◌, length, map, take, drop, replicate, get_or, None, refl, sym, ap, ◌∙◌, subst, arith, length-append, zero-add}
 use Rattle.std.specs.Prelude.{option_map, option_to_list}
 use Rattle.std.proofs.lemmas.List.{length-take, length-drop, length-map, get_or-append_right, get_or_append_left, get_or-drop}
-use Rattle.hickory_wire.specs.Bytes.{BytesAt, KeepsFrom, AreBytes}
-use Rattle.hickory_wire.specs.Decoding.{without_proof, front_of_option, IsDecodable, decoded_message}
-use Rattle.hickory_wire.specs.HeaderLayout.{header_octets}
-use Rattle.hickory_wire.specs.MessageLayout.{MessageAt, tsig_record}
-use Rattle.hickory_wire.specs.MessageReading.{Reads}
-use Rattle.hickory_wire.specs.RecordLayout.{RecordAt}
-use Rattle.hickory_wire.specs.Reply.{Reply, opt_record}
-use Rattle.hickory_wire.specs.Writing as writing
-use Rattle.hickory_wire.specs.Writing.{PutsAll, ListWritten, ListFront, ListsWritten, Fronts, fronts_list, ending_of, Written, asked_bytes, written_header}
-use Rattle.hickory_wire.specs.Writing.ListsWritten.{none_left, next_list, stuck_list}
-use Rattle.hickory_wire.specs.declared.query.Query.{Query}
-use Rattle.hickory_wire.specs.declared.rdata.RData.{RData}
-use Rattle.hickory_wire.specs.declared.record.Record.{Record}
-use Rattle.hickory_wire.proofs.ByteTexts.{here}
-use Rattle.hickory_wire.proofs.HeaderLaws.{header_stands}
-use Rattle.hickory_wire.proofs.Stable.{KeepsFrom-trans}
-use Rattle.hickory_wire.proofs.WholeMessage.{message_here}
-use Rattle.hickory_wire.proofs.WrittenAdditionals.{opt_written, tsig_written, section_made}
-use Rattle.hickory_wire.proofs.WrittenItems.{PutsAll-keeps, PutsAll-longer, PutsAll-within, put_stand, readable_stand, readable_plain, readable_front, readable_both, items_both, questions_stand, questions_few}
+use Rattle.hickory_wire.specs.serialize.layout.Bytes.{BytesAt, KeepsFrom, AreBytes}
+use Rattle.hickory_wire.specs.serialize.writing.Decoding.{without_proof, front_of_option, IsDecodable, decoded_message}
+use Rattle.hickory_wire.specs.serialize.layout.HeaderLayout.{header_octets}
+use Rattle.hickory_wire.specs.serialize.layout.MessageLayout.{MessageAt, tsig_record}
+use Rattle.hickory_wire.specs.serialize.reading.MessageReading.{Reads}
+use Rattle.hickory_wire.specs.serialize.layout.RecordLayout.{RecordAt}
+use Rattle.hickory_wire.specs.serialize.writing.Reply.{Reply, opt_record}
+use Rattle.hickory_wire.specs.serialize.writing.Writing as writing
+use Rattle.hickory_wire.specs.serialize.writing.Writing.{PutsAll, ListWritten, ListFront, ListsWritten, Fronts, fronts_list, ending_of, Written, asked_bytes, written_header}
+use Rattle.hickory_wire.specs.serialize.writing.Writing.ListsWritten.{none_left, next_list, stuck_list}
+use Rattle.hickory_wire.specs.declared.op.query.Query.{Query}
+use Rattle.hickory_wire.specs.declared.rr.rdata.RData.{RData}
+use Rattle.hickory_wire.specs.declared.rr.record.Record.{Record}
+use Rattle.hickory_wire.proofs.lemmas.serialize.layout.ByteTexts.{here}
+use Rattle.hickory_wire.proofs.lemmas.serialize.reading.HeaderLaws.{header_stands}
+use Rattle.hickory_wire.proofs.lemmas.serialize.layout.Stable.{KeepsFrom-trans}
+use Rattle.hickory_wire.proofs.lemmas.serialize.reading.WholeMessage.{message_here}
+use Rattle.hickory_wire.proofs.lemmas.serialize.writing.WrittenAdditionals.{opt_written, tsig_written, section_made}
+use Rattle.hickory_wire.proofs.lemmas.serialize.writing.WrittenItems.{PutsAll-keeps, PutsAll-longer, PutsAll-within, put_stand, readable_stand, readable_plain, readable_front, readable_both, items_both, questions_stand, questions_few}
 
 -- what a list leaves, of which so many were put
 record Part (limit : ℕ) (old : List ℕ) (records : List (Record RData)) (new : List ℕ) (count : ℕ) : Type 0 where

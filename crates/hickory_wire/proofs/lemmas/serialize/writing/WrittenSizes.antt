@@ -1,16 +1,16 @@
 -- What is written keeps the limit.
 use Rattle.std.proofs.Common.{◌≡◌, ℕ, ◌+◌, ◌≤◌, List, ◌++◌, length, take, drop, max, replicate, Option, ap, arith, length-append}
 use Rattle.std.proofs.lemmas.List.{length-drop}
-use Rattle.hickory_wire.specs.HeaderLayout.{header_octets}
-use Rattle.hickory_wire.specs.Reply.{Reply}
-use Rattle.hickory_wire.specs.Writing.{ListFront, ListsWritten, Fronts, Written, Encoded, written_header}
-use Rattle.hickory_wire.specs.Writing.Encoded.{written, too_large, formless}
-use Rattle.hickory_wire.specs.Writing.ListsWritten.{none_left, next_list, stuck_list}
+use Rattle.hickory_wire.specs.serialize.layout.HeaderLayout.{header_octets}
+use Rattle.hickory_wire.specs.serialize.writing.Reply.{Reply}
+use Rattle.hickory_wire.specs.serialize.writing.Writing.{ListFront, ListsWritten, Fronts, Written, Encoded, written_header}
+use Rattle.hickory_wire.specs.serialize.writing.Writing.Encoded.{written, too_large, formless}
+use Rattle.hickory_wire.specs.serialize.writing.Writing.ListsWritten.{none_left, next_list, stuck_list}
 use Rattle.hickory_wire.specs.declared.error.ProtoError.{ProtoError}
-use Rattle.hickory_wire.specs.declared.header.Header.{Header}
-use Rattle.hickory_wire.specs.declared.rdata.RData.{RData}
-use Rattle.hickory_wire.specs.declared.record.Record.{Record}
-use Rattle.hickory_wire.proofs.WrittenItems.{PutsAll-longer, PutsAll-within}
+use Rattle.hickory_wire.specs.declared.op.header.Header.{Header}
+use Rattle.hickory_wire.specs.declared.rr.rdata.RData.{RData}
+use Rattle.hickory_wire.specs.declared.rr.record.Record.{Record}
+use Rattle.hickory_wire.proofs.lemmas.serialize.writing.WrittenItems.{PutsAll-longer, PutsAll-within}
 
 record Sizes (limit : ℕ) (old new : List ℕ) : Type 0 where
   longer : length old ≤ length new

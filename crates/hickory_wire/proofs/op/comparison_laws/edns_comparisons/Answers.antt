@@ -1,10 +1,10 @@
 use Rattle.std.proofs.Common.{◌≡◌, Bool, true, ◌&&◌, nat_eq, ap, refl}
 use Rattle.std.specs.Bool.{beq}
 use Rattle.std.specs.Cmp.Lexicographic.{pointwise}
-use Rattle.hickory_wire.specs.EdnsFields.{EdnsFields}
-use Rattle.hickory_wire.specs.EdnsSameness.{option_eq}
-use Rattle.hickory_wire.proofs.RecordComparing.{both_hold, hold_both, number_from_eq, number_equal, flag_from_eq, flag_equal, options_from_eq, options_equal}
-use Rattle.hickory_wire.proofs.comparison_laws.edns_comparisons.Goals as goal
+use Rattle.hickory_wire.specs.op.EdnsFields.{EdnsFields}
+use Rattle.hickory_wire.specs.op.EdnsSameness.{option_eq}
+use Rattle.hickory_wire.proofs.lemmas.rr.RecordComparing.{both_hold, hold_both, number_from_eq, number_equal, flag_from_eq, flag_equal, options_from_eq, options_equal}
+use Rattle.hickory_wire.proofs.op.comparison_laws.edns_comparisons.Goals as goal
 
 -- the same fields
 abbrev remade : EdnsFields → EdnsFields

@@ -1,9 +1,9 @@
 use Rattle.std.proofs.Common.{◌≡◌, true, ◌&&◌, nat_eq}
-use Rattle.hickory_wire.specs.NameHash.{same_from_eq}
-use Rattle.hickory_wire.specs.NameOrder.{name_eq}
-use Rattle.hickory_wire.proofs.RecordComparing.{both_hold, hold_both, number_from_eq, number_equal}
-use Rattle.hickory_wire.proofs.SameNames.{eq_from_same}
-use Rattle.hickory_wire.proofs.comparison_laws.question_comparisons.Goals as goal
+use Rattle.hickory_wire.specs.rr.domain.NameHash.{same_from_eq}
+use Rattle.hickory_wire.specs.rr.domain.NameOrder.{name_eq}
+use Rattle.hickory_wire.proofs.lemmas.rr.RecordComparing.{both_hold, hold_both, number_from_eq, number_equal}
+use Rattle.hickory_wire.proofs.lemmas.rr.domain.SameNames.{eq_from_same}
+use Rattle.hickory_wire.proofs.op.comparison_laws.question_comparisons.Goals as goal
 
 pub returns : goal.returns
 returns c = λ a b. (

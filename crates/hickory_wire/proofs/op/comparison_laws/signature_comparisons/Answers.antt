@@ -1,11 +1,11 @@
 use Rattle.std.proofs.Common.{◌≡◌, true, ◌&&◌, nat_eq, ap}
-use Rattle.hickory_wire.specs.NameHash.{same_from_eq}
-use Rattle.hickory_wire.specs.NameOrder.{name_eq}
-use Rattle.hickory_wire.specs.RecordSameness.{lower_tsig}
-use Rattle.hickory_wire.specs.declared.rdata.RData.TheVariants as rdata
-use Rattle.hickory_wire.proofs.RecordComparing.{both_hold, hold_both, number_from_eq, number_equal, signature_eq, signature_from_eq, signature_equal}
-use Rattle.hickory_wire.proofs.SameNames.{eq_from_same}
-use Rattle.hickory_wire.proofs.comparison_laws.signature_comparisons.Goals as goal
+use Rattle.hickory_wire.specs.rr.domain.NameHash.{same_from_eq}
+use Rattle.hickory_wire.specs.rr.domain.NameOrder.{name_eq}
+use Rattle.hickory_wire.specs.rr.RecordSameness.{lower_tsig}
+use Rattle.hickory_wire.specs.declared.rr.rdata.RData.TheVariants as rdata
+use Rattle.hickory_wire.proofs.lemmas.rr.RecordComparing.{both_hold, hold_both, number_from_eq, number_equal, signature_eq, signature_from_eq, signature_equal}
+use Rattle.hickory_wire.proofs.lemmas.rr.domain.SameNames.{eq_from_same}
+use Rattle.hickory_wire.proofs.op.comparison_laws.signature_comparisons.Goals as goal
 
 pub returns : goal.returns
 returns c = λ a b. (

@@ -1,18 +1,18 @@
 use Rattle.std.proofs.Common.{◌≡◌, ℕ, true, ◌&&◌, nat_eq, List, ap}
 use Rattle.std.proofs.lemmas.Bool.{eq-eqb, eqb-true, false≢true}
-use Rattle.hickory_wire.specs.NameOrder.{name_eq, lower_name}
-use Rattle.hickory_wire.specs.NameHash.{same_from_eq}
-use Rattle.hickory_wire.specs.RecordSameness.{lower_mx, lower_soa}
-use Rattle.hickory_wire.specs.declared.rdata.MX.{MX}
-use Rattle.hickory_wire.specs.declared.rdata.SOA.{SOA}
-use Rattle.hickory_wire.proofs.SameNames.{eq_from_same}
+use Rattle.hickory_wire.specs.rr.domain.NameOrder.{name_eq, lower_name}
+use Rattle.hickory_wire.specs.rr.domain.NameHash.{same_from_eq}
+use Rattle.hickory_wire.specs.rr.RecordSameness.{lower_mx, lower_soa}
+use Rattle.hickory_wire.specs.declared.rr.rdata.MX.{MX}
+use Rattle.hickory_wire.specs.declared.rr.rdata.SOA.{SOA}
+use Rattle.hickory_wire.proofs.lemmas.rr.domain.SameNames.{eq_from_same}
 use Rattle.std.specs.Cmp.Lexicographic.{pointwise}
-use Rattle.hickory_wire.specs.declared.rdata.RData.{RData}
-use Rattle.hickory_wire.specs.declared.rdata.RData.TheVariants as rdata
-use Rattle.hickory_wire.proofs.RecordComparing.{both_hold, hold_both, lower_from_eq, eq_from_lower, octets_from_eq, octets_equal, texts_from_eq, texts_equal, options_from_eq, options_equal, number_from_eq, number_equal, signature_from_eq, signature_equal}
+use Rattle.hickory_wire.specs.declared.rr.rdata.RData.{RData}
+use Rattle.hickory_wire.specs.declared.rr.rdata.RData.TheVariants as rdata
+use Rattle.hickory_wire.proofs.lemmas.rr.RecordComparing.{both_hold, hold_both, lower_from_eq, eq_from_lower, octets_from_eq, octets_equal, texts_from_eq, texts_equal, options_from_eq, options_equal, number_from_eq, number_equal, signature_from_eq, signature_equal}
 use Rattle.std.specs.declared.net.ipv4_addr.Ipv4Addr.{Ipv4Addr}
 use Rattle.std.specs.declared.net.ipv6_addr.Ipv6Addr.{Ipv6Addr}
-use Rattle.hickory_wire.proofs.record_sameness.record_comparisons.Goals as goal
+use Rattle.hickory_wire.proofs.rr.record_sameness.record_comparisons.Goals as goal
 
 -- a number for each form of data, so that two forms differ by computing
 form : RData → ℕ

@@ -1,11 +1,11 @@
 use Rattle.std.proofs.Common.{◌∙◌, ap, subst, refl}
 use Rattle.std.proofs.lemmas.Result.{IfOk-weaker, IfErr-weaker}
-use Rattle.hickory_wire.specs.Encoder.{max_size, written_bytes}
-use Rattle.hickory_wire.specs.Reply.{Reply}
-use Rattle.hickory_wire.specs.ReplyParts.{Refused, ReplyWritten}
-use Rattle.hickory_base.specs.RequestForm.{questions_form}
-use Rattle.hickory_base.proofs.RequestForms.{form_is}
-use Rattle.hickory_base.proofs.message_request.MessageRequest.emit.Goals as goal
+use Rattle.hickory_wire.specs.serialize.writing.Encoder.{max_size, written_bytes}
+use Rattle.hickory_wire.specs.serialize.writing.Reply.{Reply}
+use Rattle.hickory_wire.specs.serialize.writing.ReplyParts.{Refused, ReplyWritten}
+use Rattle.hickory_base.specs.requests.RequestForm.{questions_form}
+use Rattle.hickory_base.proofs.lemmas.requests.RequestForms.{form_is}
+use Rattle.hickory_base.proofs.requests.message_request.MessageRequest.emit.Goals as goal
 
 pub returns-clause-written : goal.returns-clause-written
 returns-clause-written c =

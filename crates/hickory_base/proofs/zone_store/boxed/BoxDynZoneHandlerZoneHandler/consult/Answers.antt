@@ -1,7 +1,7 @@
 -- The box leads to the value that it keeps.
 use Rattle.std.proofs.Common.{subst, rules}
 use Rattle.std.specs.Option.{option_copied, option_map}
-use Rattle.hickory_base.specs.Requests.{information_of}
+use Rattle.hickory_base.specs.requests.Requests.{information_of}
 use Rattle.hickory_base.proofs.zone_store.boxed.BoxDynZoneHandlerZoneHandler.consult.Goals as goal
 
 pub returns : goal.returns

@@ -1,6 +1,6 @@
 -- The box leads to the value that it keeps.
 use Rattle.std.proofs.Common.{subst, rules}
-use Rattle.hickory_base.specs.Denials.{nsec3_question}
+use Rattle.hickory_base.specs.zone_store.Denials.{nsec3_question}
 use Rattle.hickory_base.proofs.zone_store.boxed.BoxDynZoneHandlerZoneHandler.nsec3_records.Goals as goal
 
 pub returns : goal.returns

@@ -1,6 +1,6 @@
 -- The step of the value behind the reference is the step of the value in the box.
 use Rattle.std.proofs.Common.{rules}
-use Rattle.hickory_base.proofs.Boxes.{on_err_map, stepped, kept_in_box}
+use Rattle.hickory_base.proofs.lemmas.zone_store.Boxes.{on_err_map, stepped, kept_in_box}
 use Rattle.hickory_base.proofs.zone_store.boxed.BoxDynZoneHandlerZoneHandler.update.Goals as goal
 
 pub returns : goal.returns

@@ -1,7 +1,7 @@
 use Rattle.std.proofs.Common.{sym, subst, ◌∙◌}
 use Rattle.std.specs.List.Sorted.{IsStrictlySortedBy}
-use Rattle.hickory_base.specs.ZoneSets.{key_cmp}
-use Rattle.hickory_base.proofs.ZoneByName.{keys-shared, rrset_found}
+use Rattle.hickory_base.specs.zone_store.ZoneSets.{key_cmp}
+use Rattle.hickory_base.proofs.lemmas.zone_store.ZoneByName.{keys-shared, rrset_found}
 use Rattle.hickory_base.proofs.zone_store.in_memory.InMemoryZoneHandler.record_set.Goals as goal
 
 pub returns : goal.returns

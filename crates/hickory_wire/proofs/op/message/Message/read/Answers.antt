@@ -1,18 +1,18 @@
 use Rattle.std.proofs.Common.{rules, arith, ◌≡◌, ◌≢◌, ◌∙◌, ap, sym, IfOk, IfErr, Result, Ok, Err, List, ℕ}
 use Rattle.std.specs.Prelude.{MatchResult}
-use Rattle.hickory_wire.specs.Bytes.{AreBytes}
-use Rattle.hickory_wire.specs.Cursor.{Cursor}
-use Rattle.hickory_wire.specs.MessageFaults.{MessageFault}
-use Rattle.hickory_wire.specs.MessageLayout.{MessageAt}
-use Rattle.hickory_wire.specs.MessageReading.{message, front_of, Reads}
-use Rattle.hickory_wire.specs.Reading.{Gives}
+use Rattle.hickory_wire.specs.serialize.layout.Bytes.{AreBytes}
+use Rattle.hickory_wire.specs.serialize.reading.Cursor.{Cursor}
+use Rattle.hickory_wire.specs.serialize.reading.MessageFaults.{MessageFault}
+use Rattle.hickory_wire.specs.serialize.layout.MessageLayout.{MessageAt}
+use Rattle.hickory_wire.specs.serialize.reading.MessageReading.{message, front_of, Reads}
+use Rattle.hickory_wire.specs.serialize.reading.Reading.{Gives}
 use Rattle.hickory_wire.specs.declared.error.DecodeError.{DecodeError}
 use Rattle.hickory_wire.specs.declared.error.DecodeError.TheVariants.{Memory}
-use Rattle.hickory_wire.specs.declared.message.Message.{Message}
-use Rattle.hickory_wire.proofs.ByteTexts.{here}
-use Rattle.hickory_wire.proofs.MessageFaultLaws.{message_err}
-use Rattle.hickory_wire.proofs.WholeMessage.{message_found, message_here}
-use Rattle.hickory_wire.proofs.message.Message.read.Goals as goal
+use Rattle.hickory_wire.specs.declared.op.message.Message.{Message}
+use Rattle.hickory_wire.proofs.lemmas.serialize.layout.ByteTexts.{here}
+use Rattle.hickory_wire.proofs.lemmas.serialize.reading.MessageFaultLaws.{message_err}
+use Rattle.hickory_wire.proofs.lemmas.serialize.reading.WholeMessage.{message_found, message_here}
+use Rattle.hickory_wire.proofs.op.message.Message.read.Goals as goal
 
 reads_from_gives : (result : Result Message DecodeError) (bytes : List ℕ) (old new : Cursor) → old ≡ front_of bytes → Gives (λ (m : Message). m) result old new message → IfOk result (λ m. Reads bytes m)
 reads_from_gives (Ok m) bytes old new front given = record { stop = new; reads = ap message (sym front) ∙ given.0 }

@@ -3,11 +3,11 @@ use Rattle.std.specs.declared.cmp.Ordering.{Ordering}
 use Rattle.std.specs.declared.cmp.Ordering.TheVariants.{Equal}
 use Rattle.std.specs.Ordering.{ordering_then, nat_cmp}
 use Rattle.std.specs.Cmp.Lexicographic.{slice_cmp}
-use Rattle.hickory_wire.specs.DomainName.{cut}
-use Rattle.hickory_wire.specs.NameOrder.{label_cmp}
-use Rattle.hickory_wire.proofs.LabelOrder.{site, back_step, then-first, first_out, second_out}
-use Rattle.hickory_wire.proofs.compare.compare_from_last.Goals.{then-labels-test+else-j-gt0, else-labels-test}
-use Rattle.hickory_wire.proofs.compare.compare_from_last.Goals as goal
+use Rattle.hickory_wire.specs.rr.domain.DomainName.{cut}
+use Rattle.hickory_wire.specs.rr.domain.NameOrder.{label_cmp}
+use Rattle.hickory_wire.proofs.lemmas.rr.domain.LabelOrder.{site, back_step, then-first, first_out, second_out}
+use Rattle.hickory_wire.proofs.rr.domain.compare.compare_from_last.Goals.{then-labels-test+else-j-gt0, else-labels-test}
+use Rattle.hickory_wire.proofs.rr.domain.compare.compare_from_last.Goals as goal
 
 pub label_at-requires-clause-within : goal.label_at-requires-clause-within
 label_at-requires-clause-within c =

@@ -1,8 +1,8 @@
 use Rattle.std.proofs.Common.{◌≡◌, ◌≤◌, length, take, reverse}
 use Rattle.std.specs.Cmp.Lexicographic.{slice_cmp}
-use Rattle.hickory_wire.specs.DomainName.{cut}
-use Rattle.hickory_wire.specs.NameOrder.{label_cmp}
-use Rattle.hickory_wire.proofs.compare.compare_from_last.Given as goal
+use Rattle.hickory_wire.specs.rr.domain.DomainName.{cut}
+use Rattle.hickory_wire.specs.rr.domain.NameOrder.{label_cmp}
+use Rattle.hickory_wire.proofs.rr.domain.compare.compare_from_last.Given as goal
 
 abbrev pub invariant-labels : goal.invariant-labels
 invariant-labels l = record {

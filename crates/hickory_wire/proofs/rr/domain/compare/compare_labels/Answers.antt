@@ -6,9 +6,9 @@ use Rattle.std.proofs.lemmas.Iterator.{YieldsList-from_slice, YieldsList-from_ma
 use Rattle.std.proofs.lemmas.Iterator.Search.{cmp_from_yields_List}
 use Rattle.std.proofs.lemmas.Iterator.Consumers.{YieldsList-at}
 use Rattle.std.specs.Cmp.Lexicographic.{nat_list_cmp_total}
-use Rattle.hickory_wire.specs.NameOrder.{label_cmp, lower_label}
-use Rattle.hickory_wire.proofs.SameNames.{eq_is, same_cmp}
-use Rattle.hickory_wire.proofs.compare.compare_labels.Goals as goal
+use Rattle.hickory_wire.specs.rr.domain.NameOrder.{label_cmp, lower_label}
+use Rattle.hickory_wire.proofs.lemmas.rr.domain.SameNames.{eq_is, same_cmp}
+use Rattle.hickory_wire.proofs.rr.domain.compare.compare_labels.Goals as goal
 
 pub returns : goal.returns
 returns c = cmp_from_yields_List (λ x y. y ≡ x) _ nat_cmp c.cmp.result c.cmp.ensures.ran

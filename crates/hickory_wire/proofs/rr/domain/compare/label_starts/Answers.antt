@@ -1,9 +1,9 @@
 use Rattle.std.proofs.Common.{◌<◌, ap, arith, length}
 use Rattle.std.proofs.lemmas.Grind.{common_steps}
-use Rattle.hickory_wire.specs.DomainName.{cut}
-use Rattle.hickory_wire.proofs.WireForm.{few_labels, wire_short, below_at}
-use Rattle.hickory_wire.proofs.LabelOrder.{Advance, advance}
-use Rattle.hickory_wire.proofs.compare.label_starts.Goals as goal
+use Rattle.hickory_wire.specs.rr.domain.DomainName.{cut}
+use Rattle.hickory_wire.proofs.lemmas.rr.domain.WireForm.{few_labels, wire_short, below_at}
+use Rattle.hickory_wire.proofs.lemmas.rr.domain.LabelOrder.{Advance, advance}
+use Rattle.hickory_wire.proofs.rr.domain.compare.label_starts.Goals as goal
 
 pub bounds-starts-count : goal.bounds-starts-count
 bounds-starts-count c =

@@ -1,6 +1,6 @@
 use Rattle.std.proofs.Common.{◌≡◌, ◌≤◌, ◌<◌, ◌-◌, ℕ, length, get_or}
-use Rattle.hickory_wire.specs.DomainName.{cut, label_offset}
-use Rattle.hickory_wire.proofs.compare.label_starts.Given as goal
+use Rattle.hickory_wire.specs.rr.domain.DomainName.{cut, label_offset}
+use Rattle.hickory_wire.proofs.rr.domain.compare.label_starts.Given as goal
 
 abbrev pub invariant-loop-place : goal.invariant-loop-place
 invariant-loop-place l = record {

@@ -1,9 +1,9 @@
 use Rattle.std.proofs.Common.{rules, ◌⊎◌, ◌≡◌, ◌↔◌, ◌∙◌, ◌-◌, ap, sym, subst, arith, length, take, drop, List, ℕ, [], ◌∷◌, ◌++◌, true, false}
 use Rattle.std.specs.Bool.{IsTrue}
-use Rattle.hickory_wire.specs.NameText.{IsTextLabel, IsNameText}
-use Rattle.hickory_wire.proofs.NameSpelling.{dot_at, dot_within, first_dot, fits, Reads, ends_text, reads_on, empty_is, one_dot, more_at}
-use Rattle.hickory_wire.proofs.name_text.read_text.Goals as goal
-use Rattle.hickory_wire.proofs.name_text.read_text.Goals.{then-not-is_text_label-via-then-not-is_text_label, then-not-is_text_label-via-else-not-is_text_label+then-wire_len-label-ge-MAX_NAME_LEN}
+use Rattle.hickory_wire.specs.rr.domain.NameText.{IsTextLabel, IsNameText}
+use Rattle.hickory_wire.proofs.lemmas.rr.domain.NameSpelling.{dot_at, dot_within, first_dot, fits, Reads, ends_text, reads_on, empty_is, one_dot, more_at}
+use Rattle.hickory_wire.proofs.rr.domain.name_text.read_text.Goals as goal
+use Rattle.hickory_wire.proofs.rr.domain.name_text.read_text.Goals.{then-not-is_text_label-via-then-not-is_text_label, then-not-is_text_label-via-else-not-is_text_label+then-wire_len-label-ge-MAX_NAME_LEN}
 
 pub split_at-requires : goal.split_at-requires
 split_at-requires c = omega (arith, dot_within c.labels.rest.now, c.label_len.ensures)

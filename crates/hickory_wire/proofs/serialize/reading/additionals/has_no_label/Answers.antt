@@ -1,7 +1,7 @@
 use Rattle.std.proofs.Common.{◌≡◌, ◌==◌, ◌∙◌, ap, refl, sym, List, ℕ, [], ◌∷◌, ◌++◌, length}
 use Rattle.std.proofs.Math.Dec.{eqb-suc-zero}
-use Rattle.hickory_wire.specs.DomainName.{wire_form}
-use Rattle.hickory_wire.proofs.additionals.has_no_label.Goals as goal
+use Rattle.hickory_wire.specs.rr.domain.DomainName.{wire_form}
+use Rattle.hickory_wire.proofs.serialize.reading.additionals.has_no_label.Goals as goal
 
 -- a label has at least its length byte
 wire_form-empty : (labels : List (List ℕ)) → (length (wire_form labels) == 0) ≡ (length labels == 0)

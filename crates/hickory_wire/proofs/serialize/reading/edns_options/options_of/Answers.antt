@@ -1,8 +1,8 @@
 use Rattle.std.proofs.Common.{arith, refl, ◌≡◌, ◌∙◌, ap, ◌++◌, ◌∷◌, [], ◌<◌, length}
 use Rattle.std.proofs.lemmas.Bool.Decides.{nat_tests}
-use Rattle.hickory_wire.specs.declared.edns.EdnsOption.{EdnsOption}
-use Rattle.hickory_wire.proofs.OptionsRead.{front_option, options_end_early, options_go_on, options_still_fit, collected, malformed}
-use Rattle.hickory_wire.proofs.edns_options.options_of.Goals as goal
+use Rattle.hickory_wire.specs.declared.op.edns.EdnsOption.{EdnsOption}
+use Rattle.hickory_wire.proofs.lemmas.serialize.reading.OptionsRead.{front_option, options_end_early, options_go_on, options_still_fit, collected, malformed}
+use Rattle.hickory_wire.proofs.serialize.reading.edns_options.options_of.Goals as goal
 
 pub returns-in_default : goal.returns-in_default
 returns-in_default c =

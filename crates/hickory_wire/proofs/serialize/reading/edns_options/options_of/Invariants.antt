@@ -1,7 +1,7 @@
 use Rattle.std.proofs.Common.{◌≡◌, ◌+◌, ◌-◌, ◌≤◌, length}
-use Rattle.hickory_wire.specs.RecordReading.{options_within}
-use Rattle.hickory_wire.proofs.OptionsRead.{with_options}
-use Rattle.hickory_wire.proofs.edns_options.options_of.Given as goal
+use Rattle.hickory_wire.specs.serialize.reading.RecordReading.{options_within}
+use Rattle.hickory_wire.proofs.lemmas.serialize.reading.OptionsRead.{with_options}
+use Rattle.hickory_wire.proofs.serialize.reading.edns_options.options_of.Given as goal
 
 abbrev pub invariant-options : goal.invariant-options
 invariant-options l = record {

@@ -1,8 +1,8 @@
 use Rattle.std.proofs.Common.{inl, inr}
-use Rattle.hickory_wire.specs.MessageReading.{message, front_of}
-use Rattle.hickory_wire.proofs.FaultSteps.{one_way, not_both, goes_or_fails}
-use Rattle.hickory_wire.proofs.MessageFaultLaws.{message_err, err_message}
-use Rattle.hickory_wire.proofs.fault_laws.message_faults.Goals as goal
+use Rattle.hickory_wire.specs.serialize.reading.MessageReading.{message, front_of}
+use Rattle.hickory_wire.proofs.lemmas.serialize.reading.FaultSteps.{one_way, not_both, goes_or_fails}
+use Rattle.hickory_wire.proofs.lemmas.serialize.reading.MessageFaultLaws.{message_err, err_message}
+use Rattle.hickory_wire.proofs.serialize.reading.fault_laws.message_faults.Goals as goal
 
 pub returns-clause-met : goal.returns-clause-met
 returns-clause-met c = λ bytes e a. (λ f. err_message a f, λ h. message_err bytes a e h)

@@ -1,11 +1,11 @@
 use Rattle.std.proofs.Common.{inl, inr}
-use Rattle.hickory_wire.specs.RecordReading.{question}
-use Rattle.hickory_wire.proofs.ByteTexts.{here}
-use Rattle.hickory_wire.proofs.FaultSteps.{one_way, not_both, goes_or_fails}
-use Rattle.hickory_wire.proofs.RecordFaultLaws.{question_err, err_question}
-use Rattle.hickory_wire.proofs.SectionItems.{questions_find}
-use Rattle.hickory_wire.proofs.RecordsAgree.{question_read}
-use Rattle.hickory_wire.proofs.fault_laws.question_faults.Goals as goal
+use Rattle.hickory_wire.specs.serialize.reading.RecordReading.{question}
+use Rattle.hickory_wire.proofs.lemmas.serialize.layout.ByteTexts.{here}
+use Rattle.hickory_wire.proofs.lemmas.serialize.reading.FaultSteps.{one_way, not_both, goes_or_fails}
+use Rattle.hickory_wire.proofs.lemmas.serialize.reading.RecordFaultLaws.{question_err, err_question}
+use Rattle.hickory_wire.proofs.lemmas.serialize.reading.SectionItems.{questions_find}
+use Rattle.hickory_wire.proofs.lemmas.serialize.reading.RecordsAgree.{question_read}
+use Rattle.hickory_wire.proofs.serialize.reading.fault_laws.question_faults.Goals as goal
 
 pub returns-clause-met : goal.returns-clause-met
 returns-clause-met c = λ bytes place e. (λ f. err_question f, λ h. question_err bytes place e h)

@@ -1,10 +1,10 @@
 use Rattle.std.proofs.Common.{inl, inr}
-use Rattle.hickory_wire.specs.RecordReading.{resource}
-use Rattle.hickory_wire.proofs.ByteTexts.{here}
-use Rattle.hickory_wire.proofs.FaultSteps.{one_way, not_both, goes_or_fails}
-use Rattle.hickory_wire.proofs.RecordFaultLaws.{resource_err, err_resource}
-use Rattle.hickory_wire.proofs.SectionItems.{records_find, records_reach}
-use Rattle.hickory_wire.proofs.fault_laws.record_faults.Goals as goal
+use Rattle.hickory_wire.specs.serialize.reading.RecordReading.{resource}
+use Rattle.hickory_wire.proofs.lemmas.serialize.layout.ByteTexts.{here}
+use Rattle.hickory_wire.proofs.lemmas.serialize.reading.FaultSteps.{one_way, not_both, goes_or_fails}
+use Rattle.hickory_wire.proofs.lemmas.serialize.reading.RecordFaultLaws.{resource_err, err_resource}
+use Rattle.hickory_wire.proofs.lemmas.serialize.reading.SectionItems.{records_find, records_reach}
+use Rattle.hickory_wire.proofs.serialize.reading.fault_laws.record_faults.Goals as goal
 
 pub returns-clause-met : goal.returns-clause-met
 returns-clause-met c = λ bytes place e a. (λ f. err_resource f, λ h. resource_err bytes a place e h)

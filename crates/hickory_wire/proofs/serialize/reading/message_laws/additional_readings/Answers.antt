@@ -1,6 +1,6 @@
-use Rattle.hickory_wire.proofs.AdditionalItems.{section_read, section_here}
-use Rattle.hickory_wire.proofs.ByteTexts.{here}
-use Rattle.hickory_wire.proofs.message_laws.additional_readings.Goals as goal
+use Rattle.hickory_wire.proofs.lemmas.serialize.reading.AdditionalItems.{section_read, section_here}
+use Rattle.hickory_wire.proofs.lemmas.serialize.layout.ByteTexts.{here}
+use Rattle.hickory_wire.proofs.serialize.reading.message_laws.additional_readings.Goals as goal
 
 pub returns : goal.returns
 returns c = λ bytes place n x next a.

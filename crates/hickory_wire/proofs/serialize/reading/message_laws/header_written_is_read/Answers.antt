@@ -1,6 +1,6 @@
-use Rattle.hickory_wire.proofs.HeaderBits.{bits_kept}
-use Rattle.hickory_wire.proofs.HeaderLaws.{header_stands}
-use Rattle.hickory_wire.proofs.message_laws.header_written_is_read.Goals as goal
+use Rattle.hickory_wire.proofs.lemmas.serialize.layout.HeaderBits.{bits_kept}
+use Rattle.hickory_wire.proofs.lemmas.serialize.reading.HeaderLaws.{header_stands}
+use Rattle.hickory_wire.proofs.serialize.reading.message_laws.header_written_is_read.Goals as goal
 
 pub returns-clause-bits : goal.returns-clause-bits
 returns-clause-bits c = bits_kept

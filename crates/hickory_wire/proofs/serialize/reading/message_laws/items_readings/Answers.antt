@@ -1,9 +1,9 @@
-use Rattle.hickory_wire.specs.MessageLayout.{QuestionRead}
-use Rattle.hickory_wire.specs.RecordReading.{question}
-use Rattle.hickory_wire.specs.SectionReading.{section_record}
-use Rattle.hickory_wire.proofs.CountedItems.{items_both}
-use Rattle.hickory_wire.proofs.SectionItems.{PlainAt, questions_find, questions_reach, plain_find, plain_reach, plain_parts, plain_whole}
-use Rattle.hickory_wire.proofs.message_laws.items_readings.Goals as goal
+use Rattle.hickory_wire.specs.serialize.layout.MessageLayout.{QuestionRead}
+use Rattle.hickory_wire.specs.serialize.reading.RecordReading.{question}
+use Rattle.hickory_wire.specs.serialize.reading.SectionReading.{section_record}
+use Rattle.hickory_wire.proofs.lemmas.serialize.reading.CountedItems.{items_both}
+use Rattle.hickory_wire.proofs.lemmas.serialize.reading.SectionItems.{PlainAt, questions_find, questions_reach, plain_find, plain_reach, plain_parts, plain_whole}
+use Rattle.hickory_wire.proofs.serialize.reading.message_laws.items_readings.Goals as goal
 
 pub returns-clause-questions : goal.returns-clause-questions
 returns-clause-questions c = λ bytes place n queries next a. items_both bytes question (QuestionRead bytes) (questions_find bytes a) (questions_reach bytes a) n place queries next

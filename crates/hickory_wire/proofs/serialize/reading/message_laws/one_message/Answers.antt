@@ -1,10 +1,10 @@
 use Rattle.std.proofs.Common.{sym, ap, ◌∙◌}
-use Rattle.hickory_wire.specs.Cursor.{Cursor}
-use Rattle.hickory_wire.specs.declared.message.Message.{Message}
-use Rattle.hickory_wire.proofs.ByteTexts.{here}
-use Rattle.hickory_wire.proofs.StringSteps.{ok_is}
-use Rattle.hickory_wire.proofs.WholeMessage.{message_here}
-use Rattle.hickory_wire.proofs.message_laws.one_message.Goals as goal
+use Rattle.hickory_wire.specs.serialize.reading.Cursor.{Cursor}
+use Rattle.hickory_wire.specs.declared.op.message.Message.{Message}
+use Rattle.hickory_wire.proofs.lemmas.serialize.layout.ByteTexts.{here}
+use Rattle.hickory_wire.proofs.lemmas.serialize.reading.StringSteps.{ok_is}
+use Rattle.hickory_wire.proofs.lemmas.serialize.reading.WholeMessage.{message_here}
+use Rattle.hickory_wire.proofs.serialize.reading.message_laws.one_message.Goals as goal
 
 pub returns-clause-same : goal.returns-clause-same
 returns-clause-same c = λ bytes m n r s. ap (λ (z : Message × Cursor). z.0) (ok_is (m, r.stop) (n, s.stop) (sym r.reads ∙ s.reads))

@@ -1,9 +1,9 @@
 use Rattle.std.proofs.Common.{◌++◌}
-use Rattle.hickory_wire.proofs.ByteTexts.{here}
-use Rattle.hickory_wire.proofs.MessageTail.{message_keeps, both_bytes}
-use Rattle.hickory_wire.proofs.Stable.{KeepsFrom-append}
-use Rattle.hickory_wire.proofs.WholeMessage.{message_found, message_here}
-use Rattle.hickory_wire.proofs.message_laws.reads_ignores_tail.Goals as goal
+use Rattle.hickory_wire.proofs.lemmas.serialize.layout.ByteTexts.{here}
+use Rattle.hickory_wire.proofs.lemmas.serialize.layout.MessageTail.{message_keeps, both_bytes}
+use Rattle.hickory_wire.proofs.lemmas.serialize.layout.Stable.{KeepsFrom-append}
+use Rattle.hickory_wire.proofs.lemmas.serialize.reading.WholeMessage.{message_found, message_here}
+use Rattle.hickory_wire.proofs.serialize.reading.message_laws.reads_ignores_tail.Goals as goal
 
 pub returns : goal.returns
 returns c = λ bytes more m a b r.

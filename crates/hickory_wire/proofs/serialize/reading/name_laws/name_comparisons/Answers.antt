@@ -1,6 +1,6 @@
-use Rattle.hickory_wire.proofs.SameNames.{eq_from_same, eq_from_order, order_from_eq, same_order, lower_same, lower_exact}
-use Rattle.hickory_wire.specs.NameHash.{name_hash_alike, same_from_eq}
-use Rattle.hickory_wire.proofs.name_laws.name_comparisons.Goals as goal
+use Rattle.hickory_wire.proofs.lemmas.rr.domain.SameNames.{eq_from_same, eq_from_order, order_from_eq, same_order, lower_same, lower_exact}
+use Rattle.hickory_wire.specs.rr.domain.NameHash.{name_hash_alike, same_from_eq}
+use Rattle.hickory_wire.proofs.serialize.reading.name_laws.name_comparisons.Goals as goal
 
 pub returns-clause-equal : goal.returns-clause-equal
 returns-clause-equal c = λ a b. (same_from_eq a b, eq_from_same a b)

@@ -1,7 +1,7 @@
 use Rattle.std.proofs.Common.{refl}
-use Rattle.hickory_wire.proofs.NameLaws.{name_found, name_fault, found_name, fault_name}
-use Rattle.hickory_wire.proofs.Stable.{NameAt-keeps, LabelsAt-same}
-use Rattle.hickory_wire.proofs.name_laws.name_readings.Goals as goal
+use Rattle.hickory_wire.proofs.lemmas.serialize.reading.NameLaws.{name_found, name_fault, found_name, fault_name}
+use Rattle.hickory_wire.proofs.lemmas.serialize.layout.Stable.{NameAt-keeps, LabelsAt-same}
+use Rattle.hickory_wire.proofs.serialize.reading.name_laws.name_readings.Goals as goal
 
 pub returns-clause-at : goal.returns-clause-at
 returns-clause-at c = λ cursor n next. (λ h. found_name 0 cursor n next h.1 h.0, λ e. name_found cursor n (record cursor { place = next }) e)

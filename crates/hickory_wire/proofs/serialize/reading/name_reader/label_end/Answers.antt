@@ -1,6 +1,6 @@
 use Rattle.std.proofs.Common.{arith}
-use Rattle.hickory_wire.proofs.LabelSteps.{label_short, name_long}
-use Rattle.hickory_wire.proofs.name_reader.label_end.Goals as goal
+use Rattle.hickory_wire.proofs.lemmas.serialize.reading.LabelSteps.{label_short, name_long}
+use Rattle.hickory_wire.proofs.serialize.reading.name_reader.label_end.Goals as goal
 
 pub returns-then-bytes-end : goal.returns-then-bytes-end
 returns-then-bytes-end c = λ start. label_short start c.args.place c.args.size c.args.count c.requires.count c.requires.label.0 c.requires.label.1 (omega arith)

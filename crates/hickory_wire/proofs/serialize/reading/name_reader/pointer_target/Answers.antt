@@ -1,7 +1,7 @@
 use Rattle.std.proofs.Common.{◌≡◌, ◌+◌, Some, sym, arith}
 use Rattle.std.specs.Prelude.{slice_get}
-use Rattle.hickory_wire.proofs.LabelSteps.{pointer_short, leads_on}
-use Rattle.hickory_wire.proofs.name_reader.pointer_target.Goals as goal
+use Rattle.hickory_wire.proofs.lemmas.serialize.reading.LabelSteps.{pointer_short, leads_on}
+use Rattle.hickory_wire.proofs.serialize.reading.name_reader.pointer_target.Goals as goal
 
 pub returns-in_default : goal.returns-in_default
 returns-in_default c = λ size. pointer_short c.args.start c.args.place size c.args.high c.requires.high c.requires.pointer.0 (sym c.in_default.ensures.value)

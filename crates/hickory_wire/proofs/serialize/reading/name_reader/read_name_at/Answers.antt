@@ -1,13 +1,13 @@
 use Rattle.std.proofs.Common.{arith, ◌≡◌, ◌∙◌, sym, ap, add_assoc, ◌++◌, ◌∷◌, [], take, drop, ◌+◌, ◌<◌, length, Some, List, ℕ}
 use Rattle.std.specs.Prelude.{slice_get}
-use Rattle.hickory_wire.specs.NameReading.{target, label_at}
-use Rattle.hickory_wire.proofs.LabelSteps.{no_byte, unknown}
-use Rattle.hickory_wire.proofs.LabelLoop.{fails_here, fails_with, ends_here, label_here, pointer_here, within_either}
-use Rattle.hickory_wire.proofs.WireForm.{wire-push}
-use Rattle.hickory_wire.specs.DomainName.{wire_form, DomainName}
+use Rattle.hickory_wire.specs.serialize.reading.NameReading.{target, label_at}
+use Rattle.hickory_wire.proofs.lemmas.serialize.reading.LabelSteps.{no_byte, unknown}
+use Rattle.hickory_wire.proofs.lemmas.serialize.reading.LabelLoop.{fails_here, fails_with, ends_here, label_here, pointer_here, within_either}
+use Rattle.hickory_wire.proofs.lemmas.rr.domain.WireForm.{wire-push}
+use Rattle.hickory_wire.specs.rr.domain.DomainName.{wire_form, DomainName}
 use Rattle.std.proofs.lemmas.List.{length-take, length-drop}
 use Rattle.std.proofs.Common.{length-append}
-use Rattle.hickory_wire.proofs.name_reader.read_name_at.Goals as goal
+use Rattle.hickory_wire.proofs.serialize.reading.name_reader.read_name_at.Goals as goal
 
 pub returns-in_default-clause-gives : goal.returns-in_default-clause-gives
 returns-in_default-clause-gives c = λ _.

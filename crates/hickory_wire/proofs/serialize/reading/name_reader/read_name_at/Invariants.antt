@@ -1,9 +1,9 @@
 use Rattle.std.proofs.Common.{◌≡◌, ◌≤◌, length, ◌+◌, ◌-◌}
 use Rattle.std.specs.Prelude.{IfSome}
-use Rattle.hickory_wire.specs.NameReading.{labels_from}
-use Rattle.hickory_wire.specs.DomainName.{wire_form}
-use Rattle.hickory_wire.proofs.LabelLoop.{with_front}
-use Rattle.hickory_wire.proofs.name_reader.read_name_at.Given as goal
+use Rattle.hickory_wire.specs.serialize.reading.NameReading.{labels_from}
+use Rattle.hickory_wire.specs.rr.domain.DomainName.{wire_form}
+use Rattle.hickory_wire.proofs.lemmas.serialize.reading.LabelLoop.{with_front}
+use Rattle.hickory_wire.proofs.serialize.reading.name_reader.read_name_at.Given as goal
 
 abbrev pub invariant-labels : goal.invariant-labels
 invariant-labels l = record {

@@ -1,5 +1,5 @@
-use Rattle.hickory_wire.proofs.FormKeeps.{FormAt-keeps, QuestionAt-keeps}
-use Rattle.hickory_wire.proofs.record_laws.form_keeps.Goals as goal
+use Rattle.hickory_wire.proofs.lemmas.serialize.layout.FormKeeps.{FormAt-keeps, QuestionAt-keeps}
+use Rattle.hickory_wire.proofs.serialize.reading.record_laws.form_keeps.Goals as goal
 
 pub returns-clause-record : goal.returns-clause-record
 returns-clause-record c = λ old new floor lower place next r k le h. FormAt-keeps k le h

@@ -1,5 +1,5 @@
-use Rattle.hickory_wire.proofs.RecordsAgree.{one_record_read, one_record_formed, one_question}
-use Rattle.hickory_wire.proofs.record_laws.one_record.Goals as goal
+use Rattle.hickory_wire.proofs.lemmas.serialize.reading.RecordsAgree.{one_record_read, one_record_formed, one_question}
+use Rattle.hickory_wire.proofs.serialize.reading.record_laws.one_record.Goals as goal
 
 pub returns-clause-read : goal.returns-clause-read
 returns-clause-read c = one_record_read

@@ -1,5 +1,5 @@
-use Rattle.hickory_wire.proofs.FullForms.{question_octets-len, question_stands}
-use Rattle.hickory_wire.proofs.record_laws.question_forms.Goals as goal
+use Rattle.hickory_wire.proofs.lemmas.serialize.writing.FullForms.{question_octets-len, question_stands}
+use Rattle.hickory_wire.proofs.serialize.reading.record_laws.question_forms.Goals as goal
 
 pub returns-clause-size : goal.returns-clause-size
 returns-clause-size c = question_octets-len

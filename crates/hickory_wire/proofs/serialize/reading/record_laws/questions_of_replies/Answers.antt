@@ -1,5 +1,5 @@
-use Rattle.hickory_wire.proofs.QuestionsMoved.{question_repeated, questions_in_full}
-use Rattle.hickory_wire.proofs.record_laws.questions_of_replies.Goals as goal
+use Rattle.hickory_wire.proofs.lemmas.serialize.writing.QuestionsMoved.{question_repeated, questions_in_full}
+use Rattle.hickory_wire.proofs.serialize.reading.record_laws.questions_of_replies.Goals as goal
 
 pub returns-clause-repeated : goal.returns-clause-repeated
 returns-clause-repeated c = question_repeated

@@ -1,5 +1,5 @@
-use Rattle.hickory_wire.proofs.RecordsAgree.{question_read, question_found}
-use Rattle.hickory_wire.proofs.record_laws.read_is_question_at.Goals as goal
+use Rattle.hickory_wire.proofs.lemmas.serialize.reading.RecordsAgree.{question_read, question_found}
+use Rattle.hickory_wire.proofs.serialize.reading.record_laws.read_is_question_at.Goals as goal
 
 pub returns-clause-stands : goal.returns-clause-stands
 returns-clause-stands c = λ bytes floor place next q f at. question_read floor bytes place next q f at

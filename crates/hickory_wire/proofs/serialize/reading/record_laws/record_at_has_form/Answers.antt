@@ -1,5 +1,5 @@
-use Rattle.hickory_wire.proofs.RecordsAgree.{record_form, formed_record}
-use Rattle.hickory_wire.proofs.record_laws.record_at_has_form.Goals as goal
+use Rattle.hickory_wire.proofs.lemmas.serialize.reading.RecordsAgree.{record_form, formed_record}
+use Rattle.hickory_wire.proofs.serialize.reading.record_laws.record_at_has_form.Goals as goal
 
 pub returns-clause-form : goal.returns-clause-form
 returns-clause-form c = record_form

@@ -1,7 +1,7 @@
 use Rattle.std.proofs.Common.{◌≡◌, ℕ, ◌<◌, List, length, ap, arith}
-use Rattle.hickory_wire.specs.DomainName.{AreLabels, wire_form}
-use Rattle.hickory_wire.proofs.WireForm.{are_labels_of, wire_short, name_len-wire_form}
-use Rattle.hickory_wire.proofs.data_encoder.full_name_len.Goals as goal
+use Rattle.hickory_wire.specs.rr.domain.DomainName.{AreLabels, wire_form}
+use Rattle.hickory_wire.proofs.lemmas.rr.domain.WireForm.{are_labels_of, wire_short, name_len-wire_form}
+use Rattle.hickory_wire.proofs.serialize.writing.data_encoder.full_name_len.Goals as goal
 
 are : (wire : List ℕ) (labels : List (List ℕ)) → AreLabels labels → wire ≡ wire_form labels → length wire < 255
 are wire labels a e = omega (arith, wire_short labels a, ap length e)

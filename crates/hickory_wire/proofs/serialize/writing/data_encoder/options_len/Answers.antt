@@ -1,8 +1,8 @@
 use Rattle.std.proofs.Common.{arith}
 use Rattle.std.proofs.lemmas.Result.{err_from_is_err_and}
-use Rattle.hickory_wire.specs.RecordData.{option_octets}
-use Rattle.hickory_wire.proofs.OctetLengths.{flat_map-front, too_long}
-use Rattle.hickory_wire.proofs.data_encoder.options_len.Goals as goal
+use Rattle.hickory_wire.specs.rr.RecordData.{option_octets}
+use Rattle.hickory_wire.proofs.lemmas.serialize.writing.OctetLengths.{flat_map-front, too_long}
+use Rattle.hickory_wire.proofs.serialize.writing.data_encoder.options_len.Goals as goal
 
 pub returns-in_err-len : goal.returns-in_err-len
 returns-in_err-len c =

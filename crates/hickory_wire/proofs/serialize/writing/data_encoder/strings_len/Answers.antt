@@ -3,9 +3,9 @@ use Rattle.std.specs.Prelude.{nat_lt}
 use Rattle.std.specs.List.{flat_map, list_any}
 use Rattle.std.proofs.lemmas.List.{take_all}
 use Rattle.std.proofs.lemmas.Result.{err_from_is_err_and}
-use Rattle.hickory_wire.specs.RecordData.{character_string}
-use Rattle.hickory_wire.proofs.OctetLengths.{flat_map-front, too_long, fits}
-use Rattle.hickory_wire.proofs.data_encoder.strings_len.Goals as goal
+use Rattle.hickory_wire.specs.rr.RecordData.{character_string}
+use Rattle.hickory_wire.proofs.lemmas.serialize.writing.OctetLengths.{flat_map-front, too_long, fits}
+use Rattle.hickory_wire.proofs.serialize.writing.data_encoder.strings_len.Goals as goal
 
 pub returns-in_err-len : goal.returns-in_err-len
 returns-in_err-len c =

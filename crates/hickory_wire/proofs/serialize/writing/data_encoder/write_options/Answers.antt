@@ -1,7 +1,7 @@
 use Rattle.std.proofs.Common.{arith}
-use Rattle.hickory_wire.specs.RecordData.{option_octets}
-use Rattle.hickory_wire.proofs.OctetLengths.{flat_map-front, fitted}
-use Rattle.hickory_wire.proofs.data_encoder.write_options.Goals as goal
+use Rattle.hickory_wire.specs.rr.RecordData.{option_octets}
+use Rattle.hickory_wire.proofs.lemmas.serialize.writing.OctetLengths.{flat_map-front, fitted}
+use Rattle.hickory_wire.proofs.serialize.writing.data_encoder.write_options.Goals as goal
 
 pub write_counted-requires : goal.write_counted-requires
 write_counted-requires c =

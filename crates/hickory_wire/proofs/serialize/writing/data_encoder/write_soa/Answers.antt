@@ -1,7 +1,7 @@
 use Rattle.std.proofs.Common.{◌≡◌, ◌∙◌, ◌++◌, List, ℕ, ap}
 use Rattle.std.proofs.lemmas.List.{append_assoc}
 use Rattle.std.proofs.lemmas.Result.{on_ok_weaker}
-use Rattle.hickory_wire.proofs.data_encoder.write_soa.Goals as goal
+use Rattle.hickory_wire.proofs.serialize.writing.data_encoder.write_soa.Goals as goal
 
 -- seven parts that were put one behind the other
 seven : (o x1 x2 x3 x4 x5 x6 x7 a b c d e f g : List ℕ) → x1 ≡ o ++ a → x2 ≡ x1 ++ b → x3 ≡ x2 ++ c → x4 ≡ x3 ++ d → x5 ≡ x4 ++ e → x6 ≡ x5 ++ f → x7 ≡ x6 ++ g → x7 ≡ o ++ (a ++ b ++ (c ++ d ++ e ++ f ++ g))

@@ -1,5 +1,5 @@
-use Rattle.hickory_wire.proofs.WrittenMessage.{message_stands, written_reads}
-use Rattle.hickory_wire.proofs.encoder_laws.what_is_written_is_read.Goals as goal
+use Rattle.hickory_wire.proofs.lemmas.serialize.writing.WrittenMessage.{message_stands, written_reads}
+use Rattle.hickory_wire.proofs.serialize.writing.encoder_laws.what_is_written_is_read.Goals as goal
 
 pub returns-clause-stands : goal.returns-clause-stands
 returns-clause-stands c = λ limit reply bytes fronts queries low w d. message_stands limit reply bytes fronts queries low w d

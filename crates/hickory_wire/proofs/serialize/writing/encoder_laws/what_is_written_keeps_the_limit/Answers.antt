@@ -1,5 +1,5 @@
-use Rattle.hickory_wire.proofs.WrittenSizes.{written_within, encoded_within}
-use Rattle.hickory_wire.proofs.encoder_laws.what_is_written_keeps_the_limit.Goals as goal
+use Rattle.hickory_wire.proofs.lemmas.serialize.writing.WrittenSizes.{written_within, encoded_within}
+use Rattle.hickory_wire.proofs.serialize.writing.encoder_laws.what_is_written_keeps_the_limit.Goals as goal
 
 pub returns-clause-written : goal.returns-clause-written
 returns-clause-written c = written_within

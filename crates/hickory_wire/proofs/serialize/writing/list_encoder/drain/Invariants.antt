@@ -1,4 +1,4 @@
-use Rattle.hickory_wire.proofs.list_encoder.drain.Given as goal
+use Rattle.hickory_wire.proofs.serialize.writing.list_encoder.drain.Given as goal
 
 abbrev pub invariant-loop-record : goal.invariant-loop-record
 invariant-loop-record g l = record {

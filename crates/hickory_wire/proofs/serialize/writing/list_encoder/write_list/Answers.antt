@@ -1,6 +1,6 @@
 use Rattle.std.proofs.Common.{◌≡◌, None, rules}
-use Rattle.hickory_wire.proofs.RecordLists.{fault_is, follows_run, follows_stuck}
-use Rattle.hickory_wire.proofs.list_encoder.write_list.Goals as goal
+use Rattle.hickory_wire.proofs.lemmas.serialize.writing.RecordLists.{fault_is, follows_run, follows_stuck}
+use Rattle.hickory_wire.proofs.serialize.writing.list_encoder.write_list.Goals as goal
 
 pub returns-then-is_some-clause-written : goal.returns-then-is_some-clause-written
 returns-then-is_some-clause-written g c =

@@ -1,7 +1,7 @@
 use Rattle.std.proofs.Common.{◌≡◌, None, rules}
-use Rattle.hickory_wire.specs.MessageLayout.{tsig_record}
-use Rattle.hickory_wire.proofs.RecordLists.{fault_is, follows_none, follows_one, follows_stuck}
-use Rattle.hickory_wire.proofs.list_encoder.write_optional_signature.Goals as goal
+use Rattle.hickory_wire.specs.serialize.layout.MessageLayout.{tsig_record}
+use Rattle.hickory_wire.proofs.lemmas.serialize.writing.RecordLists.{fault_is, follows_none, follows_one, follows_stuck}
+use Rattle.hickory_wire.proofs.serialize.writing.list_encoder.write_optional_signature.Goals as goal
 
 pub returns-then-is_some-clause-written : goal.returns-then-is_some-clause-written
 returns-then-is_some-clause-written c =

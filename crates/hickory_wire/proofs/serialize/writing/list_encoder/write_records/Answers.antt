@@ -1,7 +1,7 @@
 use Rattle.std.proofs.Common.{arith, rules}
-use Rattle.hickory_wire.specs.Writing.{Puts}
-use Rattle.hickory_wire.proofs.RecordLists.{nows, nows-more, list_put, list_skips, Puts-longer}
-use Rattle.hickory_wire.proofs.list_encoder.write_records.Goals as goal
+use Rattle.hickory_wire.specs.serialize.writing.Writing.{Puts}
+use Rattle.hickory_wire.proofs.lemmas.serialize.writing.RecordLists.{nows, nows-more, list_put, list_skips, Puts-longer}
+use Rattle.hickory_wire.proofs.serialize.writing.list_encoder.write_records.Goals as goal
 
 pub loop-record-preserved-in-Whole-2 : goal.loop-record-preserved-in-Whole-2
 loop-record-preserved-in-Whole-2 g c =

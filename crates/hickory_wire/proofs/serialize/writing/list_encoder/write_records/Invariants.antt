@@ -1,8 +1,8 @@
 use Rattle.std.proofs.Common.{◌+◌, ◌≤◌, length}
-use Rattle.hickory_wire.specs.Endings.{seen_ending}
-use Rattle.hickory_wire.specs.Writing.{ListWritten}
-use Rattle.hickory_wire.proofs.RecordLists.{nows}
-use Rattle.hickory_wire.proofs.list_encoder.write_records.Given as goal
+use Rattle.hickory_wire.specs.serialize.writing.Endings.{seen_ending}
+use Rattle.hickory_wire.specs.serialize.writing.Writing.{ListWritten}
+use Rattle.hickory_wire.proofs.lemmas.serialize.writing.RecordLists.{nows}
+use Rattle.hickory_wire.proofs.serialize.writing.list_encoder.write_records.Given as goal
 
 abbrev pub invariant-loop-record : goal.invariant-loop-record
 invariant-loop-record g l = record {

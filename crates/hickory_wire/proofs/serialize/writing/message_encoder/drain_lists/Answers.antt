@@ -1,4 +1,4 @@
-use Rattle.hickory_wire.proofs.message_encoder.drain_lists.Goals as goal
+use Rattle.hickory_wire.proofs.serialize.writing.message_encoder.drain_lists.Goals as goal
 
 pub returns : goal.returns
 returns g c =

@@ -1,10 +1,10 @@
 use Rattle.std.proofs.Common.{◌≡◌, ◌++◌, List, subst, rules}
 use Rattle.std.specs.Iterator.Adapters.{chain_second}
-use Rattle.hickory_wire.specs.Endings.{GivesRecords, ListFollows}
-use Rattle.hickory_wire.specs.declared.rdata.RData.{RData}
-use Rattle.hickory_wire.specs.declared.record.Record.{Record}
-use Rattle.hickory_wire.proofs.FiveLists.{five_lists, chain_gives}
-use Rattle.hickory_wire.proofs.message_encoder.write_lists.Goals as goal
+use Rattle.hickory_wire.specs.serialize.writing.Endings.{GivesRecords, ListFollows}
+use Rattle.hickory_wire.specs.declared.rr.rdata.RData.{RData}
+use Rattle.hickory_wire.specs.declared.rr.record.Record.{Record}
+use Rattle.hickory_wire.proofs.lemmas.serialize.writing.FiveLists.{five_lists, chain_gives}
+use Rattle.hickory_wire.proofs.serialize.writing.message_encoder.write_lists.Goals as goal
 
 pub returns-clause-written : goal.returns-clause-written
 returns-clause-written g c =

@@ -1,18 +1,18 @@
 use Rattle.std.proofs.Common.{◌≡◌, ◌≢◌, ◌∙◌, ◌+◌, ◌<◌, ◌≤◌, ◌^◌, ◌++◌, inl, inr, List, length, drop, replicate, None, ap, sym, arith, rules}
-use Rattle.hickory_wire.specs.Bytes.{AreBytes}
-use Rattle.hickory_wire.specs.HeaderLayout.{header_octets}
-use Rattle.hickory_wire.specs.Decoding.{IsDecodable, decoded_message}
-use Rattle.hickory_wire.specs.MessageReading.{Reads}
-use Rattle.hickory_wire.specs.ReplyParts.{reply_of, fronts_of}
-use Rattle.hickory_wire.specs.ReplyParts.Refused.{too_large, formless}
-use Rattle.hickory_wire.specs.Writing.{Written}
+use Rattle.hickory_wire.specs.serialize.layout.Bytes.{AreBytes}
+use Rattle.hickory_wire.specs.serialize.layout.HeaderLayout.{header_octets}
+use Rattle.hickory_wire.specs.serialize.writing.Decoding.{IsDecodable, decoded_message}
+use Rattle.hickory_wire.specs.serialize.reading.MessageReading.{Reads}
+use Rattle.hickory_wire.specs.serialize.writing.ReplyParts.{reply_of, fronts_of}
+use Rattle.hickory_wire.specs.serialize.writing.ReplyParts.Refused.{too_large, formless}
+use Rattle.hickory_wire.specs.serialize.writing.Writing.{Written}
 use Rattle.hickory_wire.specs.declared.error.ProtoError.TheVariants.{MaxSizeExceeded, CharacterDataTooLong, DataTooLong}
-use Rattle.hickory_wire.specs.declared.query.Query.{Query}
-use Rattle.hickory_wire.proofs.WritingFaults.{stuck_kinds}
-use Rattle.hickory_wire.proofs.RepliesEncoded.{are_bytes}
-use Rattle.hickory_wire.proofs.WrittenMessage.{message_stands, written_reads}
-use Rattle.hickory_wire.proofs.message_encoder.write_reply.Goals as goal
-use Rattle.hickory_wire.proofs.message_encoder.write_reply.Goals.{In_ok-sections}
+use Rattle.hickory_wire.specs.declared.op.query.Query.{Query}
+use Rattle.hickory_wire.proofs.lemmas.serialize.writing.WritingFaults.{stuck_kinds}
+use Rattle.hickory_wire.proofs.lemmas.serialize.writing.RepliesEncoded.{are_bytes}
+use Rattle.hickory_wire.proofs.lemmas.serialize.writing.WrittenMessage.{message_stands, written_reads}
+use Rattle.hickory_wire.proofs.serialize.writing.message_encoder.write_reply.Goals as goal
+use Rattle.hickory_wire.proofs.serialize.writing.message_encoder.write_reply.Goals.{In_ok-sections}
 
 pub returns-then-not-question_fits-clause-refused : goal.returns-then-not-question_fits-clause-refused
 returns-then-not-question_fits-clause-refused g c =

@@ -1,9 +1,9 @@
 use Rattle.std.proofs.Common.{◌≡◌, ◌+◌, ◌≤◌, ◌++◌, [], length, rules}
-use Rattle.hickory_wire.specs.FullForm.{name_octets}
-use Rattle.hickory_wire.specs.Reply.{opt_record}
-use Rattle.hickory_wire.proofs.WireForm.{no_labels}
-use Rattle.hickory_wire.proofs.FullForms.{put_parts}
-use Rattle.hickory_wire.proofs.record_encoder.write_edns.Goals as goal
+use Rattle.hickory_wire.specs.serialize.writing.FullForm.{name_octets}
+use Rattle.hickory_wire.specs.serialize.writing.Reply.{opt_record}
+use Rattle.hickory_wire.proofs.lemmas.rr.domain.WireForm.{no_labels}
+use Rattle.hickory_wire.proofs.lemmas.serialize.writing.FullForms.{put_parts}
+use Rattle.hickory_wire.proofs.serialize.writing.record_encoder.write_edns.Goals as goal
 
 pub returns : goal.returns
 returns c =

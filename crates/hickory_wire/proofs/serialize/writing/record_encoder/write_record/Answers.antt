@@ -1,7 +1,7 @@
 use Rattle.std.proofs.Common.{◌+◌, ◌≤◌, length, rules}
-use Rattle.hickory_wire.specs.DomainName.{name_len}
-use Rattle.hickory_wire.proofs.FullForms.{put_parts}
-use Rattle.hickory_wire.proofs.record_encoder.write_record.Goals as goal
+use Rattle.hickory_wire.specs.rr.domain.DomainName.{name_len}
+use Rattle.hickory_wire.proofs.lemmas.serialize.writing.FullForms.{put_parts}
+use Rattle.hickory_wire.proofs.serialize.writing.record_encoder.write_record.Goals as goal
 
 pub returns : goal.returns
 returns c =

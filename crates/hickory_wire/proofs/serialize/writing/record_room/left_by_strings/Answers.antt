@@ -1,7 +1,7 @@
 use Rattle.std.proofs.Common.{arith}
-use Rattle.hickory_wire.specs.RecordData.{character_string}
-use Rattle.hickory_wire.proofs.OctetLengths.{flat_map-front}
-use Rattle.hickory_wire.proofs.record_room.left_by_strings.Goals as goal
+use Rattle.hickory_wire.specs.rr.RecordData.{character_string}
+use Rattle.hickory_wire.proofs.lemmas.serialize.writing.OctetLengths.{flat_map-front}
+use Rattle.hickory_wire.proofs.serialize.writing.record_room.left_by_strings.Goals as goal
 
 pub returns-in_default : goal.returns-in_default
 returns-in_default c =

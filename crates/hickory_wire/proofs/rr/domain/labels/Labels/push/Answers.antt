@@ -1,7 +1,7 @@
 use Rattle.std.proofs.Common.{◌≡◌, ◌+◌, ◌-◌, ◌<◌, ◌∙◌, ℕ, List, [], ◌∷◌, ◌++◌, ap, arith, length, take, rules}
-use Rattle.hickory_wire.specs.DomainName.{wire_form, cut}
-use Rattle.hickory_wire.proofs.WireForm.{pushed, wire-size, are-push, is_wire_of, cut_of}
-use Rattle.hickory_wire.proofs.labels.Labels.push.Goals as goal
+use Rattle.hickory_wire.specs.rr.domain.DomainName.{wire_form, cut}
+use Rattle.hickory_wire.proofs.lemmas.rr.domain.WireForm.{pushed, wire-size, are-push, is_wire_of, cut_of}
+use Rattle.hickory_wire.proofs.rr.domain.labels.Labels.push.Goals as goal
 
 pub invariant_of-self : goal.invariant_of-self
 invariant_of-self c =

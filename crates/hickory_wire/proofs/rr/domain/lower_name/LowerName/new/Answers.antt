@@ -1,8 +1,8 @@
 use Rattle.std.proofs.Common.{◌≡◌, ◌∙◌, ap, sym}
-use Rattle.hickory_wire.specs.DomainName.{DomainName}
-use Rattle.hickory_wire.specs.NameOrder.{lower_labels}
-use Rattle.hickory_wire.proofs.SameNames.{lower_labels-twice}
-use Rattle.hickory_wire.proofs.lower_name.LowerName.new.Goals as goal
+use Rattle.hickory_wire.specs.rr.domain.DomainName.{DomainName}
+use Rattle.hickory_wire.specs.rr.domain.NameOrder.{lower_labels}
+use Rattle.hickory_wire.proofs.lemmas.rr.domain.SameNames.{lower_labels-twice}
+use Rattle.hickory_wire.proofs.rr.domain.lower_name.LowerName.new.Goals as goal
 
 pub invariant_of-result : goal.invariant_of-result
 invariant_of-result c =

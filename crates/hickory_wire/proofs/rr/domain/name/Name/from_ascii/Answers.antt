@@ -2,9 +2,9 @@ use Rattle.std.proofs.Common.{◌≡◌, refl, Result, Ok, Err}
 use Rattle.std.specs.Result.{IsErrAnd}
 use Rattle.hickory_wire.specs.declared.error.NameError.{NameError}
 use Rattle.hickory_wire.specs.declared.error.NameError.TheVariants.{Text, Memory}
-use Rattle.hickory_wire.specs.DomainName.{DomainName}
-use Rattle.hickory_wire.specs.NameText.{IsNameText}
-use Rattle.hickory_wire.proofs.name.Name.from_ascii.Goals as goal
+use Rattle.hickory_wire.specs.rr.domain.DomainName.{DomainName}
+use Rattle.hickory_wire.specs.rr.domain.NameText.{IsNameText}
+use Rattle.hickory_wire.proofs.rr.domain.name.Name.from_ascii.Goals as goal
 
 memory_is_not_text : {T : Type 0} (r : Result T NameError) → IsErrAnd r (λ e. e ≡ Memory) → r ≡ Err Text → ⊥
 memory_is_not_text (Ok x) h e = cc

@@ -1,7 +1,7 @@
 use Rattle.std.proofs.Common.{◌≡◌, ◌<◌, ◌∙◌, ℕ, List, ap, arith, get_or, length, []}
-use Rattle.hickory_wire.specs.DomainName.{wire_form, label_offset}
-use Rattle.hickory_wire.proofs.WireForm.{Step, step, below_at}
-use Rattle.hickory_wire.proofs.name.Name.label_count.Goals as goal
+use Rattle.hickory_wire.specs.rr.domain.DomainName.{wire_form, label_offset}
+use Rattle.hickory_wire.proofs.lemmas.rr.domain.WireForm.{Step, step, below_at}
+use Rattle.hickory_wire.proofs.rr.domain.name.Name.label_count.Goals as goal
 
 pub loop-place-preserved : goal.loop-place-preserved
 loop-place-preserved c =

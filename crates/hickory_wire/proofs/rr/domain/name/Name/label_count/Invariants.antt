@@ -1,6 +1,6 @@
 use Rattle.std.proofs.Common.{◌≡◌, ◌≤◌, ◌-◌, length}
-use Rattle.hickory_wire.specs.DomainName.{label_offset}
-use Rattle.hickory_wire.proofs.name.Name.label_count.Given as goal
+use Rattle.hickory_wire.specs.rr.domain.DomainName.{label_offset}
+use Rattle.hickory_wire.proofs.rr.domain.name.Name.label_count.Given as goal
 
 abbrev pub invariant-loop-place : goal.invariant-loop-place
 invariant-loop-place l = record {

@@ -1,8 +1,8 @@
 use Rattle.std.proofs.Common.{◌≡◌, ◌+◌, ◌<◌, ◌∙◌, ℕ, List, length, get_or, drop, ap, rules}
-use Rattle.hickory_wire.specs.DomainName.{DomainName}
-use Rattle.hickory_wire.specs.NameBytes.{wire_bytes}
-use Rattle.hickory_wire.proofs.FirstLabel.{rest_wire, rest_labels}
-use Rattle.hickory_wire.proofs.name.Name.remove_first_label.Goals as goal
+use Rattle.hickory_wire.specs.rr.domain.DomainName.{DomainName}
+use Rattle.hickory_wire.specs.rr.domain.NameBytes.{wire_bytes}
+use Rattle.hickory_wire.proofs.lemmas.rr.domain.FirstLabel.{rest_wire, rest_labels}
+use Rattle.hickory_wire.proofs.rr.domain.name.Name.remove_first_label.Goals as goal
 
 pub invariant_of-self : goal.invariant_of-self
 invariant_of-self c =

@@ -1,7 +1,7 @@
 use Rattle.std.proofs.Common.{[], List, ℕ, ap, sym, subst, ◌∙◌, true}
-use Rattle.hickory_wire.specs.DomainName.{DomainName, IsWire, cut}
-use Rattle.hickory_wire.proofs.WireForm.{is_wire, cut-wire, no_labels}
-use Rattle.hickory_wire.proofs.name.Name.root.Goals as goal
+use Rattle.hickory_wire.specs.rr.domain.DomainName.{DomainName, IsWire, cut}
+use Rattle.hickory_wire.proofs.lemmas.rr.domain.WireForm.{is_wire, cut-wire, no_labels}
+use Rattle.hickory_wire.proofs.rr.domain.name.Name.root.Goals as goal
 
 pub invariant_of-result : goal.invariant_of-result
 invariant_of-result c = subst IsWire (sym c.new.ensures) (is_wire [] no_labels)

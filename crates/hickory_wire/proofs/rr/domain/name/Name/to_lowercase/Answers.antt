@@ -1,8 +1,8 @@
 use Rattle.std.proofs.Common.{◌∙◌, ap, List, ℕ}
-use Rattle.hickory_wire.specs.DomainName.{DomainName}
-use Rattle.hickory_wire.specs.NameOrder.{lower_name}
-use Rattle.hickory_wire.proofs.Ends.{lowered_wire}
-use Rattle.hickory_wire.proofs.name.Name.to_lowercase.Goals as goal
+use Rattle.hickory_wire.specs.rr.domain.DomainName.{DomainName}
+use Rattle.hickory_wire.specs.rr.domain.NameOrder.{lower_name}
+use Rattle.hickory_wire.proofs.lemmas.rr.domain.Ends.{lowered_wire}
+use Rattle.hickory_wire.proofs.rr.domain.name.Name.to_lowercase.Goals as goal
 
 pub invariant_of-result : goal.invariant_of-result
 invariant_of-result c = (lowered_wire _ _ c.self.invariant c.in_ok-lowered.ensures).0

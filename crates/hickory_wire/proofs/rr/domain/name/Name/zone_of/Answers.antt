@@ -3,10 +3,10 @@ use Rattle.std.specs.Str.{bytes_eq}
 use Rattle.std.specs.Char.{to_ascii_lowercase}
 use Rattle.std.proofs.lemmas.List.Elements.{recursion_from_All}
 use Rattle.std.proofs.lemmas.List.{take_rest}
-use Rattle.hickory_wire.specs.DomainName.{DomainName, wire_form, AreLabels, IsLabel}
-use Rattle.hickory_wire.proofs.Ends.{Left, Next, goes_on, ends_here, ends-decides}
-use Rattle.hickory_wire.proofs.SameNames.{decided}
-use Rattle.hickory_wire.proofs.name.Name.zone_of.Goals as goal
+use Rattle.hickory_wire.specs.rr.domain.DomainName.{DomainName, wire_form, AreLabels, IsLabel}
+use Rattle.hickory_wire.proofs.lemmas.rr.domain.Ends.{Left, Next, goes_on, ends_here, ends-decides}
+use Rattle.hickory_wire.proofs.lemmas.rr.domain.SameNames.{decided}
+use Rattle.hickory_wire.proofs.rr.domain.name.Name.zone_of.Goals as goal
 
 pub loop-place-preserved : goal.loop-place-preserved
 loop-place-preserved c =

@@ -1,6 +1,6 @@
 use Rattle.std.proofs.Common.{◌≤◌, ◌-◌, length}
-use Rattle.hickory_wire.proofs.Ends.{Left}
-use Rattle.hickory_wire.proofs.name.Name.zone_of.Given as goal
+use Rattle.hickory_wire.proofs.lemmas.rr.domain.Ends.{Left}
+use Rattle.hickory_wire.proofs.rr.domain.name.Name.zone_of.Given as goal
 
 abbrev pub invariant-loop-place : goal.invariant-loop-place
 invariant-loop-place l = record {

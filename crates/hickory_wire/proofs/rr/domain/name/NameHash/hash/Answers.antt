@@ -1,11 +1,11 @@
 use Rattle.std.proofs.Common.{◌≡◌, ◌∙◌, ap, arith, length, map, List, ℕ, Bool, cond, [], ◌∷◌}
 use Rattle.std.proofs.lemmas.List.{length-take}
 use Rattle.std.specs.Char.{to_ascii_lowercase}
-use Rattle.hickory_wire.specs.DomainName.{DomainName, wire_form}
-use Rattle.hickory_wire.specs.NameOrder.{lower_labels}
-use Rattle.hickory_wire.proofs.WireForm.{wire_short, are_labels_of}
-use Rattle.hickory_wire.proofs.SameNames.{lower-wire}
-use Rattle.hickory_wire.proofs.name.NameHash.hash.Goals as goal
+use Rattle.hickory_wire.specs.rr.domain.DomainName.{DomainName, wire_form}
+use Rattle.hickory_wire.specs.rr.domain.NameOrder.{lower_labels}
+use Rattle.hickory_wire.proofs.lemmas.rr.domain.WireForm.{wire_short, are_labels_of}
+use Rattle.hickory_wire.proofs.lemmas.rr.domain.SameNames.{lower-wire}
+use Rattle.hickory_wire.proofs.rr.domain.name.NameHash.hash.Goals as goal
 
 pub slice_bounds-buffer-end : goal.slice_bounds-buffer-end
 slice_bounds-buffer-end g c =

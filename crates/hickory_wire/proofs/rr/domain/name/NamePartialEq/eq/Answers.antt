@@ -1,9 +1,9 @@
 use Rattle.std.proofs.Common.{◌≡◌, ◌∙◌, ap, sym, subst, rules, map, List, ℕ}
 use Rattle.std.specs.Str.{bytes_eq}
 use Rattle.std.specs.Char.{to_ascii_lowercase}
-use Rattle.hickory_wire.specs.DomainName.{DomainName, wire_form, AreLabels}
-use Rattle.hickory_wire.proofs.SameNames.{name_eq_flat, decided}
-use Rattle.hickory_wire.proofs.name.NamePartialEq.eq.Goals as goal
+use Rattle.hickory_wire.specs.rr.domain.DomainName.{DomainName, wire_form, AreLabels}
+use Rattle.hickory_wire.proofs.lemmas.rr.domain.SameNames.{name_eq_flat, decided}
+use Rattle.hickory_wire.proofs.rr.domain.name.NamePartialEq.eq.Goals as goal
 
 pub returns-then-self-other : goal.returns-then-self-other
 returns-then-self-other c =

@@ -1,11 +1,11 @@
 use Rattle.std.proofs.Common.{◌≡◌, ◌<◌, ◌≤◌, ◌∙◌, ◌+◌, ◌-◌, ◌++◌, ℕ, false, refl, List, ap, arith, get_or, length, [], take, drop, sym, rules}
 use Rattle.std.proofs.Output.{has_written_append, has_written_of_eq}
-use Rattle.hickory_wire.specs.DomainName.{wire_form, label_offset}
-use Rattle.hickory_wire.specs.TextForm.{labels_text, bytes_text, spelled_name}
-use Rattle.hickory_wire.proofs.WireForm.{Step, step}
-use Rattle.hickory_wire.proofs.TextForm.{labels_text-more, piece, first_piece, later_piece, labels_text-whole}
-use Rattle.hickory_wire.proofs.name_display.NameDisplay.fmt.Goals.{then-count-eq0, else-count-eq0, then-is_fqdn-2, else-is_fqdn-2}
-use Rattle.hickory_wire.proofs.name_display.NameDisplay.fmt.Goals as goal
+use Rattle.hickory_wire.specs.rr.domain.DomainName.{wire_form, label_offset}
+use Rattle.hickory_wire.specs.text.TextForm.{labels_text, bytes_text, spelled_name}
+use Rattle.hickory_wire.proofs.lemmas.rr.domain.WireForm.{Step, step}
+use Rattle.hickory_wire.proofs.lemmas.rr.domain.TextForm.{labels_text-more, piece, first_piece, later_piece, labels_text-whole}
+use Rattle.hickory_wire.proofs.rr.domain.name_display.NameDisplay.fmt.Goals.{then-count-eq0, else-count-eq0, then-is_fqdn-2, else-is_fqdn-2}
+use Rattle.hickory_wire.proofs.rr.domain.name_display.NameDisplay.fmt.Goals as goal
 
 -- the label at the place, and where it ends
 module _ (ls : List (List ℕ)) (i place len : ℕ) (wire : List ℕ) where

@@ -1,8 +1,8 @@
 use Rattle.std.proofs.Common.{◌≡◌, ◌≤◌, ◌-◌, length, take}
 use Rattle.std.specs.Fmt.{HasWritten, IsPlainFormatter}
-use Rattle.hickory_wire.specs.DomainName.{label_offset}
-use Rattle.hickory_wire.specs.TextForm.{labels_text}
-use Rattle.hickory_wire.proofs.name_display.NameDisplay.fmt.Given as goal
+use Rattle.hickory_wire.specs.rr.domain.DomainName.{label_offset}
+use Rattle.hickory_wire.specs.text.TextForm.{labels_text}
+use Rattle.hickory_wire.proofs.rr.domain.name_display.NameDisplay.fmt.Given as goal
 
 abbrev pub invariant-loop-place : goal.invariant-loop-place
 invariant-loop-place g l = record {

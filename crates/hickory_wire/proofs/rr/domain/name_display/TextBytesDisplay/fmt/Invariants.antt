@@ -1,7 +1,7 @@
 use Rattle.std.proofs.Common.{take}
 use Rattle.std.specs.Fmt.{HasWritten, IsPlainFormatter}
-use Rattle.hickory_wire.specs.TextForm.{bytes_text}
-use Rattle.hickory_wire.proofs.name_display.TextBytesDisplay.fmt.Given as goal
+use Rattle.hickory_wire.specs.text.TextForm.{bytes_text}
+use Rattle.hickory_wire.proofs.rr.domain.name_display.TextBytesDisplay.fmt.Given as goal
 
 abbrev pub invariant-loop-byte : goal.invariant-loop-byte
 invariant-loop-byte g l =

@@ -1,7 +1,7 @@
 use Rattle.std.proofs.Common.{◌∙◌, ap, map, take, ℕ}
 use Rattle.std.proofs.lemmas.List.{take-map}
 use Rattle.std.specs.Char.{to_ascii_lowercase}
-use Rattle.hickory_wire.proofs.wire.ShortBytes.lowered.Goals as goal
+use Rattle.hickory_wire.proofs.rr.domain.wire.ShortBytes.lowered.Goals as goal
 
 pub returns : goal.returns
 returns c =

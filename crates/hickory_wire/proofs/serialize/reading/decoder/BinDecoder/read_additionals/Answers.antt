@@ -1,7 +1,7 @@
 use Rattle.std.proofs.Common.{◌∙◌}
 use Rattle.std.proofs.lemmas.Result.{err_from_is_err_and}
-use Rattle.hickory_wire.proofs.ItemsRead.{additionals_go_on, additionals_fail, additional_is_refused, additionals_done}
-use Rattle.hickory_wire.proofs.decoder.BinDecoder.read_additionals.Goals as goal
+use Rattle.hickory_wire.proofs.lemmas.serialize.reading.ItemsRead.{additionals_go_on, additionals_fail, additional_is_refused, additionals_done}
+use Rattle.hickory_wire.proofs.serialize.reading.decoder.BinDecoder.read_additionals.Goals as goal
 
 pub returns-in_err-next : goal.returns-in_err-next
 returns-in_err-next c =

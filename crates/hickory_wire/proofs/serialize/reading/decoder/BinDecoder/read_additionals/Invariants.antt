@@ -1,6 +1,6 @@
 use Rattle.std.proofs.Common.{◌≡◌, ◌-◌}
-use Rattle.hickory_wire.specs.SectionReading.{additionals_after, no_additionals}
-use Rattle.hickory_wire.proofs.decoder.BinDecoder.read_additionals.Given as goal
+use Rattle.hickory_wire.specs.serialize.reading.SectionReading.{additionals_after, no_additionals}
+use Rattle.hickory_wire.proofs.serialize.reading.decoder.BinDecoder.read_additionals.Given as goal
 
 abbrev pub invariant-additionals : goal.invariant-additionals
 invariant-additionals l = record {

@@ -1,5 +1,5 @@
-use Rattle.hickory_wire.proofs.NameLaws.{gives_found, gives_fault, gives_only}
-use Rattle.hickory_wire.proofs.decoder.BinDecoder.read_name.Goals as goal
+use Rattle.hickory_wire.proofs.lemmas.serialize.reading.NameLaws.{gives_found, gives_fault, gives_only}
+use Rattle.hickory_wire.proofs.serialize.reading.decoder.BinDecoder.read_name.Goals as goal
 
 pub returns-clause-found : goal.returns-clause-found
 returns-clause-found c = gives_found c.next_name.result _ _ c.next_name.ensures

@@ -1,8 +1,8 @@
 use Rattle.std.proofs.Common.{◌∙◌}
 use Rattle.std.proofs.lemmas.Result.{err_from_is_err_and}
-use Rattle.hickory_wire.specs.RecordReading.{question}
-use Rattle.hickory_wire.proofs.ItemsRead.{items_go_on, items_fail, items_done}
-use Rattle.hickory_wire.proofs.decoder.BinDecoder.read_queries.Goals as goal
+use Rattle.hickory_wire.specs.serialize.reading.RecordReading.{question}
+use Rattle.hickory_wire.proofs.lemmas.serialize.reading.ItemsRead.{items_go_on, items_fail, items_done}
+use Rattle.hickory_wire.proofs.serialize.reading.decoder.BinDecoder.read_queries.Goals as goal
 
 pub returns-in_err-query : goal.returns-in_err-query
 returns-in_err-query c =

@@ -1,7 +1,7 @@
 use Rattle.std.proofs.Common.{◌≡◌, ◌-◌, []}
-use Rattle.hickory_wire.specs.SectionReading.{items}
-use Rattle.hickory_wire.specs.RecordReading.{question}
-use Rattle.hickory_wire.proofs.decoder.BinDecoder.read_queries.Given as goal
+use Rattle.hickory_wire.specs.serialize.reading.SectionReading.{items}
+use Rattle.hickory_wire.specs.serialize.reading.RecordReading.{question}
+use Rattle.hickory_wire.proofs.serialize.reading.decoder.BinDecoder.read_queries.Given as goal
 
 abbrev pub invariant-queries : goal.invariant-queries
 invariant-queries l = record {

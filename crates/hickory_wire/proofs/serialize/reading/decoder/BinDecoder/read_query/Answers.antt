@@ -1,5 +1,5 @@
-use Rattle.hickory_wire.proofs.GivesReadings.{query_found, query_fault, query_only}
-use Rattle.hickory_wire.proofs.decoder.BinDecoder.read_query.Goals as goal
+use Rattle.hickory_wire.proofs.lemmas.serialize.reading.GivesReadings.{query_found, query_fault, query_only}
+use Rattle.hickory_wire.proofs.serialize.reading.decoder.BinDecoder.read_query.Goals as goal
 
 pub returns-clause-found : goal.returns-clause-found
 returns-clause-found c = query_found _ c.message-message.ensures.bytes c.next_query.result _ c.next_query.ensures

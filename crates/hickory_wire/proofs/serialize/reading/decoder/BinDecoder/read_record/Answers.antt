@@ -1,5 +1,5 @@
-use Rattle.hickory_wire.proofs.GivesReadings.{record_is_found, record_fault, record_only}
-use Rattle.hickory_wire.proofs.decoder.BinDecoder.read_record.Goals as goal
+use Rattle.hickory_wire.proofs.lemmas.serialize.reading.GivesReadings.{record_is_found, record_fault, record_only}
+use Rattle.hickory_wire.proofs.serialize.reading.decoder.BinDecoder.read_record.Goals as goal
 
 pub returns-clause-found : goal.returns-clause-found
 returns-clause-found c = record_is_found _ c.message-message.ensures.bytes c.next_record.result _ c.next_record.ensures

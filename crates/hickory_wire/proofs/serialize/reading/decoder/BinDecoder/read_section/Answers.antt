@@ -1,8 +1,8 @@
 use Rattle.std.proofs.Common.{◌∙◌}
 use Rattle.std.proofs.lemmas.Result.{err_from_is_err_and}
-use Rattle.hickory_wire.specs.SectionReading.{section_record}
-use Rattle.hickory_wire.proofs.ItemsRead.{items_go_on, items_fail, items_done}
-use Rattle.hickory_wire.proofs.decoder.BinDecoder.read_section.Goals as goal
+use Rattle.hickory_wire.specs.serialize.reading.SectionReading.{section_record}
+use Rattle.hickory_wire.proofs.lemmas.serialize.reading.ItemsRead.{items_go_on, items_fail, items_done}
+use Rattle.hickory_wire.proofs.serialize.reading.decoder.BinDecoder.read_section.Goals as goal
 
 pub returns-in_err-next : goal.returns-in_err-next
 returns-in_err-next c =

@@ -1,7 +1,7 @@
 use Rattle.std.proofs.Common.{◌≡◌, ◌-◌, []}
-use Rattle.hickory_wire.specs.SectionReading.{items}
-use Rattle.hickory_wire.specs.SectionReading.{section_record}
-use Rattle.hickory_wire.proofs.decoder.BinDecoder.read_section.Given as goal
+use Rattle.hickory_wire.specs.serialize.reading.SectionReading.{items}
+use Rattle.hickory_wire.specs.serialize.reading.SectionReading.{section_record}
+use Rattle.hickory_wire.proofs.serialize.reading.decoder.BinDecoder.read_section.Given as goal
 
 abbrev pub invariant-records : goal.invariant-records
 invariant-records l = record {

@@ -1,7 +1,7 @@
 use Rattle.std.proofs.Common.{arith, ◌≡◌, ◌∙◌, ap, ◌++◌, ◌∷◌, [], ◌<◌, ◌≤◌}
 use Rattle.std.proofs.lemmas.Result.{err_from_is_err_and}
-use Rattle.hickory_wire.proofs.StringsRead.{string_moves, strings_fail, strings_go_on, strings_done}
-use Rattle.hickory_wire.proofs.decoder.BinDecoder.read_strings.Goals as goal
+use Rattle.hickory_wire.proofs.lemmas.serialize.reading.StringsRead.{string_moves, strings_fail, strings_go_on, strings_done}
+use Rattle.hickory_wire.proofs.serialize.reading.decoder.BinDecoder.read_strings.Goals as goal
 
 pub returns-in_err-string : goal.returns-in_err-string
 returns-in_err-string c =

@@ -1,7 +1,7 @@
 use Rattle.std.proofs.Common.{◌≡◌, ◌-◌}
-use Rattle.hickory_wire.specs.RecordReading.{strings_until}
-use Rattle.hickory_wire.proofs.StringsRead.{with_front}
-use Rattle.hickory_wire.proofs.decoder.BinDecoder.read_strings.Given as goal
+use Rattle.hickory_wire.specs.serialize.reading.RecordReading.{strings_until}
+use Rattle.hickory_wire.proofs.lemmas.serialize.reading.StringsRead.{with_front}
+use Rattle.hickory_wire.proofs.serialize.reading.decoder.BinDecoder.read_strings.Given as goal
 
 abbrev pub invariant-strings : goal.invariant-strings
 invariant-strings l = record {

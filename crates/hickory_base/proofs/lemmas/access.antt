@@ -1,0 +1,4 @@
+-- Lemmas of networks, sets of them and the rule between them.
+pub mod NetworkText
+pub mod Networks
+pub mod Rule

@@ -1,0 +1,4 @@
+-- Lemmas of the places and parts of requests.
+pub mod QuestionPlaces
+pub mod RequestForms
+pub mod RequestParts

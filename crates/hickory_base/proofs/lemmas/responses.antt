@@ -1,0 +1,2 @@
+-- Lemmas of records that iterators give.
+pub mod RecordSlices

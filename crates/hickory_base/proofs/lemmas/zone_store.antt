@@ -1,0 +1,5 @@
+-- Lemmas of the sets of a zone under their keys.
+pub mod Boxes
+pub mod KeyOrder
+pub mod SharedSets
+pub mod ZoneByName

@@ -1,0 +1,5 @@
+-- Replies, and what a sink has of them.
+pub mod EncodingSinks
+pub mod Lending
+pub mod Responses
+pub mod Sinks

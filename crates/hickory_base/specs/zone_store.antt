@@ -1,0 +1,7 @@
+-- The records of a zone, what is asked of it, and what it answers.
+pub mod Denials
+pub mod Lookups
+pub mod RecordSets
+pub mod ZoneAnswers
+pub mod ZoneRecords
+pub mod ZoneSets

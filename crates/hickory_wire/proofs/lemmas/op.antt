@@ -1,0 +1,2 @@
+-- Lemmas of the comparison of headers.
+pub mod MetadataComparing

@@ -1,0 +1,4 @@
+-- Lemmas of addresses and of the comparison of records.
+pub mod AddressOctets
+pub mod RecordComparing
+pub mod domain

@@ -1,0 +1,8 @@
+-- Lemmas of labels, their order, their wire form and their spelling.
+pub mod Ends
+pub mod FirstLabel
+pub mod LabelOrder
+pub mod NameSpelling
+pub mod SameNames
+pub mod TextForm
+pub mod WireForm

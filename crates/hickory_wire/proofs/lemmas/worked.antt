@@ -1,0 +1,3 @@
+-- Lemmas of bytes that are written out.
+pub mod LiteralReplies
+pub mod Literals

@@ -1,0 +1,10 @@
+-- What is read of bytes, and the first fault of those that cannot be read.
+pub mod Cursor
+pub mod MessageFaults
+pub mod MessageReading
+pub mod NameReading
+pub mod OptionReading
+pub mod Reading
+pub mod RecordFaults
+pub mod RecordReading
+pub mod SectionReading

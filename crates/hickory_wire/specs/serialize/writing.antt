@@ -1,0 +1,12 @@
+-- What bytes may be written of a reply, and how long they are.
+pub mod Decoding
+pub mod Encoder
+pub mod Endings
+pub mod FullForm
+pub mod QuestionForm
+pub mod ReadingBack
+pub mod RecordSize
+pub mod Reply
+pub mod ReplyParts
+pub mod WholeReply
+pub mod Writing

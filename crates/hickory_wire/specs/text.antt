@@ -1,0 +1,2 @@
+-- Values as text.
+pub mod TextForm

@@ -1,0 +1,4 @@
+-- Worked examples, by hand from the RFCs.
+pub mod Worked
+pub mod WorkedLists
+pub mod WorkedReplies

@@ -1,0 +1,9 @@
+//! What resource records are made of: names, types, classes, data, signatures, and the records themselves.
+
+pub mod dns_class;
+pub mod domain;
+pub mod rdata;
+pub mod record;
+pub mod record_sameness;
+pub mod record_type;
+pub mod tsig;

@@ -1,0 +1,6 @@
+//! Small types that keep memory: octets, lists, a value on the heap, and what they show of themselves.
+
+pub mod boxed;
+pub mod debug;
+pub mod items;
+pub mod octets;
