@@ -4,7 +4,7 @@ use Rattle.std.specs.Prelude.{◌≡◌, ◌&&◌, ◌||◌, ℕ, nat_eq, Bool, 
 use Rattle.std.specs.Cmp.Lexicographic.{pointwise}
 use Rattle.hickory_wire.specs.rr.domain.DomainName.{DomainName}
 use Rattle.hickory_wire.specs.rr.domain.NameOrder.{lower_labels, name_eq}
-use Rattle.hickory_wire.specs.contracts.rdata.RDataPartialEq.TheImpl as by_data
+use Rattle.hickory_wire.specs.contracts.rr.rdata.RDataPartialEq.TheImpl as by_data
 use Rattle.hickory_wire.specs.declared.rr.rdata.RData.{RData}
 use Rattle.hickory_wire.specs.declared.rr.record.Record.{Record}
 

@@ -43,7 +43,7 @@ impl Queries {
     /// Memory is taken as questions are read: a count that is higher than the questions that are there costs nothing.
     /// Then the decoder's place is the one behind the last. An error is the first fault of the first question that has
     /// one, or `Memory` where memory was refused. After an error the place is left open.
-    #[tactic(auto, unfolding(crate::specs::RequestReading::question_section))]
+    #[tactic(auto, unfolding(crate::specs::requests::RequestReading::question_section))]
     pub fn read(
         alloc: Global,
         decoder: &mut BinDecoder<'_>,
@@ -74,7 +74,7 @@ impl MessageRequest {
     /// The message at this place, with pointers counted from the front of the bytes (RFC 1035 section 4.1).
     ///
     /// Then the decoder's place is the one behind it. After an error the place is left open.
-    #[tactic(auto, unfolding(crate::specs::RequestReading::question_section, hickory_wire::specs::MessageReading::message))]
+    #[tactic(auto, unfolding(crate::specs::requests::RequestReading::question_section, hickory_wire::specs::serialize::reading::MessageReading::message))]
     pub(crate) fn read(
         alloc: Global,
         decoder: &mut BinDecoder<'_>,

@@ -2,7 +2,7 @@
 use Rattle.std.proofs.Common.{◌≡◌, ℕ, Bool, true, ◌&&◌, nat_eq, rules, ap, ◌∙◌}
 use Rattle.std.specs.Bool.{beq}
 use denote.Enum.Bare.{sameb, same_true, true_same}
-use Rattle.hickory_wire.specs.contracts.header.MessageType.{the_type}
+use Rattle.hickory_wire.specs.contracts.op.header.MessageType.{the_type}
 use Rattle.hickory_wire.specs.declared.op.header.Header.{Header}
 use Rattle.hickory_wire.specs.declared.op.header.HeaderCounts.{HeaderCounts}
 use Rattle.hickory_wire.specs.declared.op.header.Metadata.{Metadata}

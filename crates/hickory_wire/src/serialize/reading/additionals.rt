@@ -64,7 +64,7 @@ impl Additionals {
     }
 
     /// Puts the next record where its data belong. On an error nothing is promised of what was read before.
-    #[tactic(auto, unfolding(crate::specs::SectionReading::add_record))]
+    #[tactic(auto, unfolding(crate::specs::serialize::reading::SectionReading::add_record))]
     pub(crate) fn add(&mut self, alloc: Global, next: Record) -> Result<(), DecodeError>
         ensures { MatchResult result (λ _. add_record self.old next ≡ Ok self.new) (λ e. Fails e (add_record self.old next)) }
     {

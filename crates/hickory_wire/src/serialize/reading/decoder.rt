@@ -131,7 +131,7 @@ impl<'a> BinDecoder<'a> {
         Ok(&rest[..count])
     }
 
-    #[tactic(auto, unfolding(crate::specs::NameReading::name))]
+    #[tactic(auto, unfolding(crate::specs::serialize::reading::NameReading::name))]
     fn next_name(&mut self, alloc: Global) -> Result<Name, DecodeError>
         ensures { Gives (λ n. n) result self.old self.new name }
     {

@@ -49,7 +49,7 @@ impl<'a> BinDecoder<'a> {
     ///
     /// Then the place is the one behind it. The only error is `InsufficientBytes`, after which the place is left open.
     /// It needs no memory.
-    #[tactic(auto, unfolding(crate::specs::SectionReading::header))]
+    #[tactic(auto, unfolding(crate::specs::serialize::reading::SectionReading::header))]
     pub fn read_header(&mut self) -> Result<Header, DecodeError>
         ensures exact { Gives (λ h. h) result self.old self.new header }
         ensures fault { IfErr result (λ e. e ≡ InsufficientBytes) }

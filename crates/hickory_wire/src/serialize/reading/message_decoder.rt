@@ -58,7 +58,7 @@ impl<'a> BinDecoder<'a> {
         Ok(queries)
     }
 
-    #[tactic(auto, unfolding(crate::specs::SectionReading::section_record))]
+    #[tactic(auto, unfolding(crate::specs::serialize::reading::SectionReading::section_record))]
     fn read_section_record(&mut self, alloc: Global) -> Result<Record, DecodeError>
         ensures { Gives (λ r. r) result self.old self.new section_record }
     {
@@ -109,7 +109,7 @@ impl<'a> BinDecoder<'a> {
     /// The message at this place, as `Message::read` has it, with pointers counted from the front of the bytes.
     ///
     /// Then the place is the one behind it. After an error the place is left open.
-    #[tactic(auto, unfolding(crate::specs::MessageReading::message))]
+    #[tactic(auto, unfolding(crate::specs::serialize::reading::MessageReading::message))]
     pub fn read_message(&mut self, alloc: Global) -> Result<Message, DecodeError>
         ensures exact { Gives (λ m. m) result self.old self.new message }
     {

@@ -39,7 +39,7 @@ impl<'a> BinDecoder<'a> {
     }
 
     /// A character string (RFC 1035 section 3.3).
-    #[tactic(auto, unfolding(crate::specs::RecordReading::string))]
+    #[tactic(auto, unfolding(crate::specs::serialize::reading::RecordReading::string))]
     fn read_string(&mut self) -> Result<&'a [u8], DecodeError>
         ensures exact { Gives (λ s. s.now) result self.old self.new string }
         ensures fault { IfErr result (λ e. e ≡ InsufficientBytes) }
@@ -61,7 +61,7 @@ impl<'a> BinDecoder<'a> {
     }
 
     /// Bytes behind their length in two bytes.
-    #[tactic(auto, unfolding(crate::specs::RecordReading::counted_octets))]
+    #[tactic(auto, unfolding(crate::specs::serialize::reading::RecordReading::counted_octets))]
     fn read_counted_octets(&mut self, alloc: Global) -> Result<Octets, DecodeError>
         ensures { Gives (λ o. o) result self.old self.new counted_octets }
     {
@@ -77,7 +77,7 @@ impl<'a> BinDecoder<'a> {
         Ok(Octets::from_slice(alloc, bytes)?)
     }
 
-    #[tactic(auto, unfolding(crate::specs::RecordReading::soa))]
+    #[tactic(auto, unfolding(crate::specs::serialize::reading::RecordReading::soa))]
     fn read_soa(&mut self, alloc: Global) -> Result<RData, DecodeError>
         ensures { Gives (λ r. r) result self.old self.new soa }
     {
@@ -100,7 +100,7 @@ impl<'a> BinDecoder<'a> {
         Ok(RData::SOA(Boxed::new(alloc, soa)?))
     }
 
-    #[tactic(auto, unfolding(crate::specs::RecordReading::mx))]
+    #[tactic(auto, unfolding(crate::specs::serialize::reading::RecordReading::mx))]
     fn read_mx(&mut self, alloc: Global) -> Result<RData, DecodeError>
         ensures { Gives (λ r. r) result self.old self.new mx }
     {
@@ -112,7 +112,7 @@ impl<'a> BinDecoder<'a> {
         }))
     }
 
-    #[tactic(auto, unfolding(crate::specs::RecordReading::tsig))]
+    #[tactic(auto, unfolding(crate::specs::serialize::reading::RecordReading::tsig))]
     fn read_tsig(&mut self, alloc: Global) -> Result<RData, DecodeError>
         ensures { Gives (λ r. r) result self.old self.new tsig }
     {
@@ -138,7 +138,7 @@ impl<'a> BinDecoder<'a> {
 
     /// Data in the form of their type. The length counts only where the form does not tell it: for character strings,
     /// options, and types with no form here.
-    #[tactic(auto, unfolding(crate::specs::RecordReading::form))]
+    #[tactic(auto, unfolding(crate::specs::serialize::reading::RecordReading::form))]
     fn read_form(&mut self, alloc: Global, kind: RecordType, len: u16) -> Result<RData, DecodeError>
         requires { self.old.place + len < 2 ^ 64 }
         ensures { Gives (λ r. r) result self.old self.new (form kind len) }
@@ -169,7 +169,7 @@ impl<'a> BinDecoder<'a> {
     }
 
     /// Data of a type, of so many bytes.
-    #[tactic(auto, unfolding(crate::specs::RecordReading::record_data))]
+    #[tactic(auto, unfolding(crate::specs::serialize::reading::RecordReading::record_data))]
     fn read_record_data(
         &mut self,
         alloc: Global,
@@ -195,7 +195,7 @@ impl<'a> BinDecoder<'a> {
         Ok(rdata)
     }
 
-    #[tactic(auto, unfolding(crate::specs::RecordReading::resource))]
+    #[tactic(auto, unfolding(crate::specs::serialize::reading::RecordReading::resource))]
     fn next_record(&mut self, alloc: Global) -> Result<Record, DecodeError>
         ensures { Gives (λ r. r) result self.old self.new resource }
     {
@@ -236,7 +236,7 @@ impl<'a> BinDecoder<'a> {
         self.next_record(alloc)
     }
 
-    #[tactic(auto, unfolding(crate::specs::RecordReading::question))]
+    #[tactic(auto, unfolding(crate::specs::serialize::reading::RecordReading::question))]
     fn next_query(&mut self, alloc: Global) -> Result<Query, DecodeError>
         ensures { Gives (λ q. q) result self.old self.new question }
     {
