@@ -2,8 +2,8 @@
 #![tactic(auto)]
 
 pub use hickory_base::access;
-pub use hickory_wire as proto;
 
+pub mod proto;
 pub mod server;
 pub mod store;
 pub mod zone_handler;

@@ -1,0 +1,7 @@
+//! Resource records: names, types, classes, data.
+
+pub mod rdata;
+
+pub use hickory_wire::{
+    DNSClass, LowerName, Name, RData, Record, RecordType, TSigResponseContext, TSigResponseKind,
+};

@@ -1,0 +1,3 @@
+//! From bytes to values, and from values to bytes.
+
+pub mod binary;

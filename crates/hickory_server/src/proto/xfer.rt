@@ -1,0 +1,3 @@
+//! What messages come and go over.
+
+pub use hickory_wire::Protocol;
