@@ -19,7 +19,7 @@ ghost use Rattle.hickory_wire.specs.serialize.reading.SectionReading.{header, se
 ghost use Rattle.hickory_wire.specs.worked.Worked.{ReadsAs, MeetsFault, root, www_name, record_of, com_name, a_com_name, b_a_com_name};
 ghost use Rattle.hickory_wire.specs.worked.Worked.{pointers_in_a_circle, pointer_to_itself, pointer_to_its_labels, pointer_ahead, pointer_to_later_name, pointer_into_header, name_from_header, reserved_code_01, reserved_code_10, longest_name_bytes, longest_name, too_long_name, label_missing, label_cut, end_missing, pointer_cut, names_by_pointers};
 ghost use Rattle.hickory_wire.specs.worked.Worked.{a_record, address, a_record_of_five, a_record_cut, a_record_empty, aaaa_record, long_address, ns_record, cname_record_with_more, exchange, mx_record, soa_record, soa, txt_record, txt_record_with_more, null_record, unknown_record, opt_version_one, opt_malformed, opt_with_nsid, nsid, tsig_empty, tsig_zeros, zero_signature, tsig_bad_time, bad_time, signature_record, sig_empty};
-ghost use Rattle.hickory_wire.specs.worked.Worked.{header_with, with_counts, response, refused, authoritative, refused_update, truncated, status, recursion_available, authentic_data, checking_disabled, no_flags};
+ghost use Rattle.hickory_wire.specs.worked.Worked.{header_of_flags, with_counts, response, refused, authoritative, refused_update, truncated, status, recursion_available, authentic_data, checking_disabled, no_flags};
 ghost use Rattle.hickory_wire.specs.worked.Worked.{saying, with_sig, opt_every_field, every_field, opt_record_at_root, opt_record_at_a, with_edns, with_signature, two_opts};
 ghost use Rattle.hickory_wire.specs.worked.Worked.{www_query, www_question, asking, www_message, chaos_query, chaos_question, chaos_message, query_version_one, version_one_message, message_of_two_opts, bad_version, bad_version_message, empty_message};
 ghost use Rattle.hickory_wire.specs.worked.WorkedLists.{additions_left_out, five_lists, five_lists_cut, five_lists_in_full, five_lists_truncated, five_lists_whole, formless_and_large};
@@ -119,30 +119,30 @@ pub fn worked_record_layout()
 
 /// What headers are read as.
 pub fn worked_headers()
-    ensures refused { ReadsAs header (header_with 0x81 0x05) 0 refused 12 }
-    ensures authoritative { ReadsAs header (header_with 0x85 0x00) 0 authoritative 12 }
-    ensures refused_update { ReadsAs header (header_with 0xa8 0x05) 0 refused_update 12 }
-    ensures truncated { ReadsAs header (header_with 0x82 0x05) 0 truncated 12 }
-    ensures status { ReadsAs header (header_with 0x10 0x04) 0 status 12 }
-    ensures recursion_available { ReadsAs header (header_with 0x00 0x80) 0 recursion_available 12 }
-    ensures authentic_data { ReadsAs header (header_with 0x00 0x20) 0 authentic_data 12 }
-    ensures checking_disabled { ReadsAs header (header_with 0x00 0x10) 0 checking_disabled 12 }
-    ensures unused_bit { ReadsAs header (header_with 0x00 0x40) 0 no_flags 12 }
+    ensures refused { ReadsAs header (header_of_flags 0x81 0x05) 0 refused 12 }
+    ensures authoritative { ReadsAs header (header_of_flags 0x85 0x00) 0 authoritative 12 }
+    ensures refused_update { ReadsAs header (header_of_flags 0xa8 0x05) 0 refused_update 12 }
+    ensures truncated { ReadsAs header (header_of_flags 0x82 0x05) 0 truncated 12 }
+    ensures status { ReadsAs header (header_of_flags 0x10 0x04) 0 status 12 }
+    ensures recursion_available { ReadsAs header (header_of_flags 0x00 0x80) 0 recursion_available 12 }
+    ensures authentic_data { ReadsAs header (header_of_flags 0x00 0x20) 0 authentic_data 12 }
+    ensures checking_disabled { ReadsAs header (header_of_flags 0x00 0x10) 0 checking_disabled 12 }
+    ensures unused_bit { ReadsAs header (header_of_flags 0x00 0x40) 0 no_flags 12 }
     ensures header_cut { MeetsFault header (replicate 11 0) 0 decode_error.InsufficientBytes }
 {}
 
 /// How headers are written.
 pub fn worked_header_bytes()
-    ensures refused { header_octets refused ≡ header_with 0x81 0x05 }
-    ensures authoritative { header_octets authoritative ≡ header_with 0x85 0x00 }
-    ensures refused_update { header_octets refused_update ≡ header_with 0xa8 0x05 }
-    ensures truncated { header_octets truncated ≡ header_with 0x82 0x05 }
-    ensures status { header_octets status ≡ header_with 0x10 0x04 }
-    ensures recursion_available { header_octets recursion_available ≡ header_with 0x00 0x80 }
-    ensures authentic_data { header_octets authentic_data ≡ header_with 0x00 0x20 }
-    ensures checking_disabled { header_octets checking_disabled ≡ header_with 0x00 0x10 }
-    ensures unused_bit { header_octets no_flags ≡ header_with 0x00 0x00 }
-    ensures low_code { header_octets (with_counts (response 0 16)) ≡ header_with 0x80 0x00 }
+    ensures refused { header_octets refused ≡ header_of_flags 0x81 0x05 }
+    ensures authoritative { header_octets authoritative ≡ header_of_flags 0x85 0x00 }
+    ensures refused_update { header_octets refused_update ≡ header_of_flags 0xa8 0x05 }
+    ensures truncated { header_octets truncated ≡ header_of_flags 0x82 0x05 }
+    ensures status { header_octets status ≡ header_of_flags 0x10 0x04 }
+    ensures recursion_available { header_octets recursion_available ≡ header_of_flags 0x00 0x80 }
+    ensures authentic_data { header_octets authentic_data ≡ header_of_flags 0x00 0x20 }
+    ensures checking_disabled { header_octets checking_disabled ≡ header_of_flags 0x00 0x10 }
+    ensures unused_bit { header_octets no_flags ≡ header_of_flags 0x00 0x00 }
+    ensures low_code { header_octets (with_counts (response 0 16)) ≡ header_of_flags 0x80 0x00 }
 {}
 
 /// Which records a section may hold, and which fault is met first.
@@ -180,7 +180,7 @@ pub fn worked_messages()
 /// How a message and its parts stand in bytes.
 pub fn worked_message_layout()
     ensures message { MessageAt query_version_one version_one_message }
-    ensures header { HeaderAt (header_with 0xa8 0x05) refused_update }
+    ensures header { HeaderAt (header_of_flags 0xa8 0x05) refused_update }
     ensures question { QuestionAt 12 chaos_query 12 chaos_question 17 }
 {}
 

@@ -245,8 +245,8 @@ sig_empty = 0x00 ∷ 0x00 ∷ 0x18 ∷ 0x00 ∷ 0xff ∷ 0x00 ∷ 0x00 ∷ 0x00 
 -- HEADERS (RFC 1035 section 4.1.1)
 
 -- a header with these two bytes of flags, id 0x1234 and the counts 1 to 4
-abbrev pub header_with : ℕ → ℕ → List ℕ
-header_with one two = 0x12 ∷ 0x34 ∷ [] ++ one ∷ two ∷ 0x00 ∷ 0x01 ∷ 0x00 ∷ 0x02 ∷ 0x00 ∷ 0x03 ∷ 0x00 ∷ 0x04 ∷ []
+abbrev pub header_of_flags : ℕ → ℕ → List ℕ
+header_of_flags one two = 0x12 ∷ 0x34 ∷ [] ++ one ∷ two ∷ 0x00 ∷ 0x01 ∷ 0x00 ∷ 0x02 ∷ 0x00 ∷ 0x03 ∷ 0x00 ∷ 0x04 ∷ []
 
 abbrev pub with_counts : Metadata → Header
 with_counts metadata = record { metadata = metadata; counts = record { queries = 1; answers = 2; authorities = 3; additionals = 4 } }

@@ -2,7 +2,7 @@
 use Rattle.std.specs.Prelude.{List, ℕ, [], ◌∷◌, ◌++◌, replicate, true, Some, None}
 use Rattle.hickory_wire.specs.serialize.writing.Reply.{Reply}
 use Rattle.hickory_wire.specs.worked.Worked.{root, record_of, address, a_record, response, tsig_zeros, signature_record}
-use Rattle.hickory_wire.specs.worked.WorkedReplies.{all_of, cut_to, dnssec_ok_fields, reply_of, too_long_string}
+use Rattle.hickory_wire.specs.worked.WorkedReplies.{all_of, cut_to, dnssec_ok_fields, plain_reply, too_long_string}
 use Rattle.hickory_wire.specs.serialize.writing.Writing.{Fronts}
 use Rattle.hickory_wire.specs.declared.rr.rdata.RData.{RData}
 use Rattle.hickory_wire.specs.declared.rr.rdata.RData.TheVariants as rdata
@@ -70,4 +70,4 @@ five_lists_cut = 0x12 ∷ 0x34 ∷ 0x82 ∷ 0x00 ∷ 0x00 ∷ 0x00 ∷ 0x00 ∷ 
 
 -- a record without a form that is too large for twenty bytes as well
 abbrev pub formless_and_large : Reply
-formless_and_large = reply_of (response 0 0) (too_long_string ∷ []) [] None
+formless_and_large = plain_reply (response 0 0) (too_long_string ∷ []) [] None

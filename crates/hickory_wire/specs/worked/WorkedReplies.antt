@@ -63,32 +63,32 @@ abbrev pub cut_to : ℕ → ListFront
 cut_to count = record { count = count; is_cut = true }
 
 -- so much of the answers, of the authorities and of the OPT record was written, and nothing else was there
-abbrev pub fronts_of : ListFront → ListFront → ListFront → Fronts
-fronts_of answers authorities opt = record { answers = answers; authorities = authorities; additionals = all_of 0; opt = opt; signature = all_of 0 }
+abbrev pub fronts_with : ListFront → ListFront → ListFront → Fronts
+fronts_with answers authorities opt = record { answers = answers; authorities = authorities; additionals = all_of 0; opt = opt; signature = all_of 0 }
 
 -- one answer; none of them, for its size; the OPT record alone; the TSIG record alone
 abbrev pub one_answer : Fronts
-one_answer = fronts_of (all_of 1) (all_of 0) (all_of 0)
+one_answer = fronts_with (all_of 1) (all_of 0) (all_of 0)
 
 abbrev pub answer_left_out : Fronts
-answer_left_out = fronts_of (cut_to 0) (all_of 0) (all_of 0)
+answer_left_out = fronts_with (cut_to 0) (all_of 0) (all_of 0)
 
 abbrev pub opt_alone : Fronts
-opt_alone = fronts_of (all_of 0) (all_of 0) (all_of 1)
+opt_alone = fronts_with (all_of 0) (all_of 0) (all_of 1)
 
 abbrev pub signature_alone : Fronts
-signature_alone = record (fronts_of (all_of 0) (all_of 0) (all_of 0)) { signature = all_of 1 }
+signature_alone = record (fronts_with (all_of 0) (all_of 0) (all_of 0)) { signature = all_of 1 }
 
 -- a reply with no question and these answers and authorities, and what its OPT record says
-abbrev pub reply_of : Metadata → List (Record RData) → List (Record RData) → Option EdnsFields → Reply
-reply_of metadata answers authorities edns = record { metadata = metadata; question = []; question_count = 0; edns = edns; answers = answers; authorities = authorities; soa = []; additionals = []; signature = None }
+abbrev pub plain_reply : Metadata → List (Record RData) → List (Record RData) → Option EdnsFields → Reply
+plain_reply metadata answers authorities edns = record { metadata = metadata; question = []; question_count = 0; edns = edns; answers = answers; authorities = authorities; soa = []; additionals = []; signature = None }
 
 -- a reply with nothing but an OPT record: payload 512, DO
 abbrev pub dnssec_ok_fields : EdnsFields
 dnssec_ok_fields = record (saying 512 0 0) { dnssec_ok = true }
 
 abbrev pub dnssec_ok_reply : Reply
-dnssec_ok_reply = reply_of (response 0 0) [] [] (Some dnssec_ok_fields)
+dnssec_ok_reply = plain_reply (response 0 0) [] [] (Some dnssec_ok_fields)
 
 abbrev pub dnssec_ok_bytes : List ℕ
 dnssec_ok_bytes = 0x12 ∷ 0x34 ∷ 0x80 ∷ 0x00 ∷ 0x00 ∷ 0x00 ∷ 0x00 ∷ 0x00 ∷ 0x00 ∷ 0x00 ∷ 0x00 ∷ 0x01 ∷ 0x00 ∷ 0x00 ∷ 0x29 ∷ 0x02
@@ -99,7 +99,7 @@ abbrev pub bad_version_fields : EdnsFields
 bad_version_fields = saying 512 1 0
 
 abbrev pub bad_version_reply : Reply
-bad_version_reply = reply_of (response 0 16) [] [] (Some bad_version_fields)
+bad_version_reply = plain_reply (response 0 16) [] [] (Some bad_version_fields)
 
 abbrev pub bad_version_bytes : List ℕ
 bad_version_bytes = 0x12 ∷ 0x34 ∷ 0x80 ∷ 0x00 ∷ 0x00 ∷ 0x00 ∷ 0x00 ∷ 0x00 ∷ 0x00 ∷ 0x00 ∷ 0x00 ∷ 0x01 ∷ 0x00 ∷ 0x00 ∷ 0x29 ∷ 0x02
@@ -107,17 +107,17 @@ bad_version_bytes = 0x12 ∷ 0x34 ∷ 0x80 ∷ 0x00 ∷ 0x00 ∷ 0x00 ∷ 0x00 �
 
 -- a reply with nothing but a TSIG record
 abbrev pub signed_reply : Reply
-signed_reply = record (reply_of (response 0 0) [] [] None) { signature = Some signature_record }
+signed_reply = record (plain_reply (response 0 0) [] [] None) { signature = Some signature_record }
 
 abbrev pub signed_bytes : List ℕ
 signed_bytes = 0x12 ∷ 0x34 ∷ 0x80 ∷ 0x00 ∷ 0x00 ∷ 0x00 ∷ 0x00 ∷ 0x00 ∷ 0x00 ∷ 0x00 ∷ 0x00 ∷ 0x01 ∷ [] ++ tsig_zeros
 
 -- three answers of 31 bytes, and an authority of 15
 abbrev pub long_reply : Reply
-long_reply = reply_of www_metadata (replicate 3 www_answer) (record_of root 1 0 address ∷ []) None
+long_reply = plain_reply www_metadata (replicate 3 www_answer) (record_of root 1 0 address ∷ []) None
 
 abbrev pub one_of_three : Fronts
-one_of_three = fronts_of (cut_to 1) (all_of 1) (all_of 0)
+one_of_three = fronts_with (cut_to 1) (all_of 1) (all_of 0)
 
 -- one answer and the authority, TC set
 abbrev pub long_reply_cut : List ℕ
@@ -128,7 +128,7 @@ long_reply_cut = 0x12 ∷ 0x34 ∷ 0x87 ∷ 0x00 ∷ 0x00 ∷ 0x00 ∷ 0x00 ∷ 
 
 -- a hundred answers of 31 bytes, of which sixteen fit 512 bytes, since 12 + 16 * 31 is 508
 abbrev pub hundred_answers : Reply
-hundred_answers = reply_of www_metadata (replicate 100 www_answer) [] None
+hundred_answers = plain_reply www_metadata (replicate 100 www_answer) [] None
 
 -- so many copies of a text, one behind the other
 abbrev pub repeated : ℕ → List ℕ → List ℕ
@@ -136,7 +136,7 @@ repeated zero text = []
 repeated (suc count) text = text ++ repeated count text
 
 abbrev pub sixteen_of_hundred : Fronts
-sixteen_of_hundred = fronts_of (cut_to 16) (all_of 0) (all_of 0)
+sixteen_of_hundred = fronts_with (cut_to 16) (all_of 0) (all_of 0)
 
 abbrev pub sixteen_answers : List ℕ
 sixteen_answers = 0x12 ∷ 0x34 ∷ 0x87 ∷ 0x00 ∷ 0x00 ∷ 0x00 ∷ 0x00 ∷ 0x10 ∷ 0x00 ∷ 0x00 ∷ 0x00 ∷ 0x00 ∷ [] ++ repeated 16 www_answer_bytes
@@ -146,4 +146,4 @@ abbrev pub too_long_string : Record RData
 too_long_string = record_of root 1 0 (rdata.TXT (letters 256 ∷ []))
 
 abbrev pub formless_reply : Reply
-formless_reply = reply_of (response 0 0) (record_of root 1 0 address ∷ too_long_string ∷ []) [] None
+formless_reply = plain_reply (response 0 0) (record_of root 1 0 address ∷ too_long_string ∷ []) [] None

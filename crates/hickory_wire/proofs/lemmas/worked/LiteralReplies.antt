@@ -6,7 +6,7 @@ use Rattle.hickory_wire.specs.rr.domain.DomainName.{IsLabel}
 use Rattle.hickory_wire.specs.serialize.layout.NameLayout.{LabelsAt, NameAt}
 use Rattle.hickory_wire.specs.serialize.layout.NameLayout.LabelsAt.{at_end, at_label}
 use Rattle.hickory_wire.specs.worked.Worked.{root, record_of, address, a_record, www_name}
-use Rattle.hickory_wire.specs.worked.WorkedReplies.{www_answer, www_answer_bytes, repeated, all_of, fronts_of, www_reply, www_reply_in_full}
+use Rattle.hickory_wire.specs.worked.WorkedReplies.{www_answer, www_answer_bytes, repeated, all_of, fronts_with, www_reply, www_reply_in_full}
 use Rattle.hickory_wire.specs.serialize.writing.Writing.{Puts, PutsAll, ListWritten, ListsWritten, whole, Written, asked_bytes}
 use Rattle.hickory_wire.specs.serialize.writing.Writing.ListsWritten.{none_left, next_list}
 use Rattle.hickory_wire.proofs.lemmas.worked.Literals.{stands, is_label}
@@ -104,7 +104,7 @@ abbrev pub body_of : List ℕ → List ℕ
 body_of bytes = replicate 12 0 ++ drop 12 bytes
 
 -- the reply to www.example.com. in full
-pub www_written : Written 512 www_reply www_reply_in_full (fronts_of (all_of 1) (all_of 0) (all_of 0))
+pub www_written : Written 512 www_reply www_reply_in_full (fronts_with (all_of 1) (all_of 0) (all_of 0))
 www_written = record {
   body = body_of www_reply_in_full;
   fits = omega arith;

@@ -4,6 +4,7 @@ use Rattle.std.specs.Int.{w16, w32, from_be_bytes}
 use Rattle.hickory_wire.specs.rr.Addresses.{ipv4_of, ipv6_of}
 use Rattle.hickory_wire.specs.serialize.reading.Cursor.{Cursor}
 use Rattle.hickory_wire.specs.serialize.reading.Reading.{Read, ◌>>=◌, number, octets, rest_of, moved}
+use Rattle.hickory_wire.specs.serialize.reading.OptionReading.{option_code, option_len, ends_early}
 use Rattle.hickory_wire.specs.serialize.reading.NameReading.{name}
 use Rattle.hickory_wire.specs.declared.error.DecodeError.TheVariants.{InsufficientBytes, IncorrectDataLength}
 use Rattle.hickory_wire.specs.declared.op.edns.EdnsOption.{EdnsOption}
@@ -41,9 +42,9 @@ unfoldable pub options_within : ℕ → List ℕ → Option (List EdnsOption)
 options_within fuel [] = Some []
 options_within zero (b ∷ bs) = None
 options_within (suc fuel) (b ∷ bs) =
-    if nat_lt (length (b ∷ bs)) 4 || nat_lt (length (drop 4 (b ∷ bs))) (from_be_bytes w16 (take 2 (drop 2 (b ∷ bs)))) then None
-    else option_map (λ others. record { code = from_be_bytes w16 (take 2 (b ∷ bs)); bytes = take (from_be_bytes w16 (take 2 (drop 2 (b ∷ bs)))) (drop 4 (b ∷ bs)) } ∷ others)
-    (options_within fuel (drop (from_be_bytes w16 (take 2 (drop 2 (b ∷ bs)))) (drop 4 (b ∷ bs))))
+    if ends_early (b ∷ bs) then None
+    else option_map (λ others. record { code = option_code (b ∷ bs); bytes = take (option_len (b ∷ bs)) (drop 4 (b ∷ bs)) } ∷ others)
+    (options_within fuel (drop (option_len (b ∷ bs)) (drop 4 (b ∷ bs))))
 
 -- those options, or none
 unfoldable pub options_of : List ℕ → List EdnsOption

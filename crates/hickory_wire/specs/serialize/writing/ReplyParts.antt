@@ -64,13 +64,6 @@ fronts_of s = record {
 abbrev pub WritesLists : ℕ → List ℕ → Reply → List ℕ → Sections → Type 0
 WritesLists limit old reply new s = (all : List ListFront) × ListsWritten limit (reply_lists reply) old new all s.signature.fault × (s.signature.fault ≡ None → all ≡ fronts_list (fronts_of s))
 
--- the header of what was written, by the fields of the reply that it is made of
-abbrev pub header_with : Metadata → ℕ → Fronts → Header
-header_with metadata question_count f = record {
-  metadata = record metadata { truncation = metadata.truncation || is_any_cut f };
-  counts = record { queries = question_count; answers = f.answers.count; authorities = f.authorities.count; additionals = f.additionals.count + f.opt.count + f.signature.count };
-}
-
 -- The bytes are the reply, this is their header, and what was written stands in them as a message and reads back.
 pub record ReplyWritten (limit : ℕ) (reply : Reply) (bytes : List ℕ) (header : Header) : Type 0 where
   pub fronts : Fronts

@@ -9,6 +9,7 @@ use Rattle.hickory_wire.specs.serialize.writing.RecordSize.{full_size, form_faul
 use Rattle.hickory_wire.specs.serialize.writing.Reply.{Reply, reply_lists}
 use Rattle.hickory_wire.specs.declared.error.ProtoError.{ProtoError}
 use Rattle.hickory_wire.specs.declared.op.header.Header.{Header}
+use Rattle.hickory_wire.specs.declared.op.header.Metadata.{Metadata}
 use Rattle.hickory_wire.specs.declared.op.header.MessageType.TheVariants.{Response}
 use Rattle.hickory_wire.specs.declared.rr.rdata.RData.{RData}
 use Rattle.hickory_wire.specs.declared.rr.record.Record.{Record}
@@ -98,11 +99,14 @@ is_any_cut f = f.answers.is_cut || f.authorities.is_cut || f.additionals.is_cut 
 
 -- the header of what was written: TC is the reply's own, or set where any list was cut; the counts are those of the questions and of
 -- what was written, OPT and TSIG among the additionals
-abbrev pub written_header : Reply → Fronts → Header
-written_header reply f = record {
-  metadata = record reply.metadata { truncation = reply.metadata.truncation || is_any_cut f };
-  counts = record { queries = reply.question_count; answers = f.answers.count; authorities = f.authorities.count; additionals = f.additionals.count + f.opt.count + f.signature.count };
+abbrev pub header_with : Metadata → ℕ → Fronts → Header
+header_with metadata question_count f = record {
+  metadata = record metadata { truncation = metadata.truncation || is_any_cut f };
+  counts = record { queries = question_count; answers = f.answers.count; authorities = f.authorities.count; additionals = f.additionals.count + f.opt.count + f.signature.count };
 }
+
+abbrev pub written_header : Reply → Fronts → Header
+written_header reply = header_with reply.metadata reply.question_count
 
 -- room for the header, and the questions behind it
 abbrev pub asked_bytes : Reply → List ℕ

@@ -5,8 +5,8 @@ ghost use Rattle.std.specs.Iterator.{IsFinite};
 ghost use Rattle.hickory_wire.specs.serialize.layout.Bytes.{AreBytes};
 ghost use Rattle.hickory_wire.specs.serialize.writing.Encoder.{written_bytes, max_size, IsSameVector};
 ghost use Rattle.hickory_wire.specs.serialize.layout.HeaderLayout.{header_octets};
-ghost use Rattle.hickory_wire.specs.serialize.writing.Writing.{fallback_header};
-ghost use Rattle.hickory_wire.specs.serialize.writing.ReplyParts.{GivesLists, RecordLists, Refused, ReplyEncoded, ReplyWritten, WritesLists, fronts_of, header_with, reply_of};
+ghost use Rattle.hickory_wire.specs.serialize.writing.Writing.{fallback_header, header_with};
+ghost use Rattle.hickory_wire.specs.serialize.writing.ReplyParts.{GivesLists, RecordLists, Refused, ReplyEncoded, ReplyWritten, WritesLists, fronts_of, reply_of};
 
 use crate::error::ProtoError;
 use crate::op::edns::Edns;
