@@ -30,7 +30,7 @@ refused = record { refusal = Some 5; context = None }
 abbrev pub is_within : Range ℕ → ℕ → Bool
 is_within range now = nat_le range.start now && nat_lt now range.end
 
--- How a signature that fits is judged: its time is checked last (RFC 8945 section 5.2.3).
+-- How a signature that fits is judged: its time is checked after its key and MAC (RFC 8945 sections 5.2.1 to 5.2.3).
 abbrev pub timed_kind : List ℕ → Range ℕ → ℕ → TSigResponseKind
 timed_kind mac times now = Known mac (cond (is_within times now) None (Some BadTime))
 

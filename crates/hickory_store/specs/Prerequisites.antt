@@ -11,7 +11,8 @@ use Rattle.hickory_base.specs.zone_store.ZoneRecords.{is_at, is_of, rrset}
 use Rattle.hickory_store.specs.Identity.{is_in_zone, same_record}
 use Rattle.hickory_store.specs.Refusals.{first_refusal, unless}
 
--- data of no bytes (RDLENGTH 0)
+-- no data at all, as a record of an update has them whose RDLENGTH is 0 (an OPT without options, a TXT without strings and unknown
+-- data of no bytes are data)
 abbrev pub has_no_data : Record RData → Bool
 has_no_data r = is_empty r.rdata where
   is_empty : RData → Bool

@@ -33,7 +33,7 @@ is_set_deletion r = (r.ttl == 0) && (has_no_data r && not (is_query_type (type_o
 abbrev pub is_record_deletion : Record RData → Bool
 is_record_deletion r = (r.ttl == 0) && (not (type_of r.rdata == 255) && not (is_query_type (type_of r.rdata)))
 
--- the class says which of these it is: the zone's class, ANY, 255, or NONE, 254; there is no other (section 3.4.1.2)
+-- the class says which of these it is: the zone's class, ANY, 255, or NONE, 254; there is no other (section 3.4.1.1)
 abbrev pub is_well_formed : ℕ → Record RData → Bool
 is_well_formed class r =
     cond (r.dns_class == class) (is_addition r)

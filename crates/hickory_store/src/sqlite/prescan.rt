@@ -112,9 +112,10 @@ impl<V: Verifier> SqliteZoneHandler<V> {
     /// Whether an update section says what can be done to the zone; else the code of the first record that does not
     /// (RFC 2136 section 3.4.1). It takes no memory, and reads no record of the zone.
     ///
-    /// A name outside the zone is NotZone. FormErr are: a class but the zone's, ANY and NONE; the types AXFR, IXFR, MAILA
-    /// and MAILB; type ANY but in class ANY; a TTL but 0 in class ANY or NONE; data in class ANY; and in the zone's class
-    /// no data, or data of type SOA that are not those of an SOA. Types that are not known are taken.
+    /// A name outside the zone is NotZone, before anything else of the record is looked at. FormErr are: any class that is
+    /// neither the zone's nor ANY nor NONE; the types AXFR, IXFR, MAILA and MAILB; type ANY in a class but ANY; a TTL but 0
+    /// in class ANY or NONE; data in class ANY; and in the zone's class no data, or data of type SOA that are not those of
+    /// an SOA. Types that are not known are taken.
     pub fn pre_scan(&self, updates: &[Record]) -> Result<(), ResponseCode>
         ensures { TellsCode (prescan_refusal self.now.zone.origin 1 updates.now) result }
     {
