@@ -10,3 +10,4 @@ pub mod Reply
 pub mod ReplyParts
 pub mod WholeReply
 pub mod Writing
+pub mod WrittenParts

@@ -1,5 +1,5 @@
 -- A reply with all five lists, each record put in full behind the one before.
-use Rattle.std.proofs.Common.{◌≡◌, ℕ, ◌+◌, ◌^◌, ◌<◌, ◌≤◌, List, [], ◌∷◌, ◌++◌, length, None, refl, sym, subst, arith}
+use Rattle.std.proofs.Common.{◌≡◌, ℕ, ◌+◌, ◌^◌, ◌<◌, ◌≤◌, List, [], ◌++◌, length, None, refl, sym, subst, arith}
 use Rattle.std.proofs.lemmas.List.Elements.{All-from_recursion}
 use Rattle.hickory_wire.specs.rr.domain.DomainName.{IsLabel, AreLabels}
 use Rattle.hickory_wire.specs.serialize.writing.FullForm.{HasNames, record_octets}

@@ -4,6 +4,7 @@ ghost use Rattle.std.specs.Prelude.{◌≡◌, ℕ, ◌+◌, ◌<◌, ◌≤◌,
 ghost use Rattle.std.specs.List.{flat_map, list_any};
 ghost use Rattle.std.specs.Int.{w16, w32, to_be_bytes};
 ghost use Rattle.hickory_wire.specs.rr.domain.DomainName.{name_len, AreLabels};
+ghost use Rattle.hickory_wire.specs.serialize.writing.WrittenParts.{rdata_of};
 ghost use Rattle.hickory_wire.specs.serialize.writing.FullForm.{name_octets, soa_octets, tsig_octets, data_octets, HasNames, HasLength};
 ghost use Rattle.hickory_wire.specs.rr.RecordData.{character_string, option_octets, soa_numbers, tsig_fields, type_of};
 ghost use Rattle.hickory_wire.specs.serialize.writing.RecordSize.{data_len, form_fault, length_fault};
@@ -13,6 +14,7 @@ use crate::error::ProtoError;
 use crate::op::edns::EdnsOption;
 use crate::rr::domain::name::Name;
 use crate::rr::rdata::{RData, SOA};
+use crate::rr::record_type::RecordType;
 use crate::rr::tsig::TSIG;
 use crate::values::octets::Octets;
 use std::alloc::AllocError;
@@ -56,7 +58,7 @@ fn strings_len(strings: &[Octets]) -> Result<u16, ProtoError>
     Ok(len as u16)
 }
 
-pub(crate) fn options_len(options: &[EdnsOption]) -> Result<u16, ProtoError>
+fn options_len(options: &[EdnsOption]) -> Result<u16, ProtoError>
     ensures { HasLength (rdata_form.OPT options.now) result }
 {
     let mut len = 0usize;
@@ -66,7 +68,7 @@ pub(crate) fn options_len(options: &[EdnsOption]) -> Result<u16, ProtoError>
     Ok(len as u16)
 }
 
-pub(crate) fn signature_len(signature: &TSIG) -> Result<u16, ProtoError>
+fn signature_len(signature: &TSIG) -> Result<u16, ProtoError>
     ensures len { HasLength (rdata_form.TSIG signature.now) result }
     ensures names { AreLabels signature.now.algorithm.labels }
 {
@@ -95,8 +97,55 @@ fn soa_len(soa: &SOA) -> u16
     full_name_len(&soa.mname) + full_name_len(&soa.rname) + 20
 }
 
-/// How many bytes data take with every name in full, or why they have no form in bytes.
-pub(crate) fn full_data_len(rdata: &RData) -> Result<u16, ProtoError>
+/// The data of a record that is written: its own, or those of the OPT or TSIG record that something else stands for.
+#[derive(Clone, Copy)]
+pub(crate) enum Data<'r> {
+    /// The record's own.
+    Own(&'r RData),
+    /// The options of an OPT record.
+    Options(&'r [EdnsOption]),
+    /// The data of a TSIG record.
+    Signature(&'r TSIG),
+}
+
+impl Data<'_> {
+    /// The type of the record.
+    pub(crate) fn record_type(self) -> RecordType
+        ensures { result ≡ type_of (rdata_of self.entry) }
+    {
+        match self {
+            Data::Own(rdata) => rdata.record_type(),
+            Data::Options(_) => RecordType::OPT,
+            Data::Signature(_) => RecordType::TSIG,
+        }
+    }
+
+    /// How many bytes the data take with every name in full, or why they have no form in bytes.
+    pub(crate) fn full_len(self) -> Result<u16, ProtoError>
+        ensures len { HasLength (rdata_of self.entry) result }
+        ensures names { HasNames (rdata_of self.entry) }
+    {
+        match self {
+            Data::Own(rdata) => full_data_len(rdata),
+            Data::Options(options) => options_len(options),
+            Data::Signature(signature) => signature_len(signature),
+        }
+    }
+
+    /// Puts the data behind the bytes, with every name in full.
+    pub(crate) fn write(self, bytes: &mut Vec<u8>) -> Result<(), AllocError>
+        requires { form_fault (rdata_of self) ≡ None }
+        ensures { OnOk result (bytes.new.items ≡ bytes.old.items ++ data_octets (rdata_of self.entry)) }
+    {
+        match self {
+            Data::Own(rdata) => write_data(bytes, rdata),
+            Data::Options(options) => write_options(bytes, options),
+            Data::Signature(signature) => write_signature_data(bytes, signature),
+        }
+    }
+}
+
+fn full_data_len(rdata: &RData) -> Result<u16, ProtoError>
     ensures len { HasLength rdata.now result }
     ensures names { HasNames rdata.now }
 {
@@ -172,7 +221,7 @@ fn write_strings(bytes: &mut Vec<u8>, strings: &[Octets]) -> Result<(), AllocErr
     Ok(())
 }
 
-pub(crate) fn write_options(bytes: &mut Vec<u8>, options: &[EdnsOption]) -> Result<(), AllocError>
+fn write_options(bytes: &mut Vec<u8>, options: &[EdnsOption]) -> Result<(), AllocError>
     requires { form_fault (rdata_form.OPT options.now) ≡ None }
     ensures { OnOk result (bytes.new.items ≡ bytes.old.items ++ flat_map option_octets options.now) }
 {
@@ -183,7 +232,7 @@ pub(crate) fn write_options(bytes: &mut Vec<u8>, options: &[EdnsOption]) -> Resu
     Ok(())
 }
 
-pub(crate) fn write_signature_data(bytes: &mut Vec<u8>, signature: &TSIG) -> Result<(), AllocError>
+fn write_signature_data(bytes: &mut Vec<u8>, signature: &TSIG) -> Result<(), AllocError>
     requires { form_fault (rdata_form.TSIG signature.now) ≡ None }
     ensures { OnOk result (bytes.new.items ≡ bytes.old.items ++ tsig_octets signature.now) }
 {
@@ -197,8 +246,7 @@ pub(crate) fn write_signature_data(bytes: &mut Vec<u8>, signature: &TSIG) -> Res
     write_counted(bytes, &signature.other)
 }
 
-/// Puts data behind the bytes, with every name in full.
-pub(crate) fn write_data(bytes: &mut Vec<u8>, rdata: &RData) -> Result<(), AllocError>
+fn write_data(bytes: &mut Vec<u8>, rdata: &RData) -> Result<(), AllocError>
     requires { form_fault rdata.now ≡ None }
     ensures { OnOk result (bytes.new.items ≡ bytes.old.items ++ data_octets rdata.now) }
 {
