@@ -1,6 +1,6 @@
 //! Laws of records and questions, each the contract of a function with nothing to do: how they stand in bytes is how they are read.
 
-ghost use Rattle.std.specs.Prelude.{◌≡◌, ◌≤◌, ◌+◌, ◌⊎◌, ◌↔◌, ◌++◌, ℕ, List, [], length, replicate, slice_range, None, Ok};
+ghost use Rattle.std.specs.Prelude.{◌≡◌, ◌≤◌, ◌+◌, ◌⊎◌, ◌↔◌, ◌++◌, ℕ, List, [], length, replicate, slice_range, take, None, Ok};
 ghost use Rattle.std.specs.List.{AllByRecursion, flat_map};
 ghost use Rattle.hickory_wire.specs.serialize.layout.Bytes.{AreBytes, BytesAt, KeepsFrom};
 ghost use Rattle.hickory_wire.specs.serialize.reading.Cursor.{Cursor};
@@ -85,9 +85,13 @@ pub fn reading_back()
 {}
 
 /// A question that was read behind the header of a request, with no byte of its name in the header, stands at that place in a reply that
-/// repeats the bytes of the question; so do questions that a reply has in full (RFC 1035 sections 4.1.1 and 4.1.2).
+/// repeats the bytes of the question; so do several questions, also where their names lead to one another by compression pointers, as long
+/// as none of their names leads into the header or runs on behind the last question; and so do questions that a reply has in full (RFC 1035
+/// sections 4.1.1, 4.1.2 and 4.1.4).
 pub fn questions_of_replies()
     ensures repeated { (bytes : List ℕ) (q : Query) (stop : ℕ) → QuestionAt 12 bytes 12 q stop → QuestionAt 12 (replicate 12 0 ++ slice_range bytes 12 stop) 12 q stop }
+    ensures several { (bytes : List ℕ) (queries : List Query) (stop : ℕ) → stop ≤ length bytes → ItemsAt (QuestionAt 12 (take stop bytes)) 12 queries stop →
+        ItemsAt (QuestionAt 12 (replicate 12 0 ++ slice_range bytes 12 stop)) 12 queries stop × (length (replicate 12 0 ++ slice_range bytes 12 stop) ≡ stop) }
     ensures in_full { (bytes : List ℕ) (floor place : ℕ) (queries : List Query) → AllByRecursion (λ q. AreLabels q.name.labels) queries → floor ≤ place → BytesAt bytes place (flat_map question_octets queries) →
         ItemsAt (QuestionAt floor bytes) place queries (place + length (flat_map question_octets queries)) }
 {}
