@@ -6,7 +6,9 @@ ghost use Rattle.hickory_wire.specs.serialize.layout.Bytes.{AreBytes, BytesAt, K
 ghost use Rattle.hickory_wire.specs.serialize.reading.Cursor.{Cursor};
 ghost use Rattle.hickory_wire.specs.rr.domain.DomainName.{AreLabels, name_len};
 ghost use Rattle.hickory_wire.specs.serialize.writing.FullForm.{HasNames, record_octets};
+ghost use Rattle.hickory_wire.specs.serialize.layout.FieldRanges.{IsReadAsItsType, IsRecordInRange};
 ghost use Rattle.hickory_wire.specs.serialize.layout.MessageLayout.{ItemsAt};
+ghost use Rattle.hickory_wire.specs.serialize.layout.NameLayout.{IsFullyQualified};
 ghost use Rattle.hickory_wire.specs.serialize.writing.QuestionForm.{question_octets};
 ghost use Rattle.hickory_wire.specs.serialize.layout.QuestionLayout.{QuestionAt, IsFormedQuestion};
 ghost use Rattle.hickory_wire.specs.serialize.writing.ReadingBack.{ReadsBack};
@@ -18,6 +20,7 @@ ghost use Rattle.hickory_wire.specs.declared.op.edns.EdnsOption.{EdnsOption};
 ghost use Rattle.hickory_wire.specs.declared.op.query.Query.{Query};
 ghost use Rattle.hickory_wire.specs.declared.rr.rdata.RData.{RData};
 ghost use Rattle.hickory_wire.specs.declared.rr.rdata.RData.TheVariants.{OPT};
+ghost use Rattle.hickory_wire.specs.declared.rr.record.Proof.TheVariants.{Indeterminate};
 ghost use Rattle.hickory_wire.specs.declared.rr.record.Record.{Record};
 
 /// A record and a question stay where they are when bytes are put behind them or bytes below their floor change.
@@ -79,9 +82,11 @@ pub fn question_forms()
 {}
 
 /// Which records read back as themselves: those whose parts are such as are read, whose names are names, and whose octets have a form in
-/// bytes, their lengths told in the fields that are there for them.
+/// bytes, their lengths told in the fields that are there for them. Parts are such as are read where the fields hold their numbers, which is so
+/// of every record that was written; names are fully qualified; and octets are read as data of their type.
 pub fn reading_back()
-    ensures { (r : Record RData) → ReadsBack r ↔ (IsFormedRecord r × AreLabels r.name.labels × HasNames r.rdata × (form_fault r.rdata ≡ None)) }
+    ensures parts { (r : Record RData) → IsFormedRecord r ↔ (IsRecordInRange r × IsFullyQualified r.name × IsReadAsItsType r.rdata × (r.proof ≡ Indeterminate)) }
+    ensures records { (r : Record RData) → ReadsBack r ↔ (IsFormedRecord r × AreLabels r.name.labels × HasNames r.rdata × (form_fault r.rdata ≡ None)) }
 {}
 
 /// A question that was read behind the header of a request, with no byte of its name in the header, stands at that place in a reply that

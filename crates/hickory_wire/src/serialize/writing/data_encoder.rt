@@ -1,9 +1,10 @@
 //! The data of records in bytes, with every name in full.
 
-ghost use Rattle.std.specs.Prelude.{◌≡◌, ℕ, ◌+◌, ◌<◌, ◌≤◌, ◌++◌, length, OnOk, MatchResult, Some, None, nat_lt};
+ghost use Rattle.std.specs.Prelude.{◌≡◌, ℕ, ◌+◌, ◌^◌, ◌<◌, ◌≤◌, ◌++◌, length, OnOk, MatchResult, Some, None, nat_lt};
 ghost use Rattle.std.specs.List.{flat_map, list_any};
 ghost use Rattle.std.specs.Int.{w16, w32, to_be_bytes};
 ghost use Rattle.hickory_wire.specs.rr.domain.DomainName.{name_len, AreLabels};
+ghost use Rattle.hickory_wire.specs.serialize.layout.FieldRanges.{IsInRange};
 ghost use Rattle.hickory_wire.specs.serialize.writing.WrittenParts.{rdata_of};
 ghost use Rattle.hickory_wire.specs.serialize.writing.FullForm.{name_octets, soa_octets, tsig_octets, data_octets, HasNames, HasLength};
 ghost use Rattle.hickory_wire.specs.rr.RecordData.{character_string, option_octets, soa_numbers, tsig_fields, type_of};
@@ -134,8 +135,10 @@ impl Data<'_> {
 
     /// Puts the data behind the bytes, with every name in full.
     pub(crate) fn write(self, bytes: &mut Vec<u8>) -> Result<(), AllocError>
-        requires { form_fault (rdata_of self) ≡ None }
-        ensures { OnOk result (bytes.new.items ≡ bytes.old.items ++ data_octets (rdata_of self.entry)) }
+        requires form { form_fault (rdata_of self) ≡ None }
+        requires kind { type_of (rdata_of self) < 2 ^ 16 }
+        ensures bytes { OnOk result (bytes.new.items ≡ bytes.old.items ++ data_octets (rdata_of self.entry)) }
+        ensures in_range { OnOk result (IsInRange (rdata_of self.entry)) }
     {
         match self {
             Data::Own(rdata) => write_data(bytes, rdata),
@@ -199,7 +202,8 @@ fn write_counted(bytes: &mut Vec<u8>, octets: &Octets) -> Result<(), AllocError>
 }
 
 fn write_soa(bytes: &mut Vec<u8>, soa: &SOA) -> Result<(), AllocError>
-    ensures { OnOk result (bytes.new.items ≡ bytes.old.items ++ soa_octets soa.now) }
+    ensures bytes { OnOk result (bytes.new.items ≡ bytes.old.items ++ soa_octets soa.now) }
+    ensures in_range { OnOk result (IsInRange (rdata_form.SOA soa.now)) }
 {
     write_name(bytes, &soa.mname)?;
     write_name(bytes, &soa.rname)?;
@@ -212,7 +216,8 @@ fn write_soa(bytes: &mut Vec<u8>, soa: &SOA) -> Result<(), AllocError>
 
 fn write_strings(bytes: &mut Vec<u8>, strings: &[Octets]) -> Result<(), AllocError>
     requires { form_fault (rdata_form.TXT strings.now) ≡ None }
-    ensures { OnOk result (bytes.new.items ≡ bytes.old.items ++ flat_map character_string strings.now) }
+    ensures bytes { OnOk result (bytes.new.items ≡ bytes.old.items ++ flat_map character_string strings.now) }
+    ensures in_range { OnOk result (IsInRange (rdata_form.TXT strings.now)) }
 {
     for text in strings {
         bytes.push(text.len() as u8)?;
@@ -223,7 +228,8 @@ fn write_strings(bytes: &mut Vec<u8>, strings: &[Octets]) -> Result<(), AllocErr
 
 fn write_options(bytes: &mut Vec<u8>, options: &[EdnsOption]) -> Result<(), AllocError>
     requires { form_fault (rdata_form.OPT options.now) ≡ None }
-    ensures { OnOk result (bytes.new.items ≡ bytes.old.items ++ flat_map option_octets options.now) }
+    ensures bytes { OnOk result (bytes.new.items ≡ bytes.old.items ++ flat_map option_octets options.now) }
+    ensures in_range { OnOk result (IsInRange (rdata_form.OPT options.now)) }
 {
     for option in options {
         write_u16(bytes, option.code)?;
@@ -234,7 +240,8 @@ fn write_options(bytes: &mut Vec<u8>, options: &[EdnsOption]) -> Result<(), Allo
 
 fn write_signature_data(bytes: &mut Vec<u8>, signature: &TSIG) -> Result<(), AllocError>
     requires { form_fault (rdata_form.TSIG signature.now) ≡ None }
-    ensures { OnOk result (bytes.new.items ≡ bytes.old.items ++ tsig_octets signature.now) }
+    ensures bytes { OnOk result (bytes.new.items ≡ bytes.old.items ++ tsig_octets signature.now) }
+    ensures in_range { OnOk result (IsInRange (rdata_form.TSIG signature.now)) }
 {
     write_name(bytes, &signature.algorithm)?;
     write_u16(bytes, (signature.time >> 32) as u16)?;
@@ -247,8 +254,10 @@ fn write_signature_data(bytes: &mut Vec<u8>, signature: &TSIG) -> Result<(), All
 }
 
 fn write_data(bytes: &mut Vec<u8>, rdata: &RData) -> Result<(), AllocError>
-    requires { form_fault rdata.now ≡ None }
-    ensures { OnOk result (bytes.new.items ≡ bytes.old.items ++ data_octets rdata.now) }
+    requires form { form_fault rdata.now ≡ None }
+    requires kind { type_of rdata.now < 2 ^ 16 }
+    ensures bytes { OnOk result (bytes.new.items ≡ bytes.old.items ++ data_octets rdata.now) }
+    ensures in_range { OnOk result (IsInRange rdata.now) }
 {
     match rdata {
         RData::A(address) => bytes.extend_from_slice(&address.octets()),

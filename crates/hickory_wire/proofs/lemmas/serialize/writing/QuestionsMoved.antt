@@ -1,13 +1,12 @@
 -- A question that was read behind the header of a request stands in the bytes of its reply, and so do questions in full.
-use Rattle.std.proofs.Common.{◌≡◌, ℕ, ◌+◌, ◌-◌, ◌<◌, ◌≤◌, List, [], ◌∷◌, ◌++◌, length, get_or, take, drop, replicate, refl, sym, ap, subst, ◌∙◌, arith, length-append}
-use Rattle.std.proofs.lemmas.List.{get_or-append-add, get_or-drop, get_or-take, length-drop, length-take, append_assoc}
+use Rattle.std.proofs.Common.{◌≡◌, ℕ, ◌+◌, ◌-◌, ◌<◌, ◌≤◌, List, [], ◌∷◌, ◌++◌, length, get_or, take, drop, replicate, sym, ap, subst, ◌∙◌, arith, length-append}
+use Rattle.std.proofs.lemmas.List.{get_or-append-add, get_or-drop, get_or-take, length-drop, length-take}
 use Rattle.std.specs.Prelude.{slice_range}
 use Rattle.std.specs.List.{AllByRecursion, flat_map}
-use Rattle.std.specs.Int.{w16, to_be_bytes}
 use Rattle.hickory_wire.specs.serialize.layout.Bytes.{BytesAt, KeepsFrom}
 use Rattle.hickory_wire.specs.rr.domain.DomainName.{AreLabels}
 use Rattle.hickory_wire.specs.serialize.layout.MessageLayout.{ItemsAt}
-use Rattle.hickory_wire.specs.serialize.layout.NameLayout.{LabelsAt, NameAt}
+use Rattle.hickory_wire.specs.serialize.layout.NameLayout.{LabelsAt}
 use Rattle.hickory_wire.specs.serialize.layout.NameLayout.LabelsAt.{at_end, at_label, at_pointer}
 use Rattle.hickory_wire.specs.serialize.writing.QuestionForm.{question_octets}
 use Rattle.hickory_wire.specs.serialize.layout.QuestionLayout.{QuestionAt}

@@ -1,4 +1,4 @@
-use Rattle.std.proofs.Common.{◌≡◌, ℕ, IfOk, rules, subst}
+use Rattle.std.proofs.Common.{◌≡◌, ℕ, rules, subst}
 use Rattle.std.proofs.lemmas.Result.{IfOk-weaker}
 use Rattle.hickory_wire.specs.serialize.writing.Endings.{RecordEnds}
 use Rattle.hickory_wire.specs.declared.rr.rdata.RData.{RData}
