@@ -3,6 +3,7 @@ pub mod Decoding
 pub mod Encoder
 pub mod Endings
 pub mod FullForm
+pub mod OwnerNames
 pub mod QuestionForm
 pub mod ReadingBack
 pub mod RecordSize
