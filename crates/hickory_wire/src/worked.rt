@@ -23,7 +23,8 @@ ghost use Rattle.hickory_wire.specs.worked.Worked.{header_of_flags, with_counts,
 ghost use Rattle.hickory_wire.specs.worked.Worked.{saying, with_sig, opt_every_field, every_field, opt_record_at_root, opt_record_at_a, with_edns, with_signature, two_opts};
 ghost use Rattle.hickory_wire.specs.worked.Worked.{www_query, www_question, asking, www_message, chaos_query, chaos_question, chaos_message, query_version_one, version_one_message, message_of_two_opts, bad_version, bad_version_message, empty_message};
 ghost use Rattle.hickory_wire.specs.worked.WorkedLists.{additions_left_out, five_lists, five_lists_cut, five_lists_in_full, five_lists_truncated, five_lists_whole, formless_and_large};
-ghost use Rattle.hickory_wire.specs.worked.WorkedReplies.{www_reply, www_reply_in_full, www_reply_compressed, www_reply_cut, serv_fail, one_answer, answer_left_out, opt_alone, signature_alone, dnssec_ok_reply, dnssec_ok_bytes, bad_version_reply, bad_version_bytes, signed_reply, signed_bytes, long_reply, one_of_three, long_reply_cut, hundred_answers, sixteen_of_hundred, sixteen_answers, formless_reply};
+ghost use Rattle.hickory_wire.specs.serialize.writing.OwnerNames.{PutsRepeating};
+ghost use Rattle.hickory_wire.specs.worked.WorkedReplies.{www_answer, www_answer_bytes, www_answer_again, first_owner, www_reply, www_reply_in_full, www_reply_compressed, www_reply_cut, serv_fail, one_answer, answer_left_out, opt_alone, signature_alone, dnssec_ok_reply, dnssec_ok_bytes, bad_version_reply, bad_version_bytes, signed_reply, signed_bytes, long_reply, one_of_three, long_reply_cut, hundred_answers, sixteen_of_hundred, sixteen_answers, formless_reply};
 ghost use Rattle.hickory_wire.specs.serialize.writing.Writing.{Written, Encoded, written_header, fallback_header};
 ghost use Rattle.hickory_wire.specs.declared.error.DecodeError.TheVariants as decode_error;
 ghost use Rattle.hickory_wire.specs.declared.protocol.Protocol.TheVariants as protocol;
@@ -197,6 +198,13 @@ pub fn worked_replies()
     ensures dnssec_ok { Written 512 dnssec_ok_reply dnssec_ok_bytes opt_alone }
     ensures bad_version { Written 512 bad_version_reply bad_version_bytes opt_alone }
     ensures signed { Written 512 signed_reply signed_bytes signature_alone }
+{}
+
+/// Which bytes repeat an owner name: a pointer to where it stood, and not the name in full.
+pub fn worked_owner_names()
+    ensures repeated { PutsRepeating 512 (first_owner ∷ []) www_reply_compressed (www_answer ∷ []) (www_reply_compressed ++ www_answer_again) }
+    ensures in_full_again { ¬ PutsRepeating 512 (first_owner ∷ []) www_reply_compressed (www_answer ∷ []) (www_reply_compressed ++ www_answer_bytes) }
+    ensures in_full_first { PutsRepeating 512 [] www_reply_compressed (www_answer ∷ []) (www_reply_compressed ++ www_answer_bytes) }
 {}
 
 /// As which bytes a reply with all five lists may be written within a limit: in full, and without OPT and TSIG.

@@ -1,4 +1,5 @@
 -- Lemmas of the places and parts of requests.
+pub mod MessagesCompared
 pub mod QuestionPlaces
 pub mod RequestForms
 pub mod RequestParts

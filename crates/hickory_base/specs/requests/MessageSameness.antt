@@ -1,18 +1,33 @@
--- How messages are compared: field by field, with the comparisons of the fields.
-use Rattle.std.specs.Prelude.{Bool}
-use Rattle.std.specs.Cmp.Lexicographic.{pointwise}
-use Rattle.std.specs.Option.{option_eq}
-use Rattle.std.specs.Ordering.{eq_of_both, on}
-use Rattle.hickory_wire.specs.op.EdnsSameness.{edns_eq}
-use Rattle.hickory_wire.specs.declared.op.header.Metadata.{Metadata}
-use Rattle.hickory_wire.specs.declared.rr.rdata.RData.{RData}
+-- When two messages of requests are the same: in each field, records as records compare, by neither TTL nor proof, names in any letter case, and the
+-- bytes of the questions as bytes.
+use Rattle.std.specs.Prelude.{◌≡◌, ℕ, List, Option, Some, None}
+use Rattle.std.specs.List.{AllZip}
+use Rattle.hickory_wire.specs.op.QuestionSameness.{SameQuestion}
+use Rattle.hickory_wire.specs.rr.RecordSameness.{SameRecord}
+use Rattle.hickory_wire.specs.serialize.layout.MessageLayout.{tsig_record}
 use Rattle.hickory_wire.specs.declared.rr.record.Record.{Record}
 use Rattle.hickory_wire.specs.declared.rr.tsig.TSIG.{TSIG}
-use Rattle.hickory_base.specs.requests.Questions.{section_eq}
+use Rattle.hickory_base.specs.requests.Questions.{QuestionSection}
 use Rattle.hickory_base.specs.declared.requests.message_request.MessageRequest.{MessageRequest}
 
--- header, questions with their bytes, the records of three sections one by one, the signature, and EDNS
-abbrev pub message_eq : (Metadata → Metadata → Bool) → (Record RData → Record RData → Bool) → (Record TSIG → Record TSIG → Bool) → MessageRequest → MessageRequest → Bool
-message_eq metadata_eq record_eq signature_eq = eq_of_both (on (λ m. m.metadata) metadata_eq) (eq_of_both (on (λ m. m.queries) section_eq)
-    (eq_of_both (on (λ m. m.answers) (pointwise record_eq)) (eq_of_both (on (λ m. m.authorities) (pointwise record_eq)) (eq_of_both (on (λ m. m.additionals) (pointwise record_eq))
-    (eq_of_both (on (λ m. m.signature) (option_eq signature_eq)) (on (λ m. m.edns) (option_eq edns_eq)))))))
+-- the same questions one by one, and the same bytes
+pub record SameQuestions (a b : QuestionSection) : Type 0 where
+  pub queries : AllZip SameQuestion a.queries b.queries
+  pub bytes : a.bytes ≡ b.bytes
+
+-- the same TSIG record, or none in both
+abbrev pub SameSignature : Option (Record TSIG) → Option (Record TSIG) → Type 0
+SameSignature None None = Unit {0}
+SameSignature None (Some b) = ⊥
+SameSignature (Some a) None = ⊥
+SameSignature (Some a) (Some b) = SameRecord (tsig_record a) (tsig_record b)
+
+-- Messages are the same.
+pub record SameMessage (a b : MessageRequest) : Type 0 where
+  pub metadata : a.metadata ≡ b.metadata
+  pub queries : SameQuestions a.queries b.queries
+  pub answers : AllZip SameRecord a.answers b.answers
+  pub authorities : AllZip SameRecord a.authorities b.authorities
+  pub additionals : AllZip SameRecord a.additionals b.additionals
+  pub signature : SameSignature a.signature b.signature
+  pub edns : a.edns ≡ b.edns

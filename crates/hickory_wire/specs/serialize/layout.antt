@@ -1,5 +1,6 @@
 -- How values stand in bytes, as relations.
 pub mod Bytes
+pub mod FieldRanges
 pub mod HeaderLayout
 pub mod MessageLayout
 pub mod NameLayout

@@ -3,6 +3,7 @@ pub mod Decoding
 pub mod Encoder
 pub mod Endings
 pub mod FullForm
+pub mod OwnerNames
 pub mod QuestionForm
 pub mod ReadingBack
 pub mod RecordSize
@@ -10,3 +11,4 @@ pub mod Reply
 pub mod ReplyParts
 pub mod WholeReply
 pub mod Writing
+pub mod WrittenParts

@@ -2,6 +2,7 @@
 use Rattle.std.specs.Prelude.{ℕ, zero, suc, List, [], ◌∷◌, ◌++◌, true, false, replicate, Option, Some, None}
 use Rattle.hickory_wire.specs.rr.Addresses.{ipv4_of}
 use Rattle.hickory_wire.specs.op.EdnsFields.{EdnsFields}
+use Rattle.hickory_wire.specs.serialize.writing.OwnerNames.{OwnerPlace}
 use Rattle.hickory_wire.specs.serialize.writing.Reply.{Reply}
 use Rattle.hickory_wire.specs.worked.Worked.{root, www_name, record_of, address, letters, response, saying, tsig_zeros, signature_record}
 use Rattle.hickory_wire.specs.serialize.writing.Writing.{ListFront, Fronts}
@@ -44,6 +45,14 @@ www_reply_compressed = 0x12 ∷ 0x34 ∷ 0x85 ∷ 0x00 ∷ 0x00 ∷ 0x01 ∷ 0x0
     ∷ 0x07 ∷ 0x65 ∷ 0x78 ∷ 0x61 ∷ 0x6d ∷ 0x70 ∷ 0x6c ∷ 0x65 ∷ 0x03 ∷ 0x63 ∷ 0x6f ∷ 0x6d ∷ 0x00 ∷ 0x00 ∷ 0x01 ∷ 0x00
     ∷ 0x01 ∷ 0xc0 ∷ 0x0c ∷ 0x00 ∷ 0x01 ∷ 0x00 ∷ 0x01 ∷ 0x00 ∷ 0x00 ∷ 0x0e ∷ 0x10 ∷ 0x00 ∷ 0x04 ∷ 0x5d ∷ 0xb8 ∷ 0xd7
     ∷ 0x0e ∷ []
+
+-- the answer again, its name a pointer to 33, where a pointer to 12 stands
+abbrev pub www_answer_again : List ℕ
+www_answer_again = 0xc0 ∷ 0x21 ∷ 0x00 ∷ 0x01 ∷ 0x00 ∷ 0x01 ∷ 0x00 ∷ 0x00 ∷ 0x0e ∷ 0x10 ∷ 0x00 ∷ 0x04 ∷ 0x5d ∷ 0xb8 ∷ 0xd7 ∷ 0x0e ∷ []
+
+-- where the first answer was put
+abbrev pub first_owner : OwnerPlace
+first_owner = record { place = 33; labels = www_name.labels }
 
 -- without the answer, TC set
 abbrev pub www_reply_cut : List ℕ

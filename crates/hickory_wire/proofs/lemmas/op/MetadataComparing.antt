@@ -1,5 +1,5 @@
 -- That headers which compare as equal are one, and the other way round.
-use Rattle.std.proofs.Common.{◌≡◌, ℕ, Bool, true, ◌&&◌, nat_eq, rules, ap, ◌∙◌}
+use Rattle.std.proofs.Common.{◌≡◌, Bool, true, ◌&&◌, nat_eq, rules, ap, ◌∙◌}
 use Rattle.std.specs.Bool.{beq}
 use denote.Enum.Bare.{sameb, same_true, true_same}
 use Rattle.hickory_wire.specs.contracts.op.header.MessageType.{the_type}

@@ -5,5 +5,6 @@ pub mod FormKeeps
 pub mod HeaderBits
 pub mod LabelBounds
 pub mod MessageTail
+pub mod Ranges
 pub mod Stable
 pub mod Stands

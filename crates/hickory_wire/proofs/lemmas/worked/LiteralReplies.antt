@@ -57,6 +57,7 @@ pub put_answer : (limit : ℕ) (old : List ℕ) → 12 ≤ length old → length
 put_answer limit old outside room = record {
   more = www_answer_bytes;
   formed = refl;
+  in_range = record { class = omega arith; ttl = omega arith; rdata = record { four = refl } };
   appended = refl;
   in_full = tt;
   small = omega arith;
@@ -77,6 +78,7 @@ pub put_address : (limit : ℕ) (old : List ℕ) → 12 ≤ length old → lengt
 put_address limit old outside room = record {
   more = a_record;
   formed = refl;
+  in_range = record { class = omega arith; ttl = omega arith; rdata = record { four = refl } };
   appended = refl;
   in_full = tt;
   small = omega arith;

@@ -24,7 +24,7 @@ returns-clause-www_decodable c = record {
   );
   questions = (record { name = refl; query_type = omega arith; query_class = omega arith }, tt);
   question_count = refl;
-  answers = (record { formed = record { name = refl; class = omega arith; ttl = omega arith; rdata = record { four = refl }; proof = refl }; section = refl }, tt);
+  answers = (record { name = refl; rdata = tt; section = refl }, tt);
   authorities = tt;
   soa = tt;
   additionals = tt;
@@ -42,7 +42,7 @@ returns-clause-bad_version_decodable c = record {
   authorities = tt;
   soa = tt;
   additionals = tt;
-  edns = record { max_payload = omega arith; rcode_high = omega arith; version = omega arith; reserved_flags = omega arith; options = tt };
+  edns = record { rcode_high = omega arith; version = omega arith; reserved_flags = omega arith };
   signature = tt;
 }
 

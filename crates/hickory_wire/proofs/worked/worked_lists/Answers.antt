@@ -1,8 +1,9 @@
 -- A reply with all five lists, each record put in full behind the one before.
-use Rattle.std.proofs.Common.{◌≡◌, ℕ, ◌+◌, ◌^◌, ◌<◌, ◌≤◌, List, [], ◌∷◌, ◌++◌, length, None, refl, sym, subst, arith}
+use Rattle.std.proofs.Common.{◌≡◌, ℕ, ◌+◌, ◌^◌, ◌<◌, ◌≤◌, List, [], ◌++◌, length, None, refl, sym, subst, arith}
 use Rattle.std.proofs.lemmas.List.Elements.{All-from_recursion}
 use Rattle.hickory_wire.specs.rr.domain.DomainName.{IsLabel, AreLabels}
 use Rattle.hickory_wire.specs.serialize.writing.FullForm.{HasNames, record_octets}
+use Rattle.hickory_wire.specs.serialize.layout.FieldRanges.{IsRecordInRange}
 use Rattle.hickory_wire.specs.serialize.layout.MessageLayout.{tsig_record}
 use Rattle.hickory_wire.specs.serialize.writing.RecordSize.{data_len, form_fault, full_size}
 use Rattle.hickory_wire.specs.serialize.writing.Reply.{opt_record}
@@ -22,8 +23,8 @@ no_labels : AreLabels []
 no_labels = record { each = All-from_recursion IsLabel [] tt; short = omega arith }
 
 -- a record of the root is put in full
-put_root : (limit : ℕ) (old : List ℕ) (r : Record RData) → 12 ≤ length old → r.name.labels ≡ [] → HasNames r.rdata → form_fault r.rdata ≡ None → data_len r.rdata < 2 ^ 16 → length old + full_size r ≤ limit → Puts limit old r (old ++ record_octets r)
-put_root limit old r low is names formed small fit = puts_full limit old (old ++ record_octets r) r low (subst AreLabels (sym is) no_labels) names formed small refl fit
+put_root : (limit : ℕ) (old : List ℕ) (r : Record RData) → 12 ≤ length old → r.name.labels ≡ [] → HasNames r.rdata → form_fault r.rdata ≡ None → IsRecordInRange r → data_len r.rdata < 2 ^ 16 → length old + full_size r ≤ limit → Puts limit old r (old ++ record_octets r)
+put_root limit old r low is names formed in_range small fit = puts_full limit old (old ++ record_octets r) r low (subst AreLabels (sym is) no_labels) names formed in_range small refl fit
 
 abbrev root_answer : Record RData
 root_answer = record_of root 1 0 address
@@ -51,22 +52,22 @@ abbrev six : List ℕ
 six = five ++ record_octets (tsig_record signature_record)
 
 put_answer : (limit : ℕ) → 84 ≤ limit → Puts limit start root_answer one
-put_answer limit fit = put_root limit start root_answer (omega arith) refl tt refl (omega arith) (omega arith)
+put_answer limit fit = put_root limit start root_answer (omega arith) refl tt refl (record { class = omega arith; ttl = omega arith; rdata = record { four = refl } }) (omega arith) (omega arith)
 
 put_server : (limit : ℕ) → 84 ≤ limit → Puts limit one root_server two
-put_server limit fit = put_root limit one root_server (omega arith) refl no_labels refl (omega arith) (omega arith)
+put_server limit fit = put_root limit one root_server (omega arith) refl no_labels refl (record { class = omega arith; ttl = omega arith; rdata = tt }) (omega arith) (omega arith)
 
 put_authority : (limit : ℕ) → 84 ≤ limit → Puts limit two root_authority three
-put_authority limit fit = put_root limit two root_authority (omega arith) refl (no_labels, no_labels) refl (omega arith) (omega arith)
+put_authority limit fit = put_root limit two root_authority (omega arith) refl (no_labels, no_labels) refl (record { class = omega arith; ttl = omega arith; rdata = (omega arith, omega arith, omega arith, omega arith, omega arith) }) (omega arith) (omega arith)
 
 put_pointer : (limit : ℕ) → 84 ≤ limit → Puts limit three root_pointer four
-put_pointer limit fit = put_root limit three root_pointer (omega arith) refl no_labels refl (omega arith) (omega arith)
+put_pointer limit fit = put_root limit three root_pointer (omega arith) refl no_labels refl (record { class = omega arith; ttl = omega arith; rdata = tt }) (omega arith) (omega arith)
 
 put_opt : Puts 123 four (opt_record dnssec_ok_fields) five
-put_opt = put_root 123 four (opt_record dnssec_ok_fields) (omega arith) refl tt refl (omega arith) (omega arith)
+put_opt = put_root 123 four (opt_record dnssec_ok_fields) (omega arith) refl tt refl (record { class = omega arith; ttl = omega arith; rdata = tt }) (omega arith) (omega arith)
 
 put_signature : Puts 123 five (tsig_record signature_record) six
-put_signature = put_root 123 five (tsig_record signature_record) (omega arith) refl no_labels refl (omega arith) (omega arith)
+put_signature = put_root 123 five (tsig_record signature_record) (omega arith) refl no_labels refl (record { class = omega arith; ttl = omega arith; rdata = (omega arith, omega arith, omega arith, omega arith, omega arith, omega arith) }) (omega arith) (omega arith)
 
 pub returns-clause-in_full : goal.returns-clause-in_full
 returns-clause-in_full c = record {

@@ -29,6 +29,7 @@ answer_compressed : Puts 512 (asked_bytes www_reply) www_answer (body_of www_rep
 answer_compressed = record {
   more = drop 33 www_reply_compressed;
   formed = refl;
+  in_range = record { class = omega arith; ttl = omega arith; rdata = record { four = refl } };
   appended = refl;
   in_full = tt;
   small = omega arith;
@@ -111,6 +112,7 @@ dnssec_ok_put : Puts 512 (asked_bytes dnssec_ok_reply) (opt_record dnssec_ok_fie
 dnssec_ok_put = record {
   more = drop 12 dnssec_ok_bytes;
   formed = refl;
+  in_range = record { class = omega arith; ttl = omega arith; rdata = tt };
   appended = refl;
   in_full = tt;
   small = omega arith;
@@ -132,6 +134,7 @@ bad_version_put : Puts 512 (asked_bytes bad_version_reply) (opt_record bad_versi
 bad_version_put = record {
   more = drop 12 bad_version_bytes;
   formed = refl;
+  in_range = record { class = omega arith; ttl = omega arith; rdata = tt };
   appended = refl;
   in_full = tt;
   small = omega arith;
@@ -153,6 +156,7 @@ signature_put : Puts 512 (asked_bytes signed_reply) (tsig_record signature_recor
 signature_put = record {
   more = drop 12 signed_bytes;
   formed = refl;
+  in_range = record { class = omega arith; ttl = omega arith; rdata = (omega arith, omega arith, omega arith, omega arith, omega arith, omega arith) };
   appended = refl;
   in_full = (take 11 (drop 12 signed_bytes), refl);
   small = omega arith;

@@ -2,11 +2,11 @@
 use Rattle.std.specs.Prelude.{◌≡◌, ℕ, zero, suc, ◌%◌, ◌<◌, ◌^◌, List, ◌++◌, length, take, map, ◌||◌, Option, None, option_map, IfSome}
 use Rattle.std.specs.List.{AllByRecursion}
 use Rattle.hickory_wire.specs.op.EdnsFields.{EdnsFields}
-use Rattle.hickory_wire.specs.serialize.layout.MessageLayout.{ItemsAt, IsSectionRecord, tsig_record}
+use Rattle.hickory_wire.specs.serialize.layout.MessageLayout.{ItemsAt, IsSectionRecord}
 use Rattle.hickory_wire.specs.serialize.reading.MessageReading.{high_code, with_high_code}
 use Rattle.hickory_wire.specs.serialize.layout.QuestionLayout.{QuestionAt, IsFormedQuestion}
-use Rattle.hickory_wire.specs.rr.RecordData.{IsOption}
-use Rattle.hickory_wire.specs.serialize.layout.RecordLayout.{IsFormedRecord}
+use Rattle.hickory_wire.specs.serialize.layout.FieldRanges.{IsReadAsItsType}
+use Rattle.hickory_wire.specs.serialize.layout.NameLayout.{IsFullyQualified}
 use Rattle.hickory_wire.specs.serialize.writing.Reply.{Reply}
 use Rattle.hickory_wire.specs.serialize.writing.Writing.{Fronts, asked_bytes, is_any_cut}
 use Rattle.hickory_wire.specs.declared.op.header.Metadata.{Metadata}
@@ -15,23 +15,29 @@ use Rattle.hickory_wire.specs.declared.op.query.Query.{Query}
 use Rattle.hickory_wire.specs.declared.rr.rdata.RData.{RData}
 use Rattle.hickory_wire.specs.declared.rr.record.Proof.TheVariants.{Indeterminate}
 use Rattle.hickory_wire.specs.declared.rr.record.Record.{Record}
+use Rattle.hickory_wire.specs.declared.rr.tsig.TSIG.{TSIG}
 
 -- the record as it is read: nothing is known of its proof
 abbrev pub without_proof : {R : Type 0} → Record R → Record R
 without_proof r = record r { proof = Indeterminate }
 
--- a record of a section that reads back as itself where it is written, but for its proof
+-- A record of a section that reads back as itself where it is written, but for its proof. That its numbers are such as its fields hold is seen to where
+-- it is written.
 pub record IsReadable (r : Record RData) : Type 0 where
-  pub formed : IsFormedRecord (without_proof r)
+  pub name : IsFullyQualified r.name
+  pub rdata : IsReadAsItsType r.rdata
   pub section : IsSectionRecord r
 
--- fields that fit the OPT record
+-- the same of a TSIG
+pub record IsReadableSignature (r : Record TSIG) : Type 0 where
+  pub name : IsFullyQualified r.name
+  pub algorithm : IsFullyQualified r.rdata.algorithm
+
+-- fields that fit the TTL of an OPT record
 pub record IsFormedEdns (e : EdnsFields) : Type 0 where
-  pub max_payload : e.max_payload < 2 ^ 16
   pub rcode_high : e.rcode_high < 2 ^ 8
   pub version : e.version < 2 ^ 8
   pub reserved_flags : e.reserved_flags < 2 ^ 15
-  pub options : AllByRecursion IsOption e.options
 
 -- id, kind and code within their bits
 pub record IsFormedMetadata (m : Metadata) : Type 0 where
@@ -51,7 +57,7 @@ pub record IsDecodable (reply : Reply) (queries : List Query) : Type 0 where
   pub soa : AllByRecursion IsReadable reply.soa
   pub additionals : AllByRecursion IsReadable reply.additionals
   pub edns : IfSome reply.edns IsFormedEdns
-  pub signature : IfSome reply.signature (λ signature. IsFormedRecord (tsig_record (without_proof signature)))
+  pub signature : IfSome reply.signature IsReadableSignature
 
 -- what an option holds, where so much of its list was written
 abbrev pub front_of_option : {A : Type 0} → ℕ → Option A → Option A

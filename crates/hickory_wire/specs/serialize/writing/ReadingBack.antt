@@ -1,5 +1,5 @@
 -- Records and replies that read back as themselves.
-use Rattle.std.specs.Prelude.{ℕ, List, length}
+use Rattle.std.specs.Prelude.{List, length}
 use Rattle.std.specs.List.{AllByRecursion}
 use Rattle.hickory_wire.specs.serialize.writing.Decoding.{IsDecodable, without_proof}
 use Rattle.hickory_wire.specs.serialize.writing.FullForm.{record_octets}

@@ -2,6 +2,7 @@
 -- Records are left out one by one, and TC tells of any that were: also of additionals, which RFC 2181 section 9 would let go silently.
 use Rattle.std.specs.Prelude.{◌≡◌, ℕ, ◌+◌, ◌<◌, ◌≤◌, List, [], ◌∷◌, ◌++◌, length, take, drop, replicate, Bool, true, false, ◌||◌, Option, Some, None}
 use Rattle.hickory_wire.specs.serialize.writing.FullForm.{EndsInFull}
+use Rattle.hickory_wire.specs.serialize.layout.FieldRanges.{IsRecordInRange}
 use Rattle.hickory_wire.specs.serialize.layout.HeaderLayout.{header_octets}
 use Rattle.hickory_wire.specs.op.Metadata.{bare_metadata}
 use Rattle.hickory_wire.specs.serialize.layout.RecordLayout.{FormAt}
@@ -16,10 +17,11 @@ use Rattle.hickory_wire.specs.declared.rr.record.Record.{Record}
 
 -- new is old with the record behind it, in at most its full size and within the limit. Names in it may be compressed by pointers to
 -- earlier places outside the header at which the same labels stand (RFC 1035 section 4.1.4); a pointer reaches places below 2 ^ 14. The data of
--- a TSIG are in full.
+-- a TSIG are in full. The record's numbers are such as its fields hold.
 pub record Puts (limit : ℕ) (old : List ℕ) (r : Record RData) (new : List ℕ) : Type 0 where
   pub more : List ℕ
   pub formed : form_fault r.rdata ≡ None
+  pub in_range : IsRecordInRange r
   pub appended : new ≡ old ++ more
   pub in_full : EndsInFull r.rdata more
   pub small : length more ≤ full_size r

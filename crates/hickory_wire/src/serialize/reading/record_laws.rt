@@ -1,12 +1,14 @@
 //! Laws of records and questions, each the contract of a function with nothing to do: how they stand in bytes is how they are read.
 
-ghost use Rattle.std.specs.Prelude.{◌≡◌, ◌≤◌, ◌+◌, ◌⊎◌, ◌↔◌, ◌++◌, ℕ, List, [], length, replicate, slice_range, None, Ok};
+ghost use Rattle.std.specs.Prelude.{◌≡◌, ◌≤◌, ◌+◌, ◌⊎◌, ◌↔◌, ◌++◌, ℕ, List, [], length, replicate, slice_range, take, None, Ok};
 ghost use Rattle.std.specs.List.{AllByRecursion, flat_map};
 ghost use Rattle.hickory_wire.specs.serialize.layout.Bytes.{AreBytes, BytesAt, KeepsFrom};
 ghost use Rattle.hickory_wire.specs.serialize.reading.Cursor.{Cursor};
 ghost use Rattle.hickory_wire.specs.rr.domain.DomainName.{AreLabels, name_len};
 ghost use Rattle.hickory_wire.specs.serialize.writing.FullForm.{HasNames, record_octets};
+ghost use Rattle.hickory_wire.specs.serialize.layout.FieldRanges.{IsReadAsItsType, IsRecordInRange};
 ghost use Rattle.hickory_wire.specs.serialize.layout.MessageLayout.{ItemsAt};
+ghost use Rattle.hickory_wire.specs.serialize.layout.NameLayout.{IsFullyQualified};
 ghost use Rattle.hickory_wire.specs.serialize.writing.QuestionForm.{question_octets};
 ghost use Rattle.hickory_wire.specs.serialize.layout.QuestionLayout.{QuestionAt, IsFormedQuestion};
 ghost use Rattle.hickory_wire.specs.serialize.writing.ReadingBack.{ReadsBack};
@@ -18,6 +20,7 @@ ghost use Rattle.hickory_wire.specs.declared.op.edns.EdnsOption.{EdnsOption};
 ghost use Rattle.hickory_wire.specs.declared.op.query.Query.{Query};
 ghost use Rattle.hickory_wire.specs.declared.rr.rdata.RData.{RData};
 ghost use Rattle.hickory_wire.specs.declared.rr.rdata.RData.TheVariants.{OPT};
+ghost use Rattle.hickory_wire.specs.declared.rr.record.Proof.TheVariants.{Indeterminate};
 ghost use Rattle.hickory_wire.specs.declared.rr.record.Record.{Record};
 
 /// A record and a question stay where they are when bytes are put behind them or bytes below their floor change.
@@ -79,15 +82,21 @@ pub fn question_forms()
 {}
 
 /// Which records read back as themselves: those whose parts are such as are read, whose names are names, and whose octets have a form in
-/// bytes, their lengths told in the fields that are there for them.
+/// bytes, their lengths told in the fields that are there for them. Parts are such as are read where the fields hold their numbers, which is so
+/// of every record that was written; names are fully qualified; and octets are read as data of their type.
 pub fn reading_back()
-    ensures { (r : Record RData) → ReadsBack r ↔ (IsFormedRecord r × AreLabels r.name.labels × HasNames r.rdata × (form_fault r.rdata ≡ None)) }
+    ensures parts { (r : Record RData) → IsFormedRecord r ↔ (IsRecordInRange r × IsFullyQualified r.name × IsReadAsItsType r.rdata × (r.proof ≡ Indeterminate)) }
+    ensures records { (r : Record RData) → ReadsBack r ↔ (IsFormedRecord r × AreLabels r.name.labels × HasNames r.rdata × (form_fault r.rdata ≡ None)) }
 {}
 
 /// A question that was read behind the header of a request, with no byte of its name in the header, stands at that place in a reply that
-/// repeats the bytes of the question; so do questions that a reply has in full (RFC 1035 sections 4.1.1 and 4.1.2).
+/// repeats the bytes of the question; so do several questions, also where their names lead to one another by compression pointers, as long
+/// as none of their names leads into the header or runs on behind the last question; and so do questions that a reply has in full (RFC 1035
+/// sections 4.1.1, 4.1.2 and 4.1.4).
 pub fn questions_of_replies()
     ensures repeated { (bytes : List ℕ) (q : Query) (stop : ℕ) → QuestionAt 12 bytes 12 q stop → QuestionAt 12 (replicate 12 0 ++ slice_range bytes 12 stop) 12 q stop }
+    ensures several { (bytes : List ℕ) (queries : List Query) (stop : ℕ) → stop ≤ length bytes → ItemsAt (QuestionAt 12 (take stop bytes)) 12 queries stop →
+        ItemsAt (QuestionAt 12 (replicate 12 0 ++ slice_range bytes 12 stop)) 12 queries stop × (length (replicate 12 0 ++ slice_range bytes 12 stop) ≡ stop) }
     ensures in_full { (bytes : List ℕ) (floor place : ℕ) (queries : List Query) → AllByRecursion (λ q. AreLabels q.name.labels) queries → floor ≤ place → BytesAt bytes place (flat_map question_octets queries) →
         ItemsAt (QuestionAt floor bytes) place queries (place + length (flat_map question_octets queries)) }
 {}

@@ -1,9 +1,11 @@
 //! The data of records in bytes, with every name in full.
 
-ghost use Rattle.std.specs.Prelude.{◌≡◌, ℕ, ◌+◌, ◌<◌, ◌≤◌, ◌++◌, length, OnOk, MatchResult, Some, None, nat_lt};
+ghost use Rattle.std.specs.Prelude.{◌≡◌, ℕ, ◌+◌, ◌^◌, ◌<◌, ◌≤◌, ◌++◌, length, OnOk, MatchResult, Some, None, nat_lt};
 ghost use Rattle.std.specs.List.{flat_map, list_any};
 ghost use Rattle.std.specs.Int.{w16, w32, to_be_bytes};
 ghost use Rattle.hickory_wire.specs.rr.domain.DomainName.{name_len, AreLabels};
+ghost use Rattle.hickory_wire.specs.serialize.layout.FieldRanges.{IsInRange};
+ghost use Rattle.hickory_wire.specs.serialize.writing.WrittenParts.{rdata_of};
 ghost use Rattle.hickory_wire.specs.serialize.writing.FullForm.{name_octets, soa_octets, tsig_octets, data_octets, HasNames, HasLength};
 ghost use Rattle.hickory_wire.specs.rr.RecordData.{character_string, option_octets, soa_numbers, tsig_fields, type_of};
 ghost use Rattle.hickory_wire.specs.serialize.writing.RecordSize.{data_len, form_fault, length_fault};
@@ -13,6 +15,7 @@ use crate::error::ProtoError;
 use crate::op::edns::EdnsOption;
 use crate::rr::domain::name::Name;
 use crate::rr::rdata::{RData, SOA};
+use crate::rr::record_type::RecordType;
 use crate::rr::tsig::TSIG;
 use crate::values::octets::Octets;
 use std::alloc::AllocError;
@@ -56,7 +59,7 @@ fn strings_len(strings: &[Octets]) -> Result<u16, ProtoError>
     Ok(len as u16)
 }
 
-pub(crate) fn options_len(options: &[EdnsOption]) -> Result<u16, ProtoError>
+fn options_len(options: &[EdnsOption]) -> Result<u16, ProtoError>
     ensures { HasLength (rdata_form.OPT options.now) result }
 {
     let mut len = 0usize;
@@ -66,7 +69,7 @@ pub(crate) fn options_len(options: &[EdnsOption]) -> Result<u16, ProtoError>
     Ok(len as u16)
 }
 
-pub(crate) fn signature_len(signature: &TSIG) -> Result<u16, ProtoError>
+fn signature_len(signature: &TSIG) -> Result<u16, ProtoError>
     ensures len { HasLength (rdata_form.TSIG signature.now) result }
     ensures names { AreLabels signature.now.algorithm.labels }
 {
@@ -95,8 +98,57 @@ fn soa_len(soa: &SOA) -> u16
     full_name_len(&soa.mname) + full_name_len(&soa.rname) + 20
 }
 
-/// How many bytes data take with every name in full, or why they have no form in bytes.
-pub(crate) fn full_data_len(rdata: &RData) -> Result<u16, ProtoError>
+/// The data of a record that is written: its own, or those of the OPT or TSIG record that something else stands for.
+#[derive(Clone, Copy)]
+pub(crate) enum Data<'r> {
+    /// The record's own.
+    Own(&'r RData),
+    /// The options of an OPT record.
+    Options(&'r [EdnsOption]),
+    /// The data of a TSIG record.
+    Signature(&'r TSIG),
+}
+
+impl Data<'_> {
+    /// The type of the record.
+    pub(crate) fn record_type(self) -> RecordType
+        ensures { result ≡ type_of (rdata_of self.entry) }
+    {
+        match self {
+            Data::Own(rdata) => rdata.record_type(),
+            Data::Options(_) => RecordType::OPT,
+            Data::Signature(_) => RecordType::TSIG,
+        }
+    }
+
+    /// How many bytes the data take with every name in full, or why they have no form in bytes.
+    pub(crate) fn full_len(self) -> Result<u16, ProtoError>
+        ensures len { HasLength (rdata_of self.entry) result }
+        ensures names { HasNames (rdata_of self.entry) }
+    {
+        match self {
+            Data::Own(rdata) => full_data_len(rdata),
+            Data::Options(options) => options_len(options),
+            Data::Signature(signature) => signature_len(signature),
+        }
+    }
+
+    /// Puts the data behind the bytes, with every name in full.
+    pub(crate) fn write(self, bytes: &mut Vec<u8>) -> Result<(), AllocError>
+        requires form { form_fault (rdata_of self) ≡ None }
+        requires kind { type_of (rdata_of self) < 2 ^ 16 }
+        ensures bytes { OnOk result (bytes.new.items ≡ bytes.old.items ++ data_octets (rdata_of self.entry)) }
+        ensures in_range { OnOk result (IsInRange (rdata_of self.entry)) }
+    {
+        match self {
+            Data::Own(rdata) => write_data(bytes, rdata),
+            Data::Options(options) => write_options(bytes, options),
+            Data::Signature(signature) => write_signature_data(bytes, signature),
+        }
+    }
+}
+
+fn full_data_len(rdata: &RData) -> Result<u16, ProtoError>
     ensures len { HasLength rdata.now result }
     ensures names { HasNames rdata.now }
 {
@@ -150,7 +202,8 @@ fn write_counted(bytes: &mut Vec<u8>, octets: &Octets) -> Result<(), AllocError>
 }
 
 fn write_soa(bytes: &mut Vec<u8>, soa: &SOA) -> Result<(), AllocError>
-    ensures { OnOk result (bytes.new.items ≡ bytes.old.items ++ soa_octets soa.now) }
+    ensures bytes { OnOk result (bytes.new.items ≡ bytes.old.items ++ soa_octets soa.now) }
+    ensures in_range { OnOk result (IsInRange (rdata_form.SOA soa.now)) }
 {
     write_name(bytes, &soa.mname)?;
     write_name(bytes, &soa.rname)?;
@@ -163,7 +216,8 @@ fn write_soa(bytes: &mut Vec<u8>, soa: &SOA) -> Result<(), AllocError>
 
 fn write_strings(bytes: &mut Vec<u8>, strings: &[Octets]) -> Result<(), AllocError>
     requires { form_fault (rdata_form.TXT strings.now) ≡ None }
-    ensures { OnOk result (bytes.new.items ≡ bytes.old.items ++ flat_map character_string strings.now) }
+    ensures bytes { OnOk result (bytes.new.items ≡ bytes.old.items ++ flat_map character_string strings.now) }
+    ensures in_range { OnOk result (IsInRange (rdata_form.TXT strings.now)) }
 {
     for text in strings {
         bytes.push(text.len() as u8)?;
@@ -172,9 +226,10 @@ fn write_strings(bytes: &mut Vec<u8>, strings: &[Octets]) -> Result<(), AllocErr
     Ok(())
 }
 
-pub(crate) fn write_options(bytes: &mut Vec<u8>, options: &[EdnsOption]) -> Result<(), AllocError>
+fn write_options(bytes: &mut Vec<u8>, options: &[EdnsOption]) -> Result<(), AllocError>
     requires { form_fault (rdata_form.OPT options.now) ≡ None }
-    ensures { OnOk result (bytes.new.items ≡ bytes.old.items ++ flat_map option_octets options.now) }
+    ensures bytes { OnOk result (bytes.new.items ≡ bytes.old.items ++ flat_map option_octets options.now) }
+    ensures in_range { OnOk result (IsInRange (rdata_form.OPT options.now)) }
 {
     for option in options {
         write_u16(bytes, option.code)?;
@@ -183,9 +238,10 @@ pub(crate) fn write_options(bytes: &mut Vec<u8>, options: &[EdnsOption]) -> Resu
     Ok(())
 }
 
-pub(crate) fn write_signature_data(bytes: &mut Vec<u8>, signature: &TSIG) -> Result<(), AllocError>
+fn write_signature_data(bytes: &mut Vec<u8>, signature: &TSIG) -> Result<(), AllocError>
     requires { form_fault (rdata_form.TSIG signature.now) ≡ None }
-    ensures { OnOk result (bytes.new.items ≡ bytes.old.items ++ tsig_octets signature.now) }
+    ensures bytes { OnOk result (bytes.new.items ≡ bytes.old.items ++ tsig_octets signature.now) }
+    ensures in_range { OnOk result (IsInRange (rdata_form.TSIG signature.now)) }
 {
     write_name(bytes, &signature.algorithm)?;
     write_u16(bytes, (signature.time >> 32) as u16)?;
@@ -197,10 +253,11 @@ pub(crate) fn write_signature_data(bytes: &mut Vec<u8>, signature: &TSIG) -> Res
     write_counted(bytes, &signature.other)
 }
 
-/// Puts data behind the bytes, with every name in full.
-pub(crate) fn write_data(bytes: &mut Vec<u8>, rdata: &RData) -> Result<(), AllocError>
-    requires { form_fault rdata.now ≡ None }
-    ensures { OnOk result (bytes.new.items ≡ bytes.old.items ++ data_octets rdata.now) }
+fn write_data(bytes: &mut Vec<u8>, rdata: &RData) -> Result<(), AllocError>
+    requires form { form_fault rdata.now ≡ None }
+    requires kind { type_of rdata.now < 2 ^ 16 }
+    ensures bytes { OnOk result (bytes.new.items ≡ bytes.old.items ++ data_octets rdata.now) }
+    ensures in_range { OnOk result (IsInRange rdata.now) }
 {
     match rdata {
         RData::A(address) => bytes.extend_from_slice(&address.octets()),

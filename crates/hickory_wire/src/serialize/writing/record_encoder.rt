@@ -3,21 +3,17 @@
 ghost use Rattle.std.specs.Prelude.{◌≡◌, ℕ, ◌+◌, ◌*◌, ◌^◌, ◌<◌, ◌≤◌, ◌++◌, ◌↔◌, length, OnOk, IfOk, IsTrue};
 ghost use Rattle.std.specs.Int.{w16, w32, to_be_bytes};
 ghost use Rattle.hickory_wire.specs.serialize.writing.Endings.{RecordEnds};
-ghost use Rattle.hickory_wire.specs.serialize.writing.FullForm.{name_octets};
 ghost use Rattle.hickory_wire.specs.serialize.layout.MessageLayout.{tsig_record};
-ghost use Rattle.hickory_wire.specs.serialize.writing.RecordSize.{form_fault};
 ghost use Rattle.hickory_wire.specs.serialize.writing.Reply.{opt_record};
+ghost use Rattle.hickory_wire.specs.serialize.writing.WrittenParts.{record_of};
+ghost use Rattle.hickory_wire.specs.declared.rr.record.Proof.{Proof};
 
 use crate::error::ProtoError;
 use crate::op::edns::Edns;
 use crate::rr::domain::name::Name;
 use crate::rr::record::Record;
-use crate::rr::record_type::RecordType;
 use crate::rr::tsig::TSIG;
-use crate::serialize::writing::data_encoder::{
-    full_data_len, full_name_len, options_len, signature_len, write_data, write_name,
-    write_options, write_signature_data,
-};
+use crate::serialize::writing::data_encoder::{Data, full_name_len, write_name};
 use std::alloc::AllocError;
 
 /// How the writing of a record, or of a list of records, ended.
@@ -49,6 +45,15 @@ fn has_room(place: usize, limit: u16, name_len: u16, data_len: u16) -> bool
     size <= usize::from(limit) - place
 }
 
+// What a record is written of.
+#[derive(Clone, Copy)]
+struct Parts<'r> {
+    name: &'r Name,
+    dns_class: u16,
+    ttl: u32,
+    data: Data<'r>,
+}
+
 fn write_fixed(bytes: &mut Vec<u8>, fields: FixedFields) -> Result<(), AllocError>
     ensures { OnOk result (bytes.new.items ≡ bytes.old.items ++
         (to_be_bytes w16 fields.record_type ++ to_be_bytes w16 fields.dns_class ++ to_be_bytes w32 fields.ttl ++ to_be_bytes w16 fields.len)) }
@@ -60,6 +65,33 @@ fn write_fixed(bytes: &mut Vec<u8>, fields: FixedFields) -> Result<(), AllocErro
     bytes.extend_from_slice(&[
         type_high, type_low, class_high, class_low, ttl_1, ttl_2, ttl_3, ttl_4, len_high, len_low,
     ])
+}
+
+// Puts the record of these parts behind the bytes where it fits the limit; else the bytes stay.
+fn write_parts(bytes: &mut Vec<u8>, limit: u16, parts: Parts<'_>) -> Result<Ending, AllocError>
+    requires header { 12 ≤ length bytes.old.items }
+    requires fits { length bytes.old.items ≤ limit }
+    ensures { IfOk result (λ ending. (proof : Proof) → RecordEnds limit bytes.old.items (record_of parts.entry proof) bytes.new.items ending) }
+{
+    let len = match parts.data.full_len() {
+        Ok(len) => len,
+        Err(e) => return Ok(Ending::Stuck(e)),
+    };
+    if !has_room(bytes.len(), limit, full_name_len(parts.name), len) {
+        return Ok(Ending::Cut);
+    }
+    write_name(bytes, parts.name)?;
+    write_fixed(
+        bytes,
+        FixedFields {
+            record_type: parts.data.record_type().value(),
+            dns_class: parts.dns_class,
+            ttl: parts.ttl,
+            len,
+        },
+    )?;
+    parts.data.write(bytes)?;
+    Ok(Ending::Whole)
 }
 
 /// Puts a record behind the bytes where it fits the limit.
@@ -74,25 +106,16 @@ pub(crate) fn write_record(
     requires fits { length bytes.old.items ≤ limit }
     ensures { IfOk result (λ ending. RecordEnds limit bytes.old.items «record».now bytes.new.items ending) }
 {
-    let len = match full_data_len(&record.rdata) {
-        Ok(len) => len,
-        Err(e) => return Ok(Ending::Stuck(e)),
-    };
-    if !has_room(bytes.len(), limit, full_name_len(&record.name), len) {
-        return Ok(Ending::Cut);
-    }
-    write_name(bytes, &record.name)?;
-    write_fixed(
+    write_parts(
         bytes,
-        FixedFields {
-            record_type: record.rdata.record_type().value(),
+        limit,
+        Parts {
+            name: &record.name,
             dns_class: record.dns_class.value(),
             ttl: record.ttl,
-            len,
+            data: Data::Own(&record.rdata),
         },
-    )?;
-    write_data(bytes, &record.rdata)?;
-    Ok(Ending::Whole)
+    )
 }
 
 /// The same for the OPT record that says this (RFC 6891 section 6.1.2).
@@ -102,25 +125,16 @@ pub(crate) fn write_edns(bytes: &mut Vec<u8>, limit: u16, edns: &Edns) -> Result
     ensures { IfOk result (λ ending. RecordEnds limit bytes.old.items (opt_record edns.now) bytes.new.items ending) }
 {
     let root = Name::root();
-    let len = match options_len(edns.options()) {
-        Ok(len) => len,
-        Err(e) => return Ok(Ending::Stuck(e)),
-    };
-    if !has_room(bytes.len(), limit, full_name_len(&root), len) {
-        return Ok(Ending::Cut);
-    }
-    write_name(bytes, &root)?;
-    write_fixed(
+    write_parts(
         bytes,
-        FixedFields {
-            record_type: RecordType::OPT.value(),
+        limit,
+        Parts {
+            name: &root,
             dns_class: edns.max_payload(),
             ttl: edns.ttl(),
-            len,
+            data: Data::Options(edns.options()),
         },
-    )?;
-    write_options(bytes, edns.options())?;
-    Ok(Ending::Whole)
+    )
 }
 
 /// The same for a TSIG record.
@@ -133,23 +147,14 @@ pub(crate) fn write_signature(
     requires fits { length bytes.old.items ≤ limit }
     ensures { IfOk result (λ ending. RecordEnds limit bytes.old.items (tsig_record signature.now) bytes.new.items ending) }
 {
-    let len = match signature_len(&signature.rdata) {
-        Ok(len) => len,
-        Err(e) => return Ok(Ending::Stuck(e)),
-    };
-    if !has_room(bytes.len(), limit, full_name_len(&signature.name), len) {
-        return Ok(Ending::Cut);
-    }
-    write_name(bytes, &signature.name)?;
-    write_fixed(
+    write_parts(
         bytes,
-        FixedFields {
-            record_type: RecordType::TSIG.value(),
+        limit,
+        Parts {
+            name: &signature.name,
             dns_class: signature.dns_class.value(),
             ttl: signature.ttl,
-            len,
+            data: Data::Signature(&signature.rdata),
         },
-    )?;
-    write_signature_data(bytes, &signature.rdata)?;
-    Ok(Ending::Whole)
+    )
 }

@@ -1,6 +1,5 @@
 -- Data that have a form in bytes fit the length field of sixteen bits.
-use Rattle.std.proofs.Common.{◌≡◌, ℕ, ◌^◌, ◌<◌, ◌≤◌, Bool, true, false, List, length, Option, None, Some, arith, nat_lt, nat_le}
-use Rattle.std.specs.List.{list_any}
+use Rattle.std.proofs.Common.{◌≡◌, ℕ, ◌^◌, ◌<◌, Bool, true, false, Option, None, Some, arith}
 use Rattle.std.specs.Prelude.{if◌then◌else◌}
 use Rattle.hickory_wire.specs.serialize.writing.RecordSize.{data_len, form_fault, length_fault}
 use Rattle.hickory_wire.proofs.lemmas.serialize.writing.OctetLengths.{fitted}

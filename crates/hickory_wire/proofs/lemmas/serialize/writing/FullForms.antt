@@ -5,6 +5,7 @@ use Rattle.std.proofs.lemmas.List.Elements.{recursion_from_All}
 use Rattle.std.specs.List.{AllByRecursion}
 use Rattle.std.specs.Int.{w16, w32, to_be_bytes}
 use Rattle.hickory_wire.specs.serialize.layout.Bytes.{BytesAt}
+use Rattle.hickory_wire.specs.serialize.layout.FieldRanges.{IsRecordInRange}
 use Rattle.hickory_wire.specs.rr.domain.DomainName.{DomainName, IsLabel, AreLabels, wire_form, name_len}
 use Rattle.hickory_wire.specs.serialize.writing.FullForm.{name_octets, data_octets, record_octets, EndsInFull, HasNames}
 use Rattle.hickory_wire.specs.serialize.layout.NameLayout.{LabelsAt, NameAt}
@@ -142,13 +143,14 @@ ends_in_full (rdata.TSIG signature) front = (front, refl)
 ends_in_full content front = tt
 
 -- a record that is put in full is put
-pub puts_full : (limit : ℕ) (old new : List ℕ) (r : Record RData) → 12 ≤ length old → AreLabels r.name.labels → HasNames r.rdata → form_fault r.rdata ≡ None → data_len r.rdata < 2 ^ 16 → new ≡ old ++ record_octets r → length old + full_size r ≤ limit → Puts limit old r new
-puts_full limit old new r low owner names formed small e within =
+pub puts_full : (limit : ℕ) (old new : List ℕ) (r : Record RData) → 12 ≤ length old → AreLabels r.name.labels → HasNames r.rdata → form_fault r.rdata ≡ None → IsRecordInRange r → data_len r.rdata < 2 ^ 16 → new ≡ old ++ record_octets r → length old + full_size r ≤ limit → Puts limit old r new
+puts_full limit old new r low owner names formed in_range small e within =
     let size = record_octets-len r in
     let all : length new ≡ length old + full_size r = omega (arith, ap length e, length-append old (record_octets r), size) in
     record {
       more = record_octets r;
       formed = formed;
+      in_range = in_range;
       appended = e;
       in_full = ends_in_full r.rdata (name_octets r.name.labels ++ fixed_fields r (data_len r.rdata));
       small = omega (arith, size);
@@ -157,16 +159,16 @@ puts_full limit old new r low owner names formed small e within =
     }
 
 -- a record whose parts are put one behind the other is put
-pub put_parts : (limit : ℕ) (old named fixed new : List ℕ) (r : Record RData) (kind class ttl len : ℕ) → 12 ≤ length old → AreLabels r.name.labels → HasNames r.rdata → (form_fault r.rdata ≡ None) × (len ≡ data_len r.rdata) → len < 2 ^ 16
+pub put_parts : (limit : ℕ) (old named fixed new : List ℕ) (r : Record RData) (kind class ttl len : ℕ) → 12 ≤ length old → AreLabels r.name.labels → HasNames r.rdata → (form_fault r.rdata ≡ None) × (len ≡ data_len r.rdata) → IsRecordInRange r → len < 2 ^ 16
     → named ≡ old ++ name_octets r.name.labels → fixed ≡ named ++ (to_be_bytes w16 kind ++ to_be_bytes w16 class ++ to_be_bytes w32 ttl ++ to_be_bytes w16 len) → new ≡ fixed ++ data_octets r.rdata
     → kind ≡ type_of r.rdata → class ≡ r.dns_class → ttl ≡ r.ttl → length old + (name_len r.name.labels + 10 + len) ≤ limit → Puts limit old r new
-put_parts limit old named fixed new r kind class ttl len low owner names formed small e1 e2 e3 ek ec et fit =
+put_parts limit old named fixed new r kind class ttl len low owner names formed in_range small e1 e2 e3 ek ec et fit =
     let name = name_octets r.name.labels in
     let fields : fixed ≡ named ++ fixed_fields r (data_len r.rdata) = e2 ∙ rw (ek, ec, et, formed.1) refl in
     let whole : new ≡ old ++ record_octets r =
     e3 ∙ ap (λ b. b ++ data_octets r.rdata) (fields ∙ ap (λ b. b ++ fixed_fields r (data_len r.rdata)) e1 ∙ append_assoc old name (fixed_fields r (data_len r.rdata)))
     ∙ append_assoc old (name ++ fixed_fields r (data_len r.rdata)) (data_octets r.rdata) in
-    puts_full limit old new r low owner names formed.0 (omega (arith, formed.1)) whole (omega (arith, formed.1))
+    puts_full limit old new r low owner names formed.0 in_range (omega (arith, formed.1)) whole (omega (arith, formed.1))
 
 -- a question is as long in full as it says
 pub question_octets-len : (q : Query) → length (question_octets q) ≡ name_len q.name.labels + 4

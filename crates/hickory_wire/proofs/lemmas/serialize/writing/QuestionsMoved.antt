@@ -1,19 +1,18 @@
 -- A question that was read behind the header of a request stands in the bytes of its reply, and so do questions in full.
-use Rattle.std.proofs.Common.{◌≡◌, ℕ, ◌+◌, ◌-◌, ◌<◌, ◌≤◌, List, [], ◌∷◌, ◌++◌, length, get_or, take, drop, replicate, refl, sym, ap, subst, ◌∙◌, arith, length-append}
-use Rattle.std.proofs.lemmas.List.{get_or-append-add, get_or-drop, get_or-take, length-drop, length-take, append_assoc}
+use Rattle.std.proofs.Common.{◌≡◌, ℕ, ◌+◌, ◌-◌, ◌<◌, ◌≤◌, List, [], ◌∷◌, ◌++◌, length, get_or, take, drop, replicate, sym, ap, subst, ◌∙◌, arith, length-append}
+use Rattle.std.proofs.lemmas.List.{get_or-append-add, get_or-drop, get_or-take, length-drop, length-take}
 use Rattle.std.specs.Prelude.{slice_range}
 use Rattle.std.specs.List.{AllByRecursion, flat_map}
-use Rattle.std.specs.Int.{w16, to_be_bytes}
-use Rattle.hickory_wire.specs.serialize.layout.Bytes.{BytesAt}
+use Rattle.hickory_wire.specs.serialize.layout.Bytes.{BytesAt, KeepsFrom}
 use Rattle.hickory_wire.specs.rr.domain.DomainName.{AreLabels}
 use Rattle.hickory_wire.specs.serialize.layout.MessageLayout.{ItemsAt}
-use Rattle.hickory_wire.specs.serialize.layout.NameLayout.{LabelsAt, NameAt}
+use Rattle.hickory_wire.specs.serialize.layout.NameLayout.{LabelsAt}
 use Rattle.hickory_wire.specs.serialize.layout.NameLayout.LabelsAt.{at_end, at_label, at_pointer}
 use Rattle.hickory_wire.specs.serialize.writing.QuestionForm.{question_octets}
 use Rattle.hickory_wire.specs.serialize.layout.QuestionLayout.{QuestionAt}
 use Rattle.hickory_wire.specs.declared.op.query.Query.{Query}
 use Rattle.hickory_wire.proofs.lemmas.serialize.layout.ByteTexts.{BytesAt-left, BytesAt-right}
-use Rattle.hickory_wire.proofs.lemmas.serialize.layout.FormKeeps.{LabelsAt-longer}
+use Rattle.hickory_wire.proofs.lemmas.serialize.layout.FormKeeps.{LabelsAt-longer, QuestionAt-keeps}
 use Rattle.hickory_wire.proofs.lemmas.serialize.writing.FullForms.{question_stands}
 
 -- each byte from a place up to another is the same
@@ -62,6 +61,31 @@ pub question_repeated : (bytes : List ℕ) (q : Query) (stop : ℕ) → Question
 question_repeated bytes q stop at =
     let m = LabelsAt-longer at.name.labels in
     question_moves (repeated bytes stop (omega (arith, m.0, at.after)) (omega (arith, at.fields.fits, at.after))) at
+
+items_keep : (old new : List ℕ) (queries : List Query) (place next : ℕ) → KeepsFrom 12 old new → ItemsAt (QuestionAt 12 old) place queries next → ItemsAt (QuestionAt 12 new) place queries next
+items_keep old new [] place next k e = e
+items_keep old new (q ∷ qs) place next k (middle, one, more) = (middle, QuestionAt-keeps k (omega arith) one, items_keep old new qs middle next k more)
+
+items_longer : (floor : ℕ) (bytes : List ℕ) (queries : List Query) (place next : ℕ) → ItemsAt (QuestionAt floor bytes) place queries next → place ≤ next
+items_longer floor bytes [] place next e = omega (arith, e)
+items_longer floor bytes (q ∷ qs) place next (middle, one, more) =
+    let l = LabelsAt-longer one.name.labels in
+    omega (arith, l.0, one.after, items_longer floor bytes qs middle next more)
+
+-- the questions of a request of which nothing is read behind the last of them stand in its reply
+pub questions_repeated : (bytes : List ℕ) (queries : List Query) (stop : ℕ) → stop ≤ length bytes → ItemsAt (QuestionAt 12 (take stop bytes)) 12 queries stop
+    → ItemsAt (QuestionAt 12 (replicate 12 0 ++ slice_range bytes 12 stop)) 12 queries stop × (length (replicate 12 0 ++ slice_range bytes 12 stop) ≡ stop)
+questions_repeated bytes queries stop high at =
+    let part = take (stop - 12) (drop 12 bytes) in
+    let low = items_longer 12 (take stop bytes) queries 12 stop at in
+    let agree = repeated bytes stop low high in
+    let front : length (take stop bytes) ≡ stop = omega (arith, length-take stop bytes) in
+    let size : length (replicate 12 0 ++ part) ≡ stop = omega (arith, length-append (replicate 12 0) part, length-take (stop - 12) (drop 12 bytes), length-drop 12 bytes) in
+    let keeps : KeepsFrom 12 (take stop bytes) (replicate 12 0 ++ part) = record {
+      longer = omega (arith, front, size);
+      same = λ k above below. agree.same k above (omega (arith, front)) ∙ sym (get_or-take stop bytes k 0 (omega (arith, front)));
+    } in
+    (items_keep (take stop bytes) (replicate 12 0 ++ part) queries 12 stop keeps at, size)
 
 -- questions in full stand one behind the other
 pub questions_in_full : (bytes : List ℕ) (floor place : ℕ) (queries : List Query) → AllByRecursion (λ q. AreLabels q.name.labels) queries → floor ≤ place → BytesAt bytes place (flat_map question_octets queries)

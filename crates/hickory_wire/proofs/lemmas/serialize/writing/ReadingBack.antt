@@ -1,5 +1,5 @@
 -- Which records read back as themselves, and that a reply of such records is written.
-use Rattle.std.proofs.Common.{◌≡◌, ℕ, ◌+◌, ◌^◌, ◌<◌, ◌≤◌, List, [], ◌∷◌, ◌++◌, length, Bool, true, false, Option, Some, None, nat_lt, refl, sym, ap, subst, ◌∙◌, arith, length-append}
+use Rattle.std.proofs.Common.{◌≡◌, ℕ, ◌+◌, ◌^◌, ◌<◌, ◌≤◌, List, [], ◌∷◌, length, false, Option, Some, None, nat_lt, refl, ap, arith}
 use Rattle.std.proofs.lemmas.Bool.{le-ltb, lt-leb}
 use Rattle.std.proofs.lemmas.List.Elements.{All-from_recursion}
 use Rattle.std.specs.Prelude.{slice_index}
@@ -14,8 +14,8 @@ use Rattle.hickory_wire.specs.serialize.layout.NameLayout.LabelsAt.{at_end, at_l
 use Rattle.hickory_wire.specs.serialize.writing.ReadingBack.{ReadsBack, ReplyReadsBack}
 use Rattle.hickory_wire.specs.rr.RecordData.{IsOption, OptionsOf}
 use Rattle.hickory_wire.specs.rr.RecordData.OptionsOf.{well_formed, malformed}
-use Rattle.hickory_wire.specs.serialize.layout.RecordLayout.{DataRead, IsFormed, IsFormedRecord, RecordAt}
-use Rattle.hickory_wire.specs.serialize.writing.RecordSize.{data_len, form_fault, full_size}
+use Rattle.hickory_wire.specs.serialize.layout.RecordLayout.{DataRead, IsFormed, IsFormedRecord}
+use Rattle.hickory_wire.specs.serialize.writing.RecordSize.{data_len, form_fault}
 use Rattle.hickory_wire.specs.serialize.writing.Reply.{Reply, reply_lists}
 use Rattle.hickory_wire.specs.serialize.writing.WholeReply.{HasForm}
 use Rattle.hickory_wire.specs.serialize.writing.Writing.{Encoded, Fronts, GetsStuck, ListFront, ListsWritten, Written, written_header}

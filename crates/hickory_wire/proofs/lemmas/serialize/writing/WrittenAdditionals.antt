@@ -4,8 +4,9 @@ use Rattle.std.specs.Prelude.{filter, not, option_map, option_to_list, IfSome, �
 use Rattle.std.specs.List.{AllByRecursion}
 use Rattle.std.proofs.lemmas.List.{append-nil}
 use Rattle.std.proofs.lemmas.List.Elements.{filter-append}
-use Rattle.hickory_wire.specs.serialize.writing.Decoding.{without_proof, front_of_option, IsFormedEdns}
+use Rattle.hickory_wire.specs.serialize.writing.Decoding.{without_proof, front_of_option, IsFormedEdns, IsReadableSignature}
 use Rattle.hickory_wire.specs.op.EdnsFields.{EdnsFields}
+use Rattle.hickory_wire.specs.serialize.layout.FieldRanges.{IsRecordInRange}
 use Rattle.hickory_wire.specs.serialize.layout.HeaderLayout.{flag}
 use Rattle.hickory_wire.specs.serialize.layout.MessageLayout.{ItemsAt, IsSectionRecord, is_opt, is_tsig, HasEdns, AdditionalSection, tsig_record}
 use Rattle.hickory_wire.specs.rr.RecordData.{type_of}
@@ -15,8 +16,9 @@ use Rattle.hickory_wire.specs.serialize.reading.SectionReading.{edns_of}
 use Rattle.hickory_wire.specs.declared.rr.rdata.RData.{RData}
 use Rattle.hickory_wire.specs.declared.rr.record.Record.{Record}
 use Rattle.hickory_wire.specs.declared.rr.tsig.TSIG.{TSIG}
+use Rattle.hickory_wire.proofs.lemmas.serialize.layout.Ranges.{record_formed}
 use Rattle.hickory_wire.proofs.lemmas.serialize.reading.RecordsAgree.{formed_record}
-use Rattle.hickory_wire.proofs.lemmas.serialize.writing.WrittenItems.{form_without_proof}
+use Rattle.hickory_wire.proofs.lemmas.serialize.writing.WrittenItems.{form_without_proof, readable_formed}
 
 -- a set flag is a bit
 flag_bit : (b : Bool) → (n : ℕ) × (n < 2) × (flag b 15 ≡ n * 2 ^ 15) × (eqb n 1 ≡ b)
@@ -24,26 +26,25 @@ flag_bit true = (1, omega arith, omega arith, refl)
 flag_bit false = (0, omega arith, omega arith, refl)
 
 record TtlParts (ttl high version bit reserved : ℕ) : Type 0 where
-  small : ttl < 2 ^ 32
   high_is : ttl / 2 ^ 24 ≡ high
   version_is : ttl / 2 ^ 16 % 256 ≡ version
   bit_is : ttl / 2 ^ 15 % 2 ≡ bit
   reserved_is : ttl % 2 ^ 15 ≡ reserved
 
 ttl_parts : (ttl high version bit reserved : ℕ) → high < 2 ^ 8 → version < 2 ^ 8 → bit < 2 → reserved < 2 ^ 15 → ttl ≡ high * 2 ^ 24 + version * 2 ^ 16 + bit * 2 ^ 15 + reserved → TtlParts ttl high version bit reserved
-ttl_parts ttl high version bit reserved h v b r e = record { small = omega arith; high_is = omega arith; version_is = omega arith; bit_is = omega arith; reserved_is = omega arith }
+ttl_parts ttl high version bit reserved h v b r e = record { high_is = omega arith; version_is = omega arith; bit_is = omega arith; reserved_is = omega arith }
 
 -- what an OPT record says is what it was made of
-opt_says : (e : EdnsFields) → IsFormedEdns e → (e ≡ edns_of (opt_record e) e.options) × ((opt_record e).ttl < 2 ^ 32)
+opt_says : (e : EdnsFields) → IsFormedEdns e → e ≡ edns_of (opt_record e) e.options
 opt_says e f =
     let b = flag_bit e.dnssec_ok in
     let ttl = e.rcode_high * 2 ^ 24 + e.version * 2 ^ 16 + flag e.dnssec_ok 15 + e.reserved_flags in
     let p = ttl_parts ttl e.rcode_high e.version b.0 e.reserved_flags f.rcode_high f.version b.1 f.reserved_flags (omega (arith, b.2)) in
-    (rw (p.high_is, p.version_is, p.bit_is, p.reserved_is, b.3) refl, p.small)
+    rw (p.high_is, p.version_is, p.bit_is, p.reserved_is, b.3) refl
 
 -- an OPT record reads back as itself
-opt_formed : (e : EdnsFields) → IsFormedEdns e → IsFormedRecord (opt_record e)
-opt_formed e f = record { name = refl; class = f.max_payload; ttl = (opt_says e f).1; rdata = f.options; proof = refl }
+opt_formed : (e : EdnsFields) → IsRecordInRange (opt_record e) → IsFormedRecord (opt_record e)
+opt_formed e i = record_formed (opt_record e) i refl tt refl
 
 -- what was written of the OPT
 pub record OptWritten (bytes : List ℕ) (place : ℕ) (opts : List (Record RData)) (edns : Option EdnsFields) (n next : ℕ) : Type 0 where
@@ -54,36 +55,36 @@ pub record OptWritten (bytes : List ℕ) (place : ℕ) (opts : List (Record RDat
   pub none_other : filter (λ r. not (is_opt r)) opts ≡ []
   pub count : length opts ≡ n
 
-pub opt_written : (bytes : List ℕ) (place next n : ℕ) (edns : Option EdnsFields) → IfSome edns IsFormedEdns → n ≤ length (option_to_list (option_map opt_record edns)) → ItemsAt (FormAt 12 bytes) place (take n (option_to_list (option_map opt_record edns))) next
+pub opt_written : (bytes : List ℕ) (place next n : ℕ) (edns : Option EdnsFields) → IfSome edns IsFormedEdns → n ≤ length (option_to_list (option_map opt_record edns)) → AllByRecursion IsRecordInRange (take n (option_to_list (option_map opt_record edns))) → ItemsAt (FormAt 12 bytes) place (take n (option_to_list (option_map opt_record edns))) next
     → OptWritten bytes place (take n (option_to_list (option_map opt_record edns))) (front_of_option n edns) n next
-opt_written bytes place next zero None f h at = record { stand = at; says = refl; unsigned = refl; all_opt = refl; none_other = refl; count = refl }
-opt_written bytes place next (suc n) None f h at = absurd (omega arith)
-opt_written bytes place next zero (Some e) f h at = record { stand = at; says = refl; unsigned = refl; all_opt = refl; none_other = refl; count = refl }
-opt_written bytes place next (suc zero) (Some e) f h (middle, one, more) = record {
-  stand = (middle, formed_record 12 bytes place middle (opt_record e) (opt_formed e f) one, more);
-  says = (e, record { root = refl; rdata = refl; says = (opt_says e f).0 }, refl);
+opt_written bytes place next zero None f h i at = record { stand = at; says = refl; unsigned = refl; all_opt = refl; none_other = refl; count = refl }
+opt_written bytes place next (suc n) None f h i at = absurd (omega arith)
+opt_written bytes place next zero (Some e) f h i at = record { stand = at; says = refl; unsigned = refl; all_opt = refl; none_other = refl; count = refl }
+opt_written bytes place next (suc zero) (Some e) f h i (middle, one, more) = record {
+  stand = (middle, formed_record 12 bytes place middle (opt_record e) (opt_formed e i.0) one, more);
+  says = (e, record { root = refl; rdata = refl; says = opt_says e f }, refl);
   unsigned = refl;
   all_opt = refl;
   none_other = refl;
   count = refl;
 }
-opt_written bytes place next (suc (suc n)) (Some e) f h at = absurd (omega arith)
+opt_written bytes place next (suc (suc n)) (Some e) f h i at = absurd (omega arith)
 
 -- what was written of the TSIG
 pub record TsigWritten (bytes : List ℕ) (place : ℕ) (last : List (Record RData)) (n next : ℕ) : Type 0 where
   pub stand : ItemsAt (RecordAt bytes) place last next
   pub count : length last ≡ n
 
-pub tsig_written : (bytes : List ℕ) (place next n : ℕ) (signature : Option (Record TSIG)) → IfSome signature (λ s. IsFormedRecord (tsig_record (without_proof s))) → n ≤ length (option_to_list (option_map tsig_record signature))
-    → ItemsAt (FormAt 12 bytes) place (take n (option_to_list (option_map tsig_record signature))) next → TsigWritten bytes place (map tsig_record (option_to_list (option_map without_proof (front_of_option n signature)))) n next
-tsig_written bytes place next zero None f h at = record { stand = at; count = refl }
-tsig_written bytes place next (suc n) None f h at = absurd (omega arith)
-tsig_written bytes place next zero (Some s) f h at = record { stand = at; count = refl }
-tsig_written bytes place next (suc zero) (Some s) f h (middle, one, more) = record {
-  stand = (middle, formed_record 12 bytes place middle (tsig_record (without_proof s)) f (form_without_proof (tsig_record s) one), more);
+pub tsig_written : (bytes : List ℕ) (place next n : ℕ) (signature : Option (Record TSIG)) → IfSome signature IsReadableSignature → n ≤ length (option_to_list (option_map tsig_record signature))
+    → AllByRecursion IsRecordInRange (take n (option_to_list (option_map tsig_record signature))) → ItemsAt (FormAt 12 bytes) place (take n (option_to_list (option_map tsig_record signature))) next → TsigWritten bytes place (map tsig_record (option_to_list (option_map without_proof (front_of_option n signature)))) n next
+tsig_written bytes place next zero None f h i at = record { stand = at; count = refl }
+tsig_written bytes place next (suc n) None f h i at = absurd (omega arith)
+tsig_written bytes place next zero (Some s) f h i at = record { stand = at; count = refl }
+tsig_written bytes place next (suc zero) (Some s) f h i (middle, one, more) = record {
+  stand = (middle, formed_record 12 bytes place middle (tsig_record (without_proof s)) (readable_formed (tsig_record s) i.0 f.name f.algorithm) (form_without_proof (tsig_record s) one), more);
   count = refl;
 }
-tsig_written bytes place next (suc (suc n)) (Some s) f h at = absurd (omega arith)
+tsig_written bytes place next (suc (suc n)) (Some s) f h i at = absurd (omega arith)
 
 -- a record of a section is no OPT and no TSIG
 one_true : (b c : Bool) → (true || b || c) ≡ false → ⊥

@@ -1,11 +1,13 @@
 -- Records that were put stand one behind the other, and as they are read.
-use Rattle.std.proofs.Common.{ℕ, zero, suc, ◌+◌, ◌≤◌, List, [], ◌∷◌, ◌++◌, length, map, take, sym, ap, subst, arith}
+use Rattle.std.proofs.Common.{ℕ, zero, suc, ◌+◌, ◌≤◌, List, [], ◌∷◌, ◌++◌, length, map, take, refl, sym, ap, subst, arith}
 use Rattle.std.specs.List.{AllByRecursion}
 use Rattle.hickory_wire.specs.serialize.layout.Bytes.{KeepsFrom}
 use Rattle.hickory_wire.specs.serialize.writing.Decoding.{without_proof, IsReadable}
+use Rattle.hickory_wire.specs.serialize.layout.FieldRanges.{IsRecordInRange, IsReadAsItsType}
+use Rattle.hickory_wire.specs.serialize.layout.NameLayout.{IsFullyQualified}
 use Rattle.hickory_wire.specs.serialize.layout.MessageLayout.{ItemsAt, IsSectionRecord, QuestionRead}
 use Rattle.hickory_wire.specs.serialize.layout.QuestionLayout.{QuestionAt, IsFormedQuestion}
-use Rattle.hickory_wire.specs.serialize.layout.RecordLayout.{FormAt, RecordAt}
+use Rattle.hickory_wire.specs.serialize.layout.RecordLayout.{FormAt, IsFormedRecord, RecordAt}
 use Rattle.hickory_wire.specs.serialize.writing.Writing.{Puts, PutsAll}
 use Rattle.hickory_wire.specs.declared.op.query.Query.{Query}
 use Rattle.hickory_wire.specs.declared.rr.rdata.RData.{RData}
@@ -13,6 +15,7 @@ use Rattle.hickory_wire.specs.declared.rr.record.Record.{Record}
 use Rattle.hickory_wire.proofs.lemmas.serialize.layout.FormKeeps.{LabelsAt-longer, FormAt-keeps, QuestionAt-keeps}
 use Rattle.hickory_wire.proofs.lemmas.serialize.writing.RecordLists.{Puts-longer}
 use Rattle.hickory_wire.proofs.lemmas.serialize.reading.RecordsAgree.{formed_record}
+use Rattle.hickory_wire.proofs.lemmas.serialize.layout.Ranges.{record_formed}
 use Rattle.hickory_wire.proofs.lemmas.serialize.layout.Stable.{KeepsFrom-append, KeepsFrom-same, KeepsFrom-trans}
 
 Puts-keeps : {limit : ℕ} {old new : List ℕ} {r : Record RData} → Puts limit old r new → KeepsFrom 12 old new
@@ -42,11 +45,20 @@ put_stand limit (r ∷ rs) old new final (middle, one, more) k =
 pub form_without_proof : {floor : ℕ} {bytes : List ℕ} {place next : ℕ} (r : Record RData) → FormAt floor bytes place r next → FormAt floor bytes place (without_proof r) next
 form_without_proof r at = record { middle = at.middle; len = at.len; owner = at.owner; fixed = at.fixed; small = at.small; rdata = at.rdata; counted = at.counted }
 
+-- what was put has its numbers in range
+pub put_in_range : (limit : ℕ) (rs : List (Record RData)) (old new : List ℕ) → PutsAll limit old rs new → AllByRecursion IsRecordInRange rs
+put_in_range limit [] old new e = tt
+put_in_range limit (r ∷ rs) old new (middle, one, more) = (one.in_range, put_in_range limit rs middle new more)
+
+-- a record that was put, and is readable, is one that is read
+pub readable_formed : (r : Record RData) → IsRecordInRange r → IsFullyQualified r.name → IsReadAsItsType r.rdata → IsFormedRecord (without_proof r)
+readable_formed r i n t = record_formed (without_proof r) (record { class = i.class; ttl = i.ttl; rdata = i.rdata }) n t refl
+
 -- readable records that stand so are read
-pub readable_stand : (bytes : List ℕ) (rs : List (Record RData)) (place next : ℕ) → AllByRecursion IsReadable rs → ItemsAt (FormAt 12 bytes) place rs next → ItemsAt (RecordAt bytes) place (map without_proof rs) next
-readable_stand bytes [] place next h e = e
-readable_stand bytes (r ∷ rs) place next h (middle, one, more) =
-    (middle, formed_record 12 bytes place middle (without_proof r) h.0.formed (form_without_proof r one), readable_stand bytes rs middle next h.1 more)
+pub readable_stand : (bytes : List ℕ) (rs : List (Record RData)) (place next : ℕ) → AllByRecursion IsReadable rs → AllByRecursion IsRecordInRange rs → ItemsAt (FormAt 12 bytes) place rs next → ItemsAt (RecordAt bytes) place (map without_proof rs) next
+readable_stand bytes [] place next h i e = e
+readable_stand bytes (r ∷ rs) place next h i (middle, one, more) =
+    (middle, formed_record 12 bytes place middle (without_proof r) (readable_formed r i.0 h.0.name h.0.rdata) (form_without_proof r one), readable_stand bytes rs middle next h.1 i.1 more)
 
 pub readable_plain : (rs : List (Record RData)) → AllByRecursion IsReadable rs → AllByRecursion IsSectionRecord (map without_proof rs)
 readable_plain [] h = tt

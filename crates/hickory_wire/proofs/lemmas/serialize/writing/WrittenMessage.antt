@@ -20,7 +20,7 @@ use Rattle.hickory_wire.proofs.lemmas.serialize.reading.HeaderLaws.{header_stand
 use Rattle.hickory_wire.proofs.lemmas.serialize.layout.Stable.{KeepsFrom-trans}
 use Rattle.hickory_wire.proofs.lemmas.serialize.reading.WholeMessage.{message_here}
 use Rattle.hickory_wire.proofs.lemmas.serialize.writing.WrittenAdditionals.{opt_written, tsig_written, section_made}
-use Rattle.hickory_wire.proofs.lemmas.serialize.writing.WrittenItems.{PutsAll-keeps, PutsAll-longer, PutsAll-within, put_stand, readable_stand, readable_plain, readable_front, readable_both, items_both, questions_stand, questions_few}
+use Rattle.hickory_wire.proofs.lemmas.serialize.writing.WrittenItems.{PutsAll-keeps, PutsAll-longer, PutsAll-within, put_in_range, put_stand, readable_stand, readable_plain, readable_front, readable_both, items_both, questions_stand, questions_few}
 
 -- what a list leaves, of which so many were put
 record Part (limit : ℕ) (old : List ℕ) (records : List (Record RData)) (new : List ℕ) (count : ℕ) : Type 0 where
@@ -103,11 +103,11 @@ module _ (limit : ℕ) (reply : Reply) (bytes : List ℕ) (f : Fronts) (queries 
       let readable1 = readable_front f.answers.count reply.answers d.answers in
       let readable2 = readable_front f.authorities.count both (readable_both reply.authorities reply.soa d.authorities d.soa) in
       let readable3 = readable_front f.additionals.count reply.additionals d.additionals in
-      let s1 = readable_stand bytes (take f.answers.count reply.answers) (length start) (length one.0) readable1 (put_stand limit (take f.answers.count reply.answers) start one.0 bytes one.1.puts f1) in
-      let s2 = readable_stand bytes (take f.authorities.count both) (length one.0) (length two.0) readable2 (put_stand limit (take f.authorities.count both) one.0 two.0 bytes two.1.puts f2) in
-      let s3 = readable_stand bytes (take f.additionals.count reply.additionals) (length two.0) (length three.0) readable3 (put_stand limit (take f.additionals.count reply.additionals) two.0 three.0 bytes three.1.puts f3) in
-      let opt = opt_written bytes (length three.0) (length four.0) f.opt.count reply.edns d.edns four.1.counted (put_stand limit (take f.opt.count edns_list) three.0 four.0 bytes four.1.puts f4) in
-      let tsig = tsig_written bytes (length four.0) (length five.0) f.signature.count reply.signature d.signature five.1.counted (put_stand limit (take f.signature.count tsig_list) four.0 five.0 bytes five.1.puts f5) in
+      let s1 = readable_stand bytes (take f.answers.count reply.answers) (length start) (length one.0) readable1 (put_in_range limit (take f.answers.count reply.answers) start one.0 one.1.puts) (put_stand limit (take f.answers.count reply.answers) start one.0 bytes one.1.puts f1) in
+      let s2 = readable_stand bytes (take f.authorities.count both) (length one.0) (length two.0) readable2 (put_in_range limit (take f.authorities.count both) one.0 two.0 two.1.puts) (put_stand limit (take f.authorities.count both) one.0 two.0 bytes two.1.puts f2) in
+      let s3 = readable_stand bytes (take f.additionals.count reply.additionals) (length two.0) (length three.0) readable3 (put_in_range limit (take f.additionals.count reply.additionals) two.0 three.0 three.1.puts) (put_stand limit (take f.additionals.count reply.additionals) two.0 three.0 bytes three.1.puts f3) in
+      let opt = opt_written bytes (length three.0) (length four.0) f.opt.count reply.edns d.edns four.1.counted (put_in_range limit (take f.opt.count edns_list) three.0 four.0 four.1.puts) (put_stand limit (take f.opt.count edns_list) three.0 four.0 bytes four.1.puts f4) in
+      let tsig = tsig_written bytes (length four.0) (length five.0) f.signature.count reply.signature d.signature five.1.counted (put_in_range limit (take f.signature.count tsig_list) four.0 five.0 five.1.puts) (put_stand limit (take f.signature.count tsig_list) four.0 five.0 bytes five.1.puts f5) in
       let rs = map without_proof (take f.additionals.count reply.additionals) in
       let opts = take f.opt.count edns_list in
       let last = map tsig_record (option_to_list (option_map without_proof (front_of_option f.signature.count reply.signature))) in

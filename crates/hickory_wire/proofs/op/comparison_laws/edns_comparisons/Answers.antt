@@ -1,4 +1,4 @@
-use Rattle.std.proofs.Common.{◌≡◌, Bool, true, ◌&&◌, nat_eq, ap, refl}
+use Rattle.std.proofs.Common.{◌≡◌, true, ◌&&◌, nat_eq, ap}
 use Rattle.std.specs.Bool.{beq}
 use Rattle.std.specs.Cmp.Lexicographic.{pointwise}
 use Rattle.hickory_wire.specs.op.EdnsFields.{EdnsFields}

@@ -1,8 +1,5 @@
-use Rattle.std.proofs.Common.{◌≡◌, Bool, true, ◌&&◌, nat_eq, ap, refl}
-use Rattle.std.specs.Bool.{beq}
+use Rattle.std.proofs.Common.{◌≡◌, true, ap}
 use Rattle.hickory_wire.specs.declared.op.header.Header.{Header}
-use Rattle.hickory_wire.specs.declared.op.header.HeaderCounts.{HeaderCounts}
-use Rattle.hickory_wire.specs.declared.op.header.Metadata.{Metadata}
 use Rattle.hickory_wire.proofs.lemmas.op.MetadataComparing.{metadata_eq, counts_eq, metadata_from_eq, metadata_equal, counts_from_eq, counts_equal, header_from_parts}
 use Rattle.hickory_wire.proofs.lemmas.rr.RecordComparing.{both_hold, hold_both}
 use Rattle.hickory_wire.proofs.op.comparison_laws.header_comparisons.Goals as goal

@@ -1,5 +1,4 @@
 use Rattle.std.proofs.Common.{rules, arith, ◌≡◌, ◌≢◌, ◌∙◌, ap, sym, IfOk, IfErr, Result, Ok, Err, List, ℕ}
-use Rattle.std.specs.Prelude.{MatchResult}
 use Rattle.hickory_wire.specs.serialize.layout.Bytes.{AreBytes}
 use Rattle.hickory_wire.specs.serialize.reading.Cursor.{Cursor}
 use Rattle.hickory_wire.specs.serialize.reading.MessageFaults.{MessageFault}

@@ -1,11 +1,16 @@
-use Rattle.std.proofs.Common.{◌+◌, ◌≤◌, length, rules}
-use Rattle.hickory_wire.specs.rr.domain.DomainName.{name_len}
-use Rattle.hickory_wire.proofs.lemmas.serialize.writing.FullForms.{put_parts}
+use Rattle.std.proofs.Common.{◌≡◌, ℕ, rules, subst}
+use Rattle.std.proofs.lemmas.Result.{IfOk-weaker}
+use Rattle.hickory_wire.specs.serialize.writing.Endings.{RecordEnds}
+use Rattle.hickory_wire.specs.declared.rr.rdata.RData.{RData}
+use Rattle.hickory_wire.specs.declared.rr.record.Record.{Record}
 use Rattle.hickory_wire.proofs.serialize.writing.record_encoder.write_record.Goals as goal
+
+-- the record of these fields
+abbrev remade : Record RData → ℕ → Record RData
+remade r class = record { name = r.name; dns_class = class; ttl = r.ttl; rdata = r.rdata; proof = r.proof }
 
 pub returns : goal.returns
 returns c =
-    let fits : length c.args.bytes.now.items + (name_len c.args.record.now.name.labels + 10 + c.in-Ok.len) ≤ c.args.limit = search rules in
-    put_parts c.args.limit c.args.bytes.now.items c.write_name.new.bytes.items c.write_fixed.new.bytes.items c.write_data.new.bytes.items c.args.record.now
-    c.value.result c.value-2.result c.args.record.now.ttl c.in-Ok.len c.requires.header c.full_name_len.ensures.labels c.full_data_len.ensures.names c.in-Ok.ensures.len (search rules)
-    c.in_ok-write_name.ensures c.in_ok-write_fixed.ensures c.in_ok-write_data.ensures (search rules) c.value-2.ensures (search rules) fits
+    let same : c.value.result ≡ c.args.record.now.dns_class = search rules in
+    IfOk-weaker c.write_parts.result _ _
+    (λ ending h. subst (λ class. RecordEnds c.args.limit c.args.bytes.now.items (remade c.args.record.now class) c.write_parts.new.bytes.items ending) same (h c.args.record.now.proof)) c.write_parts.ensures
