@@ -1,28 +1,35 @@
 -- Each reply belongs to its request.
-use Rattle.std.proofs.Common.{◌≡◌, ◌⊎◌, inl, inr, ℕ, Bool, true, false, cond, List, Option, Some, None, Result, refl, sym, subst, ◌∙◌}
+use Rattle.std.proofs.Common.{◌≡◌, ℕ, Bool, true, false, cond, List, Option, Some, None, Result, Ok, Err, refl, sym, subst, ◌∙◌}
 use Rattle.std.specs.Prelude.{is_some}
-use Rattle.hickory_wire.specs.rr.domain.DomainName.{DomainName}
 use Rattle.hickory_wire.specs.op.EdnsFields.{EdnsFields}
 use Rattle.hickory_wire.specs.serialize.writing.Reply.{Reply}
+use Rattle.hickory_wire.specs.declared.op.header.Metadata.{Metadata}
 use Rattle.hickory_wire.specs.declared.op.query.Query.{Query}
+use Rattle.hickory_wire.specs.declared.rr.tsig.TSigResponseContext.{TSigResponseContext}
 use Rattle.hickory_base.specs.requests.Requests.{ReceivedRequest}
 use Rattle.hickory_base.specs.declared.errors.LookupError.{LookupError}
-use Rattle.hickory_base.specs.declared.requests.message_request.MessageRequest.{MessageRequest}
 use Rattle.hickory_base.specs.declared.zone_store.handler.ZoneHandler.{Ghosts}
 use Rattle.hickory_base.specs.declared.zone_store.handler.ZoneType.{ZoneType}
 use Rattle.hickory_base.specs.declared.zone_store.handler.ZoneType.TheVariants.{Primary, Secondary, External}
 use Rattle.hickory_base.specs.declared.zone_store.lookup.AuthLookup.{AuthLookup}
+use Rattle.hickory_base.specs.declared.zone_store.lookup.ZoneTransfer.{ZoneTransfer}
 use Rattle.hickory_catalog.specs.Authoritative.{AuthoritativeReply, refuses, denies, finds}
-use Rattle.hickory_catalog.specs.Forwarded.{findings_of, findings_reply, forwarded_metadata, forwarded_reply, is_authentic, validated}
-use Rattle.hickory_catalog.specs.Queries.{HandlerReply, QueryReply, ResultReply, ZoneReply, answered, lookup, no_zone, other_count, signed, transfer, unanswered, zone}
-use Rattle.hickory_catalog.specs.Replies.{bare_reply, error_reply, unimplemented_reply}
+use Rattle.hickory_catalog.specs.Forwarded.{findings_of, findings_contents, forwarded_contents, forwarded_metadata, is_authentic, validated}
+use Rattle.hickory_catalog.specs.Queries.{HandlerReply, QueryReply, ZoneReply, lookup, no_zone, other_count, transfer, unanswered, untransferred, zone}
+use Rattle.hickory_catalog.specs.Replies.{Contents, bare_contents, error_reply, unsigned_reply}
 use Rattle.hickory_catalog.specs.ReplyEdns.{reply_edns, with_high_code}
-use Rattle.hickory_catalog.specs.Requests.{BelongsTo, RequestReply, refused, asks}
+use Rattle.hickory_catalog.specs.Requests.{BelongsTo}
+use Rattle.hickory_catalog.specs.Server.{Server}
+use Rattle.hickory_catalog.specs.Signing.{SignedReply, Signer, failed, plain, signed}
+use Rattle.hickory_catalog.specs.Transfers.{transfer_contents}
 
--- a reply with the identifier of this request, and EDNS just where there is this one, but for a case that is not implemented
-record BelongsWith (request : MessageRequest) (edns : Option EdnsFields) (reply : Reply) : Type 0 where
-  id : reply.metadata.id ≡ request.metadata.id
-  edns_kept : (is_some reply.edns ≡ is_some edns) ⊎ (reply ≡ unimplemented_reply request)
+-- what a reply says that has the identifier of this request, and no TC
+record FitsRequest (request : Metadata) (contents : Contents) : Type 0 where
+  id : contents.metadata.id ≡ request.id
+  untruncated : contents.metadata.truncation ≡ false
+
+fits_by : {request : Metadata} {contents made : Contents} → contents ≡ made → FitsRequest request made → FitsRequest request contents
+fits_by {request} e f = subst (FitsRequest request) (sym e) f
 
 coded : (code : ℕ) (edns : Option EdnsFields) → is_some (with_high_code code edns) ≡ is_some edns
 coded code None = refl
@@ -32,60 +39,59 @@ asked : (identifier : Option (List ℕ)) (edns : Option EdnsFields) → is_some 
 asked identifier None = refl
 asked identifier (Some e) = refl
 
-module _ (request : MessageRequest) (edns : Option EdnsFields) (reply : Reply) where
-  by_parts : (made : Reply) (code : ℕ) → reply ≡ made → made.metadata.id ≡ request.metadata.id → made.edns ≡ with_high_code code edns → BelongsWith request edns reply
-  by_parts made code is id e =
-      subst (BelongsWith request edns) (sym is) (record { id = id; edns_kept = inl (subst (λ (o : Option EdnsFields). is_some o ≡ is_some edns) (sym e) (coded code edns)) })
+module _ (request : ReceivedRequest) (edns : Option EdnsFields) where
+  unsigned_belongs : (contents : Contents) → FitsRequest request.message.metadata contents → BelongsTo request edns (unsigned_reply request.message edns contents)
+  unsigned_belongs contents f = record { id = f.id; edns_kept = coded contents.metadata.response_code edns; untruncated = f.untruncated }
 
-  by_error : (code : ℕ) → reply ≡ error_reply request edns code → BelongsWith request edns reply
-  by_error code is = by_parts _ code is refl refl
+  error_belongs : (reply : Reply) (code : ℕ) → reply ≡ error_reply request.message edns code → BelongsTo request edns reply
+  error_belongs reply code is = subst (BelongsTo request edns) (sym is) (unsigned_belongs _ (record { id = refl; untruncated = refl }))
 
-  by_unimplemented : reply ≡ unimplemented_reply request → BelongsWith request edns reply
-  by_unimplemented is = subst (BelongsWith request edns) (sym is) (record { id = refl; edns_kept = inr refl })
+  signed_belongs : (signer : Signer) (contents : Contents) (reply : Reply) {context : Option TSigResponseContext} → FitsRequest request.message.metadata contents
+      → SignedReply signer request.message edns contents context reply → BelongsTo request edns reply
+  signed_belongs signer contents reply f (plain is) = subst (BelongsTo request edns) (sym is) (unsigned_belongs contents f)
+  signed_belongs signer contents reply f (signed _ is) =
+      let b = unsigned_belongs contents f in subst (BelongsTo request edns) (sym is) (record { id = b.id; edns_kept = b.edns_kept; untruncated = b.untruncated })
+  signed_belongs signer contents reply f (failed _ is) = error_belongs reply 2 is
 
-  by_forwarded : (query : Query) (validates : Bool) (result : Result AuthLookup LookupError) → reply ≡ forwarded_reply request edns query validates result → BelongsWith request edns reply
-  by_forwarded query validates result is = wanted request.metadata.recursion_desired is where
-    wanted : (b : Bool) → reply ≡ cond b
-        (findings_reply request edns query (is_authentic validates request (findings_of query.name result)) (validated validates request.metadata (findings_of query.name result)))
-        (bare_reply request edns (forwarded_metadata request.metadata false 5)) → BelongsWith request edns reply
-    wanted true is = by_parts _ _ is refl refl
-    wanted false is = by_parts _ 5 is refl refl
+transfer_fits : (request : Metadata) (result : Result ZoneTransfer LookupError) → FitsRequest request (transfer_contents request result)
+transfer_fits request (Ok given) = record { id = refl; untruncated = refl }
+transfer_fits request (Err e) = record { id = refl; untruncated = refl }
 
-module _ {H : Type 0} (handler : Ghosts H) (h : H) (request : ReceivedRequest) (edns : Option EdnsFields) (query : Query) (reply : Reply) where
-  of_zone_server : (result : Result AuthLookup LookupError) → AuthoritativeReply handler h request edns query reply result → BelongsWith request.message edns reply
-  of_zone_server _ (refuses _ is) = by_parts request.message edns reply _ _ is refl refl
-  of_zone_server _ (denies _ _ _ _ _ _ _ is) = by_parts request.message edns reply _ _ is refl refl
-  of_zone_server _ (finds _ _ _ is) = by_parts request.message edns reply _ 0 is refl refl
+module _ (request : ReceivedRequest) (query : Query) (contents : Contents) where
+  forwarded_fits : (validates : Bool) (result : Result AuthLookup LookupError) → contents ≡ forwarded_contents request.message query validates result → FitsRequest request.message.metadata contents
+  forwarded_fits validates result is = wanted request.message.metadata.recursion_desired is where
+    wanted : (b : Bool) → contents ≡ cond b
+        (findings_contents request.message query (is_authentic validates request.message (findings_of query.name result)) (validated validates request.message.metadata (findings_of query.name result)))
+        (bare_contents (forwarded_metadata request.message.metadata false 5)) → FitsRequest request.message.metadata contents
+    wanted true is = fits_by is (record { id = refl; untruncated = refl })
+    wanted false is = fits_by is (record { id = refl; untruncated = refl })
 
-  of_handler : (zone_type : ZoneType) (result : Result AuthLookup LookupError) → HandlerReply handler h zone_type request edns query result reply → BelongsWith request.message edns reply
-  of_handler Primary result r = of_zone_server result r
-  of_handler Secondary result r = of_zone_server result r
-  of_handler External result is = by_forwarded request.message edns reply query (handler.validates_dnssec h) result is
+  authoritative_fits : {H : Type 0} (handler : Ghosts H) (h : H) (result : Result AuthLookup LookupError) → AuthoritativeReply handler h request query contents result → FitsRequest request.message.metadata contents
+  authoritative_fits handler h _ (refuses _ is) = fits_by is (record { id = refl; untruncated = refl })
+  authoritative_fits handler h _ (denies _ _ _ _ _ _ _ is) = fits_by is (record { id = refl; untruncated = refl })
+  authoritative_fits handler h _ (finds _ _ _ is) = fits_by is (record { id = refl; untruncated = refl })
 
-  of_result : {result : Result AuthLookup LookupError} {context : _} → ResultReply handler h request edns query reply result context → BelongsWith request.message edns reply
-  of_result (signed _ is) = by_unimplemented request.message edns reply is
-  of_result (answered _ r) = of_handler _ _ r
+  handler_fits : {H : Type 0} (handler : Ghosts H) (h : H) (zone_type : ZoneType) (result : Result AuthLookup LookupError) → HandlerReply handler h zone_type request query result contents → FitsRequest request.message.metadata contents
+  handler_fits handler h Primary result r = authoritative_fits handler h result r
+  handler_fits handler h Secondary result r = authoritative_fits handler h result r
+  handler_fits handler h External result is = forwarded_fits (handler.validates_dnssec h) result is
 
-module _ {H : Type 0} (handler : Ghosts H) (request : ReceivedRequest) (edns : Option EdnsFields) (reply : Reply) where
-  of_zone : (chain : List H) (query : Query) → ZoneReply handler chain request edns query reply → BelongsWith request.message edns reply
-  of_zone chain query (transfer _ is) = by_unimplemented request.message edns reply is
-  of_zone chain query (unanswered _ _ _ is) = by_error request.message edns reply 2 is
-  of_zone chain query (lookup _ _ _ _ r) = of_result handler _ request edns query reply r
+module _ {H : Type 0} (server : Server H) (request : ReceivedRequest) (edns : Option EdnsFields) (now : ℕ) (reply : Reply) where
+  zone_belongs : (chain : List H) (query : Query) → ZoneReply server chain request edns now query reply → BelongsTo request edns reply
+  zone_belongs chain query (untransferred _ _ is) = error_belongs request edns reply 2 is
+  zone_belongs chain query (transfer _ _ _ s) = signed_belongs request edns server.signer _ reply (transfer_fits _ _) s
+  zone_belongs chain query (unanswered _ _ _ is) = error_belongs request edns reply 2 is
+  zone_belongs chain query (lookup contents _ _ _ _ _ r s) = signed_belongs request edns server.signer contents reply (handler_fits request query contents server.handler _ _ _ r) s
 
-  of_query : (zones : List (DomainName × List H)) → QueryReply handler zones request edns reply → BelongsWith request.message edns reply
-  of_query zones (other_count _ is) = by_error request.message edns reply 1 is
-  of_query zones (no_zone _ _ is) = by_error request.message edns reply 5 is
-  of_query zones (zone _ _ r) = of_zone _ _ r
+  pub query_belongs : QueryReply server request edns now reply → BelongsTo request edns reply
+  query_belongs (other_count _ is) = error_belongs request edns reply 1 is
+  query_belongs (no_zone _ _ is) = error_belongs request edns reply 5 is
+  query_belongs (zone _ _ r) = zone_belongs _ _ r
 
--- from the reply's EDNS to that of the request
-to_request : (identifier : Option (List ℕ)) (request : ReceivedRequest) (reply : Reply) → BelongsWith request.message (reply_edns identifier request.message.edns) reply → BelongsTo request reply
-to_request identifier request reply b = record { id = b.id; edns = kept b.edns_kept } where
-  kept : (is_some reply.edns ≡ is_some (reply_edns identifier request.message.edns)) ⊎ (reply ≡ unimplemented_reply request.message)
-      → (is_some reply.edns ≡ is_some request.message.edns) ⊎ (reply ≡ unimplemented_reply request.message)
-  kept (inl e) = inl (e ∙ asked identifier request.message.edns)
-  kept (inr e) = inr e
+module _ (identifier : Option (List ℕ)) (request : ReceivedRequest) (reply : Reply) where
+  -- from the reply's EDNS to that of the request
+  pub to_request : BelongsTo request (reply_edns identifier request.message.edns) reply → BelongsTo request request.message.edns reply
+  to_request b = record { id = b.id; edns_kept = b.edns_kept ∙ asked identifier request.message.edns; untruncated = b.untruncated }
 
-pub reply_belongs : {H : Type 0} (handler : Ghosts H) (zones : List (DomainName × List H)) (identifier : Option (List ℕ)) (request : ReceivedRequest) (reply : Reply)
-    → RequestReply handler zones identifier request reply → BelongsTo request reply
-reply_belongs handler zones identifier request reply (refused _ is) = to_request identifier request reply (by_error request.message _ reply _ is)
-reply_belongs handler zones identifier request reply (asks _ r) = to_request identifier request reply (of_query handler request _ reply zones r)
+  pub refusal_belongs : (code : ℕ) → reply ≡ error_reply request.message (reply_edns identifier request.message.edns) code → BelongsTo request request.message.edns reply
+  refusal_belongs code is = to_request (error_belongs request _ reply code is)

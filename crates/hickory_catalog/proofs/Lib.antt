@@ -7,3 +7,4 @@ pub mod OneAnswer
 pub mod Places
 pub mod QueryReplies
 pub mod SentReplies
+pub mod Transferring

@@ -1,5 +1,11 @@
 -- From what a sink's answer says to what a call says of it.
-use Rattle.std.proofs.Common.{◌≡◌, ℕ, ◌+◌, ◌%◌, ◌^◌, ◌⊎◌, inl, inr, false, List, [], ◌∷◌, ◌++◌, length, Option, None, Bor, map, ◌∙◌, sym, ap, subst, refl}
+use Rattle.std.proofs.Common.{◌≡◌, ◌≢◌, Result, Ok, Err, ℕ, ◌+◌, ◌%◌, ◌^◌, ◌⊎◌, inl, inr, false, List, [], ◌∷◌, ◌++◌, length, Option, None, Bor, map, ◌∙◌, sym, ap, subst, refl}
+use Rattle.std.specs.Option.{option_copied}
+use Rattle.std.specs.Prelude.{IfOk, IfErr, OnOk}
+use Rattle.hickory_wire.specs.serialize.writing.ReplyParts.{Refused, ReplyWritten}
+use Rattle.hickory_wire.specs.serialize.writing.Writing.{Fronts, Written}
+use Rattle.hickory_wire.specs.declared.error.ProtoError.{ProtoError}
+use Rattle.hickory_wire.specs.declared.error.ProtoError.TheVariants.{Memory}
 use Rattle.std.specs.Iterator.Adapters.{chain_first, chain_first_done, chain_second, chain_second_done, chain_steps, once_steps, once_item}
 use Rattle.std.specs.Slice.Iter.{iter_steps, iter_rest}
 use Rattle.std.proofs.lemmas.Iterator.Adapters.{YieldsList-from_once}
@@ -12,7 +18,7 @@ use Rattle.hickory_wire.specs.declared.op.header.Metadata.{Metadata}
 use Rattle.hickory_wire.specs.declared.rr.rdata.RData.{RData}
 use Rattle.hickory_wire.specs.declared.rr.record.Record.{Record}
 use Rattle.hickory_wire.specs.declared.rr.tsig.TSIG.{TSIG}
-use Rattle.hickory_base.specs.responses.Responses.{GivesBy, IsBuilt, IsReplyOf, ReplyBase}
+use Rattle.hickory_base.specs.responses.Responses.{GivesBy, IsReplyOf, ReplyBase}
 use Rattle.hickory_base.specs.responses.Sinks.{AddsEntry}
 use Rattle.hickory_base.specs.declared.responses.message_response.MessageResponse.{MessageResponse}
 use Rattle.hickory_catalog.specs.Sending.{AddsReply, IsFailed, IsTaken, failure_header}
@@ -23,12 +29,15 @@ given_by_slice {xs = xs} gives e =
     let d = gives.1 in
     sym gives.2 ∙ items_from_drains gives.0 (d.1.0, d.1.1, λ _. (d.0, d.1.2)) (YieldsList-from_slice xs e)
 
--- two slices' iterators that are chained give the one slice and then the other
-pub given_by_chain : {records xs ys : List (Record RData)} {it : _} → GivesBy (chain_steps iter_steps iter_steps) (λ (x : Bor (Record RData)). x.now) it records
-    → iter_rest (chain_first it) ≡ xs → iter_rest (chain_second it) ≡ ys → chain_first_done it ≡ false → chain_second_done it ≡ false → records ≡ xs ++ ys
-given_by_chain {xs = xs} {ys = ys} gives e f g h =
+-- three slices' iterators that are chained give one slice after another
+pub given_by_chain : {records xs ys zs : List (Record RData)} {it : _} → GivesBy (chain_steps iter_steps (chain_steps iter_steps iter_steps)) (λ (x : Bor (Record RData)). x.now) it records
+    → iter_rest (chain_first it) ≡ xs → iter_rest (chain_first (chain_second it)) ≡ ys → iter_rest (chain_second (chain_second it)) ≡ zs
+    → chain_first_done it ≡ false → chain_second_done it ≡ false → chain_first_done (chain_second it) ≡ false → chain_second_done (chain_second it) ≡ false
+    → records ≡ xs ++ (ys ++ zs)
+given_by_chain {xs = xs} {ys = ys} {zs = zs} gives e f g h k m n =
     let d = gives.1 in
-    sym gives.2 ∙ items_from_drains gives.0 (d.1.0, d.1.1, λ _. (d.0, d.1.2)) (YieldsList-from_chain (YieldsList-from_slice xs e) (YieldsList-from_slice ys f) g h)
+    sym gives.2 ∙ items_from_drains gives.0 (d.1.0, d.1.1, λ _. (d.0, d.1.2))
+    (YieldsList-from_chain (YieldsList-from_slice xs e) (YieldsList-from_chain (YieldsList-from_slice ys f) (YieldsList-from_slice zs g) m n) h k)
 
 no_items : (items : List (Bor (Record RData))) → map (λ (x : Bor (Record RData)). x) items ≡ [] → map (λ (x : Bor (Record RData)). x.now) items ≡ []
 no_items [] e = refl
@@ -47,16 +56,15 @@ reply_by_parts : (r : Reply) (metadata : Metadata) (question : List ℕ) (count 
     → r ≡ record { metadata = metadata; question = question; question_count = count; edns = edns; answers = answers; authorities = authorities; soa = soa; additionals = additionals; signature = signature }
 reply_by_parts r metadata question count edns answers authorities soa additionals signature e f g h i j k l m = rw (← e, ← f, ← g, ← h, ← i, ← j, ← k, ← l, ← m)
 
--- the reply of a response that was built
-pub reply_of_built : {A N S D : Type 0} {answers_give : A → List (Record RData) → Type 0} {authorities_give : N → List (Record RData) → Type 0} {soa_gives : S → List (Record RData) → Type 0} {additionals_give : D → List (Record RData) → Type 0}
-    {response : MessageResponse A N S D} {base expected : ReplyBase} {built_metadata metadata : Metadata} {answers authorities soa additionals : List (Record RData)}
-    → (r : Reply) → IsReplyOf answers_give authorities_give soa_gives additionals_give response r → IsBuilt base built_metadata response → base ≡ expected → built_metadata ≡ metadata
+-- the reply of a response of these parts
+pub reply_of_parts : {A N S D : Type 0} {answers_give : A → List (Record RData) → Type 0} {authorities_give : N → List (Record RData) → Type 0} {soa_gives : S → List (Record RData) → Type 0} {additionals_give : D → List (Record RData) → Type 0}
+    {response : MessageResponse A N S D} {base : ReplyBase} {metadata : Metadata} {answers authorities soa additionals : List (Record RData)} {signature : Option (Record TSIG)}
+    → (r : Reply) → IsReplyOf answers_give authorities_give soa_gives additionals_give response r
+    → response.metadata ≡ metadata → response.queries.now ≡ base.questions → option_copied response.edns ≡ base.edns → response.signature ≡ signature
     → r.answers ≡ answers → r.authorities ≡ authorities → r.soa ≡ soa → r.additionals ≡ additionals
-    → r ≡ record { metadata = metadata; question = expected.questions.bytes; question_count = length expected.questions.queries; edns = expected.edns; answers = answers; authorities = authorities; soa = soa; additionals = additionals; signature = None }
-reply_of_built r is built e m answers authorities soa additionals =
-    let q = built.queries ∙ ap (λ b. b.questions) e in
-    reply_by_parts r _ _ _ _ _ _ _ _ _ (is.metadata ∙ (built.metadata_is ∙ m)) (is.question ∙ ap (λ s. s.bytes) q) (is.question_count ∙ ap (λ s. length s.queries) q)
-    (is.edns ∙ (built.edns ∙ ap (λ b. b.edns) e)) answers authorities soa additionals (is.signature ∙ built.signature)
+    → r ≡ record { metadata = metadata; question = base.questions.bytes; question_count = length base.questions.queries; edns = base.edns; answers = answers; authorities = authorities; soa = soa; additionals = additionals; signature = signature }
+reply_of_parts r is m q e s answers authorities soa additionals =
+    reply_by_parts r _ _ _ _ _ _ _ _ _ (is.metadata ∙ m) (is.question ∙ ap (λ z. z.bytes) q) (is.question_count ∙ ap (λ z. length z.queries) q) (is.edns ∙ e) answers authorities soa additionals (is.signature ∙ s)
 
 module _ {Entry : Type 0} {P : Reply → Type 0} {shows : Reply → Entry → Type 0} {old new : List Entry} where
   -- the entry is one of the reply
@@ -80,3 +88,15 @@ module _ {Entry : Type 0} {P : Reply → Type 0} {shows : Reply → Entry → Ty
         → ((r : Reply) × AddsEntry P shows old new r) ⊎ (new ≡ old) → failures' ≡ (failures + 1) % 2 ^ 64 → told ≡ failure_header request
         → IsTaken shows informs old new failures failures' reply told ⊎ IsFailed shows request old new failures failures' reply told
     sent_after_err reply so added counted informed = inr (record { counted = counted; added = added_or_not so added; informed = informed })
+
+-- from what an encoder's answer says of the reply of a response to what it says of the reply that this must be
+module _ {P : Reply → Type 0} {expected : Reply} (so : (r : Reply) → P r → r ≡ expected) (limit : ℕ) where
+  pub emitted : (bytes : List ℕ) {T : Type 0} (result : Result T ProtoError) (header : T → Header) → IfOk result (λ info. (reply : Reply) × P reply × ReplyWritten limit reply bytes (header info))
+      → OnOk result ((fronts : Fronts) × Written limit expected bytes fronts)
+  emitted bytes (Ok info) header w = (w.2.fronts, subst (λ (r : Reply). Written limit r bytes w.2.fronts) (so w.0 w.1) w.2.written)
+  emitted bytes (Err e) header w = w
+
+  pub not_emitted : {T : Type 0} (result : Result T ProtoError) → IfErr result (λ e. e ≢ Memory → (reply : Reply) × P reply × Refused limit reply e)
+      → IfErr result (λ e. e ≢ Memory → Refused limit expected e)
+  not_emitted (Ok info) w = w
+  not_emitted (Err e) w = λ other. let r = w other in subst (λ (x : Reply). Refused limit x e) (so r.0 r.1) r.2

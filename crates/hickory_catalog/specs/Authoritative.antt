@@ -1,10 +1,8 @@
 -- Replies of a server that holds the zone, or a copy of it.
 use Rattle.std.specs.Prelude.{◌≡◌, ◌==◌, ◌&&◌, ◌||◌, not, ℕ, Bool, true, false, cond, List, [], ◌∷◌, ◌++◌, Option, Some, None, Result, Ok, Err}
 use Rattle.std.specs.Bool.{MatchBool}
-use Rattle.hickory_wire.specs.op.EdnsFields.{EdnsFields}
 use Rattle.hickory_wire.specs.op.Metadata.{response_to}
 use Rattle.hickory_wire.specs.rr.RecordData.{type_of}
-use Rattle.hickory_wire.specs.serialize.writing.Reply.{Reply}
 use Rattle.hickory_wire.specs.declared.op.header.Metadata.{Metadata}
 use Rattle.hickory_wire.specs.declared.op.query.Query.{Query}
 use Rattle.hickory_wire.specs.declared.rr.rdata.RData.{RData}
@@ -14,13 +12,12 @@ use Rattle.hickory_base.specs.zone_store.Lookups.{Flow, answers_of, additionals_
 use Rattle.hickory_base.specs.requests.Requests.{ReceivedRequest}
 use Rattle.hickory_base.specs.declared.errors.LookupError.{LookupError}
 use Rattle.hickory_base.specs.declared.errors.LookupError.TheVariants.{ResponseCode}
-use Rattle.hickory_base.specs.declared.requests.message_request.MessageRequest.{MessageRequest}
 use Rattle.hickory_base.specs.declared.zone_store.handler.ZoneHandler.{Ghosts}
 use Rattle.hickory_base.specs.declared.zone_store.lookup.AuthLookup.{AuthLookup}
 use Rattle.hickory_base.specs.declared.zone_store.lookup.LookupOptions.{LookupOptions}
 use Rattle.hickory_base.specs.declared.zone_store.lookup.LookupControlFlow.TheVariants.{Skip}
 use Rattle.hickory_catalog.specs.Denying.{DenialBesideAnswer, DenialOfNegative, is_wildcard_match, records_given}
-use Rattle.hickory_catalog.specs.Replies.{bare_reply, reply_of_sections}
+use Rattle.hickory_catalog.specs.Replies.{Contents, bare_contents}
 use Rattle.hickory_catalog.specs.Transcripts.{options_of, wants_memory}
 
 -- a reply with AA and this response code (RFC 1035 section 4.1.1)
@@ -42,10 +39,10 @@ abbrev pub denial_section : Flow → Flow → List (Record RData)
 denial_section denial Skip = []
 denial_section denial soa = records_given denial
 
--- A negative reply: the denials, and the SOA of the zone behind them (RFC 2308 section 3, RFC 4035 section 3.1.3). Its TTL is as the handler
--- gave it; RFC 2308 section 3 would have the lesser of it and MINIMUM.
-abbrev pub negative_reply : MessageRequest → Option EdnsFields → LookupError → Flow → Flow → Reply
-negative_reply request edns e denial soa = reply_of_sections request edns (authoritative_metadata request.metadata (negative_code e)) [] (denial_section denial soa ++ records_given soa) []
+-- What a negative reply says: the denials, and the SOA of the zone behind them (RFC 2308 section 3, RFC 4035 section 3.1.3). Its TTL is as the
+-- handler gave it; RFC 2308 section 3 would have the lesser of it and MINIMUM.
+abbrev pub negative_contents : Metadata → LookupError → Flow → Flow → Contents
+negative_contents request e denial soa = record (bare_contents (authoritative_metadata request (negative_code e))) { authorities = denial_section denial soa ++ records_given soa }
 
 -- the first record is one of type NS, which is 2
 abbrev pub starts_with_ns : List (Record RData) → Bool
@@ -72,11 +69,15 @@ additional_section found = or_none (additionals_of found) where
   or_none None = []
   or_none (Some records) = records
 
--- The reply with what was found, and with what else the handler gave for the authority section. AA is set with a referral too, as in
+-- What a reply says with what was found, and with what else the handler gave for the authority section. AA is set with a referral too, as in
 -- the Rust crate, where RFC 1034 section 6.2.6 has it clear.
-abbrev pub positive_reply : MessageRequest → Option EdnsFields → ℕ → AuthLookup → Flow → Reply
-positive_reply request edns query_type found beside = reply_of_sections request edns (authoritative_metadata request.metadata 0)
-    (answer_section query_type (answers_of found)) (referral_section query_type (answers_of found) ++ records_given beside) (additional_section found)
+abbrev pub positive_contents : Metadata → ℕ → AuthLookup → Flow → Contents
+positive_contents request query_type found beside = record {
+  metadata = authoritative_metadata request 0;
+  answers = answer_section query_type (answers_of found);
+  authorities = referral_section query_type (answers_of found) ++ records_given beside;
+  additionals = additional_section found;
+}
 
 -- What else a handler gives for the authority section of a positive reply: with the SOA of the zone, type 6, its servers, type 2; with
 -- other records a denial, where one is wanted.
@@ -85,21 +86,21 @@ BesideAnswer handler h query options found given = MatchBool (query.query_type =
     (handler.lookup_gives h (handler.origin_of h) 2 None options given)
     (DenialBesideAnswer handler h query (is_wildcard_match (answers_of found)) options given)
 
--- The reply of a handler that holds the zone, to what the chain answered in the end. Each call that it takes is one of the handler that
+-- What a handler that holds the zone replies to what the chain answered in the end. Each call that it takes is one of the handler that
 -- was asked, with the options of the request and without information on it; none of them wants memory.
-pub data AuthoritativeReply {H : Type 0} (handler : Ghosts H) (h : H) (request : ReceivedRequest) (edns : Option EdnsFields) (query : Query) (reply : Reply)
+pub data AuthoritativeReply {H : Type 0} (handler : Ghosts H) (h : H) (request : ReceivedRequest) (query : Query) (contents : Contents)
     : Result AuthLookup LookupError → Type 0 where
   -- It refuses, and no more is asked.
   refuses : {e : LookupError} {code : ℕ} → refusal_code e ≡ Some code
-      → reply ≡ bare_reply request.message edns (authoritative_metadata request.message.metadata code)
-      → AuthoritativeReply handler h request edns query reply (Err e)
+      → contents ≡ bare_contents (authoritative_metadata request.message.metadata code)
+      → AuthoritativeReply handler h request query contents (Err e)
   -- Any other error: where DO is set and the zone can deny, a denial is asked for; then the SOA of the zone, type 6.
   denies : {e : LookupError} (denial soa : Flow) → refusal_code e ≡ None
       → DenialOfNegative handler h query (options_of request) denial → wants_memory denial ≡ false
       → handler.lookup_gives h (handler.origin_of h) 6 None (options_of request) soa → wants_memory soa ≡ false
-      → reply ≡ negative_reply request.message edns e denial soa
-      → AuthoritativeReply handler h request edns query reply (Err e)
+      → contents ≡ negative_contents request.message.metadata e denial soa
+      → AuthoritativeReply handler h request query contents (Err e)
   -- It has records.
   finds : {found : AuthLookup} (beside : Flow) → BesideAnswer handler h query (options_of request) found beside → wants_memory beside ≡ false
-      → reply ≡ positive_reply request.message edns query.query_type found beside
-      → AuthoritativeReply handler h request edns query reply (Ok found)
+      → contents ≡ positive_contents request.message.metadata query.query_type found beside
+      → AuthoritativeReply handler h request query contents (Ok found)

@@ -2,11 +2,9 @@
 use Rattle.std.specs.Prelude.{◌==◌, nat_eq, ◌&&◌, ◌||◌, not, ℕ, Bool, true, false, cond, List, [], ◌∷◌, ◌++◌, filter, Option, Some, None, option_to_list, Result, Ok, Err}
 use Rattle.std.specs.List.{list_all, list_any}
 use Rattle.hickory_wire.specs.rr.domain.DomainName.{DomainName}
-use Rattle.hickory_wire.specs.op.EdnsFields.{EdnsFields}
 use Rattle.hickory_wire.specs.op.Metadata.{response_to}
 use Rattle.hickory_wire.specs.rr.domain.NameOrder.{name_eq}
 use Rattle.hickory_wire.specs.rr.RecordData.{type_of}
-use Rattle.hickory_wire.specs.serialize.writing.Reply.{Reply}
 use Rattle.hickory_wire.specs.declared.op.header.Metadata.{Metadata}
 use Rattle.hickory_wire.specs.declared.op.query.Query.{Query}
 use Rattle.hickory_wire.specs.declared.rr.rdata.RData.{RData}
@@ -22,7 +20,7 @@ use Rattle.hickory_base.specs.declared.requests.message_request.MessageRequest.{
 use Rattle.hickory_base.specs.declared.zone_store.lookup.AuthLookup.{AuthLookup}
 use Rattle.hickory_base.specs.declared.zone_store.lookup.AuthLookup.TheVariants.{Resolved}
 use Rattle.hickory_catalog.specs.declared.forwarded.Findings.{Findings}
-use Rattle.hickory_catalog.specs.Replies.{bare_reply, reply_of_sections}
+use Rattle.hickory_catalog.specs.Replies.{Contents, bare_contents}
 
 -- a response code alone
 abbrev pub code_alone : ℕ → Bool → Findings
@@ -124,14 +122,18 @@ passed_on request query records = filter (is_passed_on (asks_for_dnssec request.
 abbrev pub forwarded_metadata : Metadata → Bool → ℕ → Metadata
 forwarded_metadata request authentic code = record (response_to request) { recursion_available = true; authentic_data = authentic; response_code = code }
 
--- the reply with what is passed on; the SOA of a negative answer stands before the other authorities
-abbrev pub findings_reply : MessageRequest → Option EdnsFields → Query → Bool → Findings → Reply
-findings_reply request edns query authentic found = reply_of_sections request edns (forwarded_metadata request.metadata authentic found.code)
-    (passed_on request query found.answers) (passed_on request query (option_to_list found.soa) ++ passed_on request query found.authorities) (passed_on request query found.additionals)
+-- what the reply says with what is passed on; the SOA of a negative answer stands before the other authorities
+abbrev pub findings_contents : MessageRequest → Query → Bool → Findings → Contents
+findings_contents request query authentic found = record {
+  metadata = forwarded_metadata request.metadata authentic found.code;
+  answers = passed_on request query found.answers;
+  authorities = passed_on request query (option_to_list found.soa) ++ passed_on request query found.authorities;
+  additionals = passed_on request query found.additionals;
+}
 
--- The reply of a handler that asks elsewhere, to what the chain answered in the end. A client that does not want recursion, RD clear, is
+-- What a handler that asks elsewhere replies to what the chain answered in the end. A client that does not want recursion, RD clear, is
 -- refused as in the Rust crate: Refused, which is 5. RFC 1034 section 4.3.1 would answer it from what is known here.
-abbrev pub forwarded_reply : MessageRequest → Option EdnsFields → Query → Bool → Result AuthLookup LookupError → Reply
-forwarded_reply request edns query validates result = cond request.metadata.recursion_desired
-    (findings_reply request edns query (is_authentic validates request (findings_of query.name result)) (validated validates request.metadata (findings_of query.name result)))
-    (bare_reply request edns (forwarded_metadata request.metadata false 5))
+abbrev pub forwarded_contents : MessageRequest → Query → Bool → Result AuthLookup LookupError → Contents
+forwarded_contents request query validates result = cond request.metadata.recursion_desired
+    (findings_contents request query (is_authentic validates request (findings_of query.name result)) (validated validates request.metadata (findings_of query.name result)))
+    (bare_contents (forwarded_metadata request.metadata false 5))

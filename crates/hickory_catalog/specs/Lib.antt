@@ -7,5 +7,8 @@ pub mod Replies
 pub mod ReplyEdns
 pub mod Requests
 pub mod Sending
+pub mod Server
+pub mod Signing
 pub mod Transcripts
+pub mod Transfers
 pub mod Zones

@@ -1,16 +1,17 @@
 -- Which reply a request gets.
-use Rattle.std.specs.Prelude.{◌≡◌, ◌==◌, ◌⊎◌, ℕ, Bool, true, false, cond, List, Option, Some, None, is_some}
+use Rattle.std.specs.Prelude.{◌≡◌, ◌==◌, ℕ, Bool, true, false, cond, List, [], ◌∷◌, Option, Some, None, is_some}
 use Rattle.hickory_wire.specs.rr.domain.DomainName.{DomainName}
+use Rattle.hickory_wire.specs.op.EdnsFields.{EdnsFields}
 use Rattle.hickory_wire.specs.serialize.writing.Reply.{Reply}
 use Rattle.hickory_wire.specs.declared.op.header.MessageType.{MessageType}
 use Rattle.hickory_wire.specs.declared.op.header.MessageType.TheVariants as message_type
 use Rattle.hickory_base.specs.requests.Questions.{edns_version}
 use Rattle.hickory_base.specs.requests.Requests.{ReceivedRequest}
 use Rattle.hickory_base.specs.declared.requests.message_request.MessageRequest.{MessageRequest}
-use Rattle.hickory_base.specs.declared.zone_store.handler.ZoneHandler.{Ghosts}
-use Rattle.hickory_catalog.specs.Queries.{QueryReply}
-use Rattle.hickory_catalog.specs.Replies.{error_reply, unimplemented_reply}
+use Rattle.hickory_catalog.specs.Queries.{QueryAnswered}
+use Rattle.hickory_catalog.specs.Replies.{error_reply}
 use Rattle.hickory_catalog.specs.ReplyEdns.{reply_edns}
+use Rattle.hickory_catalog.specs.Server.{Server}
 
 -- QR is clear (RFC 1035 section 4.1.1)
 abbrev pub is_request : MessageType → Bool
@@ -27,19 +28,21 @@ header_fault request = cond (is_request request.metadata.message_type) (cond (re
 abbrev pub request_fault : MessageRequest → Option ℕ
 request_fault request = cond (edns_version request.edns == 0) (header_fault request) (Some 16)
 
--- The reply to a request, by a server with these zones and this identifier, if it has one.
-pub data RequestReply {H : Type 0} (handler : Ghosts H) (zones : List (DomainName × List H)) (identifier : Option (List ℕ)) (request : ReceivedRequest) (reply : Reply) : Type 0 where
+-- What a request comes to, at this moment: the replies that are sent, and the zones after it.
+pub data RequestAnswered {H : Type 0} (server : Server H) (request : ReceivedRequest) (now : ℕ) (replies : List Reply) (zones : List (DomainName × List H)) : Type 0 where
   -- It is not looked into.
   refused : {code : ℕ} → request_fault request.message ≡ Some code
-      → reply ≡ error_reply request.message (reply_edns identifier request.message.edns) code
-      → RequestReply handler zones identifier request reply
+      → replies ≡ error_reply request.message (reply_edns server.identifier request.message.edns) code ∷ []
+      → zones ≡ server.zones
+      → RequestAnswered server request now replies zones
   -- It is a query.
   asks : request_fault request.message ≡ None
-      → QueryReply handler zones request (reply_edns identifier request.message.edns) reply
-      → RequestReply handler zones identifier request reply
+      → QueryAnswered server request (reply_edns server.identifier request.message.edns) now replies zones
+      → RequestAnswered server request now replies zones
 
--- A reply has the identifier of its request (RFC 1035 section 4.1.1), and an OPT record just where the request has one (RFC 6891
--- sections 6.1.1 and 7); in a case that is not implemented it has none.
-pub record BelongsTo (request : ReceivedRequest) (reply : Reply) : Type 0 where
+-- A reply has the identifier of its request (RFC 1035 section 4.1.1), and an OPT record just where there is EDNS for it (RFC 6891
+-- sections 6.1.1 and 7). TC is set only where it is cut when it is written.
+pub record BelongsTo (request : ReceivedRequest) (edns : Option EdnsFields) (reply : Reply) : Type 0 where
   pub id : reply.metadata.id ≡ request.message.metadata.id
-  pub edns : (is_some reply.edns ≡ is_some request.message.edns) ⊎ (reply ≡ unimplemented_reply request.message)
+  pub edns_kept : is_some reply.edns ≡ is_some edns
+  pub untruncated : reply.metadata.truncation ≡ false

@@ -1,13 +1,14 @@
 //! The catalog: which zone answers a request, and with what reply.
 
-ghost use Rattle.std.specs.Prelude.{◌≡◌, ◌↔◌, [], Some, None, IfOk, IfErr, OnErr, IsTrue, option_map};
+ghost use Rattle.std.specs.Prelude.{◌≡◌, ◌↔◌, [], ◌∷◌, Some, None, IfOk, IfErr, OnErr, IsTrue, option_map};
 ghost use Rattle.std.specs.Option.{option_copied};
 ghost use Rattle.hickory_wire.specs.serialize.writing.Reply.{Reply};
 ghost use Rattle.hickory_base.specs.responses.Responses.{header_of};
 ghost use Rattle.hickory_catalog.specs.Find.{Finds};
-ghost use Rattle.hickory_catalog.specs.Queries.{QueryReply};
-ghost use Rattle.hickory_catalog.specs.Requests.{BelongsTo, RequestReply};
+ghost use Rattle.hickory_catalog.specs.Queries.{QueryAnswered};
+ghost use Rattle.hickory_catalog.specs.Requests.{BelongsTo, RequestAnswered};
 ghost use Rattle.hickory_catalog.specs.Sending.{IsSent};
+ghost use Rattle.hickory_catalog.specs.Server.{server_of};
 ghost use Rattle.hickory_catalog.specs.Zones.{AreInOrder, ChangesAt, HasZone};
 
 use crate::edns::{cloned, reply_edns};
@@ -32,7 +33,7 @@ use std::alloc::{AllocError, Global};
 pub struct Catalog<S: ReplySigner, H: ZoneHandler = Box<dyn ZoneHandler>> {
     zones: Zones<H>,
     nsid: Option<NSIDPayload>,
-    signer: S,
+    pub(crate) signer: S,
 }
 
 impl<S: ReplySigner, H: ZoneHandler> Catalog<S, H> {
@@ -111,10 +112,15 @@ impl<S: ReplySigner, H: ZoneHandler> Catalog<S, H> {
     /// The handler that was asked makes the reply: a primary or secondary one with AA, with denials where they are wanted
     /// (RFC 4035 section 3.1.3) and the SOA of the zone in a negative reply (RFC 2308 section 3), an external one with RA,
     /// judged by DNSSEC proofs where it validates (RFC 4035 section 3.2); without RD its reply is Refused. Searches and
-    /// further lookups are told DO of the request's EDNS, consults DO of the reply's. `now` is not used yet.
+    /// further lookups are told DO of the request's EDNS, consults DO of the reply's.
     ///
-    /// A transfer, and an answer with a context for the signer, are not implemented yet, and are answered ServFail without
-    /// EDNS.
+    /// A transfer, of type AXFR, is asked of the handlers from left to right until one gives it or says why not; where none
+    /// does, the reply is ServFail. The reply has AA and the records of the zone as answers (RFC 5936 section 2.2), or a
+    /// code without AA and without records.
+    ///
+    /// Where the answer came with a context for the signer, the reply is written without a signature, within 65,535 bytes,
+    /// and signed (RFC 8945 section 5.3). Where it cannot be written, or the signer fails, it is ServFail without records
+    /// and without a signature. ServFail for want of an answer is not signed.
     ///
     /// Where the sink fails the answer tells of ServFail. `Memory` says that no reply was handed over.
     pub fn lookup<R: ResponseHandler>(
@@ -122,39 +128,39 @@ impl<S: ReplySigner, H: ZoneHandler> Catalog<S, H> {
         alloc: Global,
         request: &Request,
         edns: Option<&Edns>,
-        _now: u64,
+        now: u64,
         sink: &mut R,
     ) -> Result<ResponseInfo, CatalogError>
         ensures replied { IfOk result (λ info. (reply : Reply) ×
-            QueryReply H.ZoneHandler self.now.zones request.now (option_copied edns.entry) reply ×
+            QueryAnswered (server_of H.ZoneHandler S.signature_for self.now) request.now (option_copied edns.entry) now (reply ∷ []) self.now.zones × BelongsTo request.now (option_copied edns.entry) reply ×
             IsSent R.shows R.informs request.now.message.metadata (R.settings sink.old) (R.settings sink.new) (R.entries sink.old) (R.entries sink.new) (R.failures sink.old) (R.failures sink.new) reply (header_of info)) }
         ensures refused { IfErr result (λ e. (e ≡ CatalogError.Memory) ×
             (R.settings sink.new ≡ R.settings sink.old) × (R.entries sink.new ≡ R.entries sink.old) × (R.failures sink.new ≡ R.failures sink.old)) }
     {
         let mut edns = cloned(edns)?;
-        answer_query(&self.zones, alloc, request, &mut edns, sink)
+        answer_query(self, alloc, request, &mut edns, now, sink)
     }
 }
 
 impl<S: ReplySigner, H: ZoneHandler> RequestHandler for Catalog<S, H> {
     /// Hands the sink one reply. Where the request has an OPT record, so has the reply: version 0, DO as asked, the payload
     /// that was asked for but at least 512 bytes, and the server's identifier where it is set and the request asks for it
-    /// (RFC 6891 section 6, RFC 5001). `now` is not used yet.
+    /// (RFC 6891 section 6, RFC 5001).
     ///
     /// An EDNS version but 0 is answered BADVERS, a message with QR set FormErr, an opcode but Query NotImp; what is wrong
     /// first decides. Any other request is answered as `lookup` does with that EDNS.
     ///
-    /// The reply has the request's id, and an OPT record just where the request has one, but for the cases of `lookup` that
-    /// are not implemented.
+    /// The reply has the request's id, and an OPT record just where the request has one. TC is set only where it is cut when
+    /// it is written.
     fn handle_request<R: ResponseHandler>(
         &mut self,
         alloc: Global,
         request: &Request,
-        _now: u64,
+        now: u64,
         sink: &mut R,
     ) -> Result<ResponseInfo, CatalogError>
         ensures replied { IfOk result (λ info. (reply : Reply) ×
-            RequestReply H.ZoneHandler self.old.zones self.old.nsid request.now reply × BelongsTo request.now reply ×
+            RequestAnswered (server_of H.ZoneHandler S.signature_for self.old) request.now now (reply ∷ []) self.new.zones × BelongsTo request.now request.now.message.edns reply ×
             IsSent R.shows R.informs request.now.message.metadata (R.settings sink.old) (R.settings sink.new) (R.entries sink.old) (R.entries sink.new) (R.failures sink.old) (R.failures sink.new) reply (header_of info)) }
         ensures refused { IfErr result (λ e. (e ≡ CatalogError.Memory) ×
             (R.settings sink.new ≡ R.settings sink.old) × (R.entries sink.new ≡ R.entries sink.old) × (R.failures sink.new ≡ R.failures sink.old)) }
@@ -163,8 +169,8 @@ impl<S: ReplySigner, H: ZoneHandler> RequestHandler for Catalog<S, H> {
         let message = request.message();
         let mut edns = reply_edns(alloc, self.nsid(), message.edns.as_ref())?;
         match request_fault(message) {
-            Some(code) => Ok(send_error(sink, alloc, message, edns, code)),
-            None => answer_query(&self.zones, alloc, request, &mut edns, sink),
+            Some(code) => Ok(send_error(sink, alloc, message, &mut edns, code)),
+            None => answer_query(self, alloc, request, &mut edns, now, sink),
         }
     }
 }

@@ -1,13 +1,10 @@
 //! Denials beside the records of a zone, and in their place.
 
-ghost use Rattle.std.specs.Prelude.{◌≡◌, false, IfErr, OnOk};
+ghost use Rattle.std.specs.Prelude.{◌≡◌};
 ghost use Rattle.std.specs.Option.{option_copied};
 ghost use Rattle.hickory_base.specs.zone_store.Lookups.{answers_of};
-ghost use Rattle.hickory_catalog.specs.Denying.{DenialBesideAnswer, DenialGiven, DenialOfNegative, is_expanded, is_wildcard_match, needs_denial, records_given, signed_labels};
-ghost use Rattle.hickory_catalog.specs.Transcripts.{wants_memory};
+ghost use Rattle.hickory_catalog.specs.Denying.{DenialBesideAnswer, DenialGiven, DenialOfNegative, is_expanded, is_wildcard_match, needs_denial, signed_labels};
 
-use crate::chains::wants_memory;
-use hickory_base::errors::CatalogError;
 use hickory_base::zone_store::{
     AuthLookup, LookupControlFlow, LookupOptions, Nsec3QueryInfo, NxProofKind, ZoneHandler,
 };
@@ -22,29 +19,6 @@ pub(crate) fn answers(found: &AuthLookup) -> &[Record]
         AuthLookup::Empty => &[],
         AuthLookup::Resolved(found) => found.answers.as_slice(),
         AuthLookup::Records { answers, .. } => answers.as_slice(),
-    }
-}
-
-/// The records of a handler's answer, none where it is an error or a `Skip`.
-pub(crate) fn records_given(answer: &LookupControlFlow<AuthLookup>) -> &[Record]
-    ensures { result.now ≡ records_given answer.now }
-{
-    match answer {
-        LookupControlFlow::Continue(Ok(found)) => answers(found),
-        LookupControlFlow::Break(Ok(found)) => answers(found),
-        _ => &[],
-    }
-}
-
-/// Fails where an answer says that memory was refused, which ends the call.
-pub(crate) fn check_memory(answer: &LookupControlFlow<AuthLookup>) -> Result<(), CatalogError>
-    ensures ok { OnOk result (wants_memory answer.now ≡ false) }
-    ensures err { IfErr result (λ e. e ≡ CatalogError.Memory) }
-{
-    if wants_memory(answer) {
-        Err(CatalogError::Memory)
-    } else {
-        Ok(())
     }
 }
 

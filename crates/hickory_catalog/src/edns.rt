@@ -49,11 +49,11 @@ pub(crate) fn cloned(edns: Option<&Edns>) -> Result<Option<Edns>, AllocError>
     }
 }
 
-/// What the OPT record says, with the high eight bits of this response code.
-pub(crate) fn with_high_code(code: ResponseCode, edns: Option<Edns>) -> Option<Edns>
-    ensures { result ≡ with_high_code code edns }
+/// Sets the high eight bits of this response code in what the OPT record says, where there is one.
+pub(crate) fn set_high_code(code: ResponseCode, edns: &mut Option<Edns>)
+    ensures { edns.new ≡ with_high_code code edns.old }
 {
-    let mut edns = edns?;
-    edns.set_rcode_high(code.high());
-    Some(edns)
+    if let Some(edns) = edns {
+        edns.set_rcode_high(code.high());
+    }
 }

@@ -1,22 +1,19 @@
-//! Replies of a server that asked elsewhere.
+//! What a server that asked elsewhere replies.
 
 ghost use Rattle.std.specs.Prelude.{◌≡◌, filter, option_to_list};
 ghost use Rattle.std.specs.List.{list_all, list_any};
 ghost use Rattle.hickory_base.specs.zone_store.Lookups.{asks_for_dnssec};
-ghost use Rattle.hickory_base.specs.responses.Responses.{header_of};
-ghost use Rattle.hickory_catalog.specs.Forwarded.{code_alone, findings_of, findings_reply, forwarded_code, forwarded_metadata, forwarded_reply, has_name, is_authentic, is_bogus, is_bogus_proof, is_dnssec_bogus, is_dnssec_type, is_named, is_no_soa, is_passed_on, is_secure, is_secure_proof, nothing_found, passed_on, records_found, validated, without_bogus};
-ghost use Rattle.hickory_catalog.specs.Sending.{IsSent};
+ghost use Rattle.hickory_catalog.specs.Forwarded.{code_alone, findings_contents, findings_of, forwarded_code, forwarded_contents, forwarded_metadata, has_name, is_authentic, is_bogus, is_bogus_proof, is_dnssec_bogus, is_dnssec_type, is_named, is_no_soa, is_passed_on, is_secure, is_secure_proof, nothing_found, passed_on, records_found, validated, without_bogus};
+ghost use Rattle.hickory_catalog.specs.Replies.{contents_of};
 
-use crate::sending::{Sections, send_records};
+use crate::contents::ReplyContents;
 use hickory_base::errors::{DnsError, LookupError};
 use hickory_base::message_request::MessageRequest;
-use hickory_base::server::{ResponseHandler, ResponseInfo};
 use hickory_base::zone_store::{AuthLookup, LookupOptions};
 use hickory_wire::{
-    Boxed, Edns, Items, LowerQuery, Metadata, Name, Proof, Record, RecordType, ResponseCode,
+    Boxed, Items, LowerQuery, Metadata, Name, Proof, Record, RecordType, ResponseCode,
 };
 use std::alloc::Global;
-use std::slice;
 
 /// What there is to pass on.
 #[derive(Drop)]
@@ -280,21 +277,21 @@ fn passed_on(request: &MessageRequest, query: &LowerQuery, records: Items<Record
     Items::from_vec(records)
 }
 
-/// The SOA that is passed on, as the front of the authority section.
-fn soa_passed_on<'a>(
+/// The SOA that is passed on.
+fn soa_passed_on(
     request: &MessageRequest,
     query: &LowerQuery,
-    soa: &'a Option<Boxed<Record>>,
-) -> &'a [Record]
-    ensures { result.now ≡ passed_on request.now query.now (option_to_list soa.now) }
+    soa: Option<Boxed<Record>>,
+) -> Option<Boxed<Record>>
+    ensures { option_to_list result ≡ passed_on request.now query.now (option_to_list soa) }
 {
     match soa {
-        None => &[],
+        None => None,
         Some(soa) => {
             if is_passed_on(asks_for_dnssec(request), query.query_type(), soa.get()) {
-                slice::from_ref(soa.get())
+                Some(soa)
             } else {
-                &[]
+                None
             }
         }
     }
@@ -311,58 +308,43 @@ fn forwarded_metadata(request: &Metadata, authentic: bool, code: ResponseCode) -
     metadata
 }
 
-/// Hands over what is passed on.
-fn send_findings<R: ResponseHandler>(
-    sink: &mut R,
+/// What the reply says with what is passed on.
+fn findings_contents(
     alloc: Global,
     request: &MessageRequest,
-    edns: Option<Edns>,
     query: &LowerQuery,
     authentic: bool,
     found: Findings,
-) -> ResponseInfo
-    ensures { IsSent R.shows R.informs request.now.metadata (R.settings sink.old) (R.settings sink.new) (R.entries sink.old) (R.entries sink.new) (R.failures sink.old) (R.failures sink.new) (findings_reply request.now edns query.now authentic found) (header_of result) }
+) -> ReplyContents
+    ensures { contents_of result ≡ findings_contents request.now query.now authentic found }
 {
-    let Findings {
-        code,
-        answers,
-        authorities,
-        soa,
-        additionals,
-        ..
-    } = found;
-    let metadata = forwarded_metadata(&request.metadata, authentic, code);
-    let answers = passed_on(request, query, answers);
-    let authorities = passed_on(request, query, authorities);
-    let additionals = passed_on(request, query, additionals);
-    let sections = Sections {
-        answers: answers.as_slice(),
-        authorities: soa_passed_on(request, query, &soa),
-        other_authorities: authorities.as_slice(),
-        additionals: additionals.as_slice(),
-    };
-    send_records(sink, alloc, request, edns, metadata, sections)
+    ReplyContents {
+        metadata: forwarded_metadata(&request.metadata, authentic, found.code),
+        answers: passed_on(request, query, found.answers),
+        soa: soa_passed_on(request, query, found.soa),
+        authorities: Items::new(alloc),
+        other_authorities: passed_on(request, query, found.authorities),
+        additionals: passed_on(request, query, found.additionals),
+    }
 }
 
-/// Answers for a handler that asks elsewhere, to what the chain answered in the end, and hands the reply over.
-pub(crate) fn send_forwarded<R: ResponseHandler>(
-    sink: &mut R,
+/// What a handler that asks elsewhere replies to what the chain answered in the end.
+pub(crate) fn forwarded_contents(
     alloc: Global,
     request: &MessageRequest,
-    edns: Option<Edns>,
     query: &LowerQuery,
     validates: bool,
     outcome: Result<AuthLookup, LookupError>,
-) -> ResponseInfo
-    ensures { IsSent R.shows R.informs request.now.metadata (R.settings sink.old) (R.settings sink.new) (R.entries sink.old) (R.entries sink.new) (R.failures sink.old) (R.failures sink.new) (forwarded_reply request.now edns query.now validates outcome) (header_of result) }
+) -> ReplyContents
+    ensures { contents_of result ≡ forwarded_contents request.now query.now validates outcome }
 {
     if !request.metadata.recursion_desired {
-        let refused = forwarded_metadata(&request.metadata, false, ResponseCode::REFUSED);
         drop(outcome);
-        return send_records(sink, alloc, request, edns, refused, Sections::none());
+        let refused = forwarded_metadata(&request.metadata, false, ResponseCode::REFUSED);
+        return ReplyContents::bare(alloc, refused);
     }
     let found = findings_of(alloc, &query.original().name, outcome);
     let authentic = is_authentic(validates, request, &found);
     let found = validated(alloc, validates, &request.metadata, found);
-    send_findings(sink, alloc, request, edns, query, authentic, found)
+    findings_contents(alloc, request, query, authentic, found)
 }

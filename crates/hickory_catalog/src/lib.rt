@@ -4,6 +4,7 @@
 mod authoritative;
 pub mod catalog;
 mod chains;
+mod contents;
 mod denying;
 mod edns;
 mod forwarded;
@@ -11,4 +12,6 @@ mod queries;
 mod requests;
 mod sending;
 pub mod signer;
+mod signing;
+mod transfers;
 pub mod zones;

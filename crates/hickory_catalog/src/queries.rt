@@ -1,56 +1,33 @@
 //! From a query to its one reply.
 
-ghost use Rattle.std.specs.Prelude.{◌≡◌, ◌<◌, length, IfOk, IfErr};
-ghost use Rattle.std.specs.Option.{option_copied};
+ghost use Rattle.std.specs.Prelude.{◌≡◌, ◌==◌, true, false, IfOk, IfErr};
 ghost use Rattle.hickory_wire.specs.serialize.writing.Reply.{Reply};
-ghost use Rattle.hickory_base.specs.requests.Requests.{information, information_of};
 ghost use Rattle.hickory_base.specs.responses.Responses.{header_of};
-ghost use Rattle.hickory_catalog.specs.Queries.{HandlerReply, QueryReply, ResultReply, ZoneReply, is_out_of_memory};
+ghost use Rattle.hickory_catalog.specs.Queries.{HandlerReply, QueryReply, ZoneReply, is_out_of_memory};
+ghost use Rattle.hickory_catalog.specs.Replies.{Contents, contents_of};
 ghost use Rattle.hickory_catalog.specs.Sending.{IsSent};
+ghost use Rattle.hickory_catalog.specs.Server.{server_of};
+ghost use Rattle.hickory_catalog.specs.Signing.{SignedReply};
+ghost use Rattle.hickory_catalog.specs.Transfers.{transfer_contents};
 
-use crate::authoritative::answer_authoritatively;
+use crate::authoritative::authoritative_contents;
+use crate::catalog::Catalog;
 use crate::chains::{chain_answer, is_memory};
-use crate::forwarded::send_forwarded;
-use crate::sending::{send_error, send_unimplemented};
-use crate::zones::Zones;
+use crate::contents::ReplyContents;
+use crate::forwarded::forwarded_contents;
+use crate::sending::send_error;
+use crate::signer::ReplySigner;
+use crate::signing::send_signed;
+use crate::transfers::{ask_for_transfer, transfer_contents};
 use hickory_base::errors::{CatalogError, LookupError};
 use hickory_base::server::{Request, RequestInfo, ResponseHandler, ResponseInfo};
-use hickory_base::zone_store::{AuthLookup, LookupOptions, ZoneHandler, ZoneType};
+use hickory_base::zone_store::{AuthLookup, LookupOptions, ZoneHandler, ZoneTransfer, ZoneType};
 use hickory_wire::{Edns, LowerQuery, RecordType, ResponseCode, TSigResponseContext};
 use std::alloc::Global;
 use std::mem;
 
-/// Answers for the handler that was asked, to what the chain answered in the end, whose records may be taken out.
-fn answer_for_handler<H: ZoneHandler, R: ResponseHandler>(
-    handler: &H,
-    alloc: Global,
-    request: &Request,
-    edns: &mut Option<Edns>,
-    query: &LowerQuery,
-    outcome: &mut Result<AuthLookup, LookupError>,
-    sink: &mut R,
-) -> Result<ResponseInfo, CatalogError>
-    ensures replied { IfOk result (λ info. (reply : Reply) ×
-        HandlerReply H.ZoneHandler handler.now (H.zone_type_of handler.now) request.now edns.old query.now outcome.old reply ×
-        IsSent R.shows R.informs request.now.message.metadata (R.settings sink.old) (R.settings sink.new) (R.entries sink.old) (R.entries sink.new) (R.failures sink.old) (R.failures sink.new) reply (header_of info)) }
-    ensures refused { IfErr result (λ e. (e ≡ CatalogError.Memory) ×
-        (R.settings sink.new ≡ R.settings sink.old) × (R.entries sink.new ≡ R.entries sink.old) × (R.failures sink.new ≡ R.failures sink.old)) }
-{
-    match handler.zone_type() {
-        ZoneType::Primary | ZoneType::Secondary => {
-            answer_authoritatively(handler, alloc, request, edns, query, outcome, sink)
-        }
-        ZoneType::External => {
-            let validates = handler.can_validate_dnssec();
-            let message = request.message();
-            let outcome = mem::replace(outcome, Ok(AuthLookup::Empty));
-            Ok(send_forwarded(sink, alloc, message, edns.take(), query, validates, outcome))
-        }
-    }
-}
-
 /// Whether an answer says that memory was refused.
-fn is_out_of_memory(outcome: &Result<AuthLookup, LookupError>) -> bool
+fn is_out_of_memory<T>(outcome: &Result<T, LookupError>) -> bool
     ensures { result ≡ is_out_of_memory outcome.now }
 {
     match outcome {
@@ -59,9 +36,36 @@ fn is_out_of_memory(outcome: &Result<AuthLookup, LookupError>) -> bool
     }
 }
 
-/// Answers to what a chain answered in the end, whose records may be taken out, where this handler was asked. An answer
-/// with a context for the signer is not implemented.
-fn answer_unless_signed<H: ZoneHandler, R: ResponseHandler>(
+/// What the handler that was asked replies to what the chain answered in the end, whose records may be taken out.
+fn handler_contents<H: ZoneHandler>(
+    handler: &H,
+    alloc: Global,
+    request: &Request,
+    query: &LowerQuery,
+    outcome: &mut Result<AuthLookup, LookupError>,
+) -> Result<ReplyContents, CatalogError>
+    ensures replied { IfOk result (λ contents. (is_out_of_memory outcome.old ≡ false) ×
+        HandlerReply H.ZoneHandler handler.now (H.zone_type_of handler.now) request.now query.now outcome.old (contents_of contents)) }
+    ensures refused { IfErr result (λ e. e ≡ CatalogError.Memory) }
+{
+    if is_out_of_memory(outcome) {
+        return Err(CatalogError::Memory);
+    }
+    match handler.zone_type() {
+        ZoneType::Primary | ZoneType::Secondary => {
+            authoritative_contents(handler, alloc, request, query, outcome)
+        }
+        ZoneType::External => {
+            let validates = handler.can_validate_dnssec();
+            let outcome = mem::replace(outcome, Ok(AuthLookup::Empty));
+            Ok(forwarded_contents(alloc, request.message(), query, validates, outcome))
+        }
+    }
+}
+
+/// Answers to what a chain answered in the end, whose records may be taken out, where this handler was asked.
+fn answer_outcome<H: ZoneHandler, S: ReplySigner, R: ResponseHandler>(
+    signer: &S,
     handler: &H,
     alloc: Global,
     request: &Request,
@@ -71,65 +75,121 @@ fn answer_unless_signed<H: ZoneHandler, R: ResponseHandler>(
     context: &Option<TSigResponseContext>,
     sink: &mut R,
 ) -> Result<ResponseInfo, CatalogError>
-    ensures replied { IfOk result (λ info. (reply : Reply) ×
-        ResultReply H.ZoneHandler handler.now request.now edns.old query.now reply outcome.old context.now ×
+    ensures replied { IfOk result (λ info. (contents : Contents) × (reply : Reply) × (is_out_of_memory outcome.old ≡ false) ×
+        HandlerReply H.ZoneHandler handler.now (H.zone_type_of handler.now) request.now query.now outcome.old contents ×
+        SignedReply (S.signature_for signer.now) request.now.message edns.old contents context.now reply ×
         IsSent R.shows R.informs request.now.message.metadata (R.settings sink.old) (R.settings sink.new) (R.entries sink.old) (R.entries sink.new) (R.failures sink.old) (R.failures sink.new) reply (header_of info)) }
     ensures refused { IfErr result (λ e. (e ≡ CatalogError.Memory) ×
         (R.settings sink.new ≡ R.settings sink.old) × (R.entries sink.new ≡ R.entries sink.old) × (R.failures sink.new ≡ R.failures sink.old)) }
 {
-    if is_out_of_memory(outcome) {
-        return Err(CatalogError::Memory);
-    }
-    match context {
-        Some(_) => Ok(send_unimplemented(sink, alloc, request.message())),
-        None => answer_for_handler(handler, alloc, request, edns, query, outcome, sink),
-    }
-}
-
-/// Answers to what a chain answered in the end, where this handler was asked.
-fn answer_outcome<H: ZoneHandler, R: ResponseHandler>(
-    handler: &H,
-    alloc: Global,
-    request: &Request,
-    edns: &mut Option<Edns>,
-    query: &LowerQuery,
-    outcome: Result<AuthLookup, LookupError>,
-    context: Option<TSigResponseContext>,
-    sink: &mut R,
-) -> Result<ResponseInfo, CatalogError>
-    ensures replied { IfOk result (λ info. (reply : Reply) ×
-        ResultReply H.ZoneHandler handler.now request.now edns.old query.now reply outcome context ×
-        IsSent R.shows R.informs request.now.message.metadata (R.settings sink.old) (R.settings sink.new) (R.entries sink.old) (R.entries sink.new) (R.failures sink.old) (R.failures sink.new) reply (header_of info)) }
-    ensures refused { IfErr result (λ e. (e ≡ CatalogError.Memory) ×
-        (R.settings sink.new ≡ R.settings sink.old) × (R.entries sink.new ≡ R.entries sink.old) × (R.failures sink.new ≡ R.failures sink.old)) }
-{
-    let mut rest = outcome;
-    let told = answer_unless_signed(
-        handler, alloc, request, edns, query, &mut rest, &context, sink,
+    let contents = handler_contents(handler, alloc, request, query, outcome)?;
+    let told = send_signed(
+        signer,
+        alloc,
+        request.message(),
+        edns,
+        &contents,
+        context,
+        sink,
     );
-    drop(rest);
-    drop(context);
+    drop(contents);
     told
 }
 
-/// Answers a query of a zone by its handlers, and hands the reply over, with this EDNS.
-fn answer_zone<H: ZoneHandler, R: ResponseHandler>(
+/// Answers to what a handler gave for a transfer.
+fn answer_transferred<S: ReplySigner, R: ResponseHandler>(
+    signer: &S,
+    alloc: Global,
+    request: &Request,
+    edns: &mut Option<Edns>,
+    outcome: Result<ZoneTransfer, LookupError>,
+    context: &Option<TSigResponseContext>,
+    sink: &mut R,
+) -> Result<ResponseInfo, CatalogError>
+    ensures replied { IfOk result (λ info. (reply : Reply) × (is_out_of_memory outcome ≡ false) ×
+        SignedReply (S.signature_for signer.now) request.now.message edns.old (transfer_contents request.now.message.metadata outcome) context.now reply ×
+        IsSent R.shows R.informs request.now.message.metadata (R.settings sink.old) (R.settings sink.new) (R.entries sink.old) (R.entries sink.new) (R.failures sink.old) (R.failures sink.new) reply (header_of info)) }
+    ensures refused { IfErr result (λ e. (e ≡ CatalogError.Memory) ×
+        (R.settings sink.new ≡ R.settings sink.old) × (R.entries sink.new ≡ R.entries sink.old) × (R.failures sink.new ≡ R.failures sink.old)) }
+{
+    if is_out_of_memory(&outcome) {
+        drop(outcome);
+        return Err(CatalogError::Memory);
+    }
+    let contents = transfer_contents(alloc, request.metadata(), outcome);
+    let told = send_signed(
+        signer,
+        alloc,
+        request.message(),
+        edns,
+        &contents,
+        context,
+        sink,
+    );
+    drop(contents);
+    told
+}
+
+/// Answers a transfer of a zone by its handlers, and hands the reply over, with this EDNS.
+fn answer_transfer<S: ReplySigner, H: ZoneHandler, R: ResponseHandler>(
+    catalog: &Catalog<S, H>,
     chain: &[H],
     alloc: Global,
     request: &Request,
     edns: &mut Option<Edns>,
+    now: u64,
     query: &LowerQuery,
     sink: &mut R,
 ) -> Result<ResponseInfo, CatalogError>
+    requires { (query.now.query_type == 252) ≡ true }
     ensures replied { IfOk result (λ info. (reply : Reply) ×
-        ZoneReply H.ZoneHandler chain.now request.now edns.old query.now reply ×
+        ZoneReply (server_of H.ZoneHandler S.signature_for catalog.now) chain.now request.now edns.old now query.now reply ×
         IsSent R.shows R.informs request.now.message.metadata (R.settings sink.old) (R.settings sink.new) (R.entries sink.old) (R.entries sink.new) (R.failures sink.old) (R.failures sink.new) reply (header_of info)) }
     ensures refused { IfErr result (λ e. (e ≡ CatalogError.Memory) ×
         (R.settings sink.new ≡ R.settings sink.old) × (R.entries sink.new ≡ R.entries sink.old) × (R.failures sink.new ≡ R.failures sink.old)) }
 {
-    if query.query_type().value() == RecordType::AXFR.value() {
-        return Ok(send_unimplemented(sink, alloc, request.message()));
+    match ask_for_transfer(chain, alloc, request, now) {
+        None => Ok(send_error(
+            sink,
+            alloc,
+            request.message(),
+            edns,
+            ResponseCode::SERV_FAIL,
+        )),
+        Some((outcome, context)) => {
+            let told = answer_transferred(
+                &catalog.signer,
+                alloc,
+                request,
+                edns,
+                outcome,
+                &context,
+                sink,
+            );
+            drop(context);
+            told
+        }
     }
+}
+
+/// Answers a query of a zone, but for a transfer, by its handlers, and hands the reply over, with this EDNS.
+fn answer_lookup<S: ReplySigner, H: ZoneHandler, R: ResponseHandler>(
+    catalog: &Catalog<S, H>,
+    chain: &[H],
+    alloc: Global,
+    request: &Request,
+    edns: &mut Option<Edns>,
+    now: u64,
+    query: &LowerQuery,
+    sink: &mut R,
+) -> Result<ResponseInfo, CatalogError>
+    requires { (query.now.query_type == 252) ≡ false }
+    ensures replied { IfOk result (λ info. (reply : Reply) ×
+        ZoneReply (server_of H.ZoneHandler S.signature_for catalog.now) chain.now request.now edns.old now query.now reply ×
+        IsSent R.shows R.informs request.now.message.metadata (R.settings sink.old) (R.settings sink.new) (R.entries sink.old) (R.entries sink.new) (R.failures sink.old) (R.failures sink.new) reply (header_of info)) }
+    ensures refused { IfErr result (λ e. (e ≡ CatalogError.Memory) ×
+        (R.settings sink.new ≡ R.settings sink.old) × (R.entries sink.new ≡ R.entries sink.old) × (R.failures sink.new ≡ R.failures sink.old)) }
+{
     let info = RequestInfo::new(request.src(), request.protocol(), request.metadata(), query);
     let options = LookupOptions::from_edns(edns.as_ref());
     let answer = chain_answer(chain, alloc, request, &info, options);
@@ -138,27 +198,42 @@ fn answer_zone<H: ZoneHandler, R: ResponseHandler>(
             sink,
             alloc,
             request.message(),
-            edns.take(),
+            edns,
             ResponseCode::SERV_FAIL,
         )),
         Some(outcome) => {
             let handler = &chain[answer.place];
             let context = answer.context;
-            answer_outcome(handler, alloc, request, edns, query, outcome, context, sink)
+            let mut rest = outcome;
+            let told = answer_outcome(
+                &catalog.signer,
+                handler,
+                alloc,
+                request,
+                edns,
+                query,
+                &mut rest,
+                &context,
+                sink,
+            );
+            drop(rest);
+            drop(context);
+            told
         }
     }
 }
 
 /// Answers a query, and hands the reply over, with this EDNS.
-pub(crate) fn answer_query<H: ZoneHandler, R: ResponseHandler>(
-    zones: &Zones<H>,
+pub(crate) fn answer_query<S: ReplySigner, H: ZoneHandler, R: ResponseHandler>(
+    catalog: &Catalog<S, H>,
     alloc: Global,
     request: &Request,
     edns: &mut Option<Edns>,
+    now: u64,
     sink: &mut R,
 ) -> Result<ResponseInfo, CatalogError>
     ensures replied { IfOk result (λ info. (reply : Reply) ×
-        QueryReply H.ZoneHandler zones.now request.now edns.old reply ×
+        QueryReply (server_of H.ZoneHandler S.signature_for catalog.now) request.now edns.old now reply ×
         IsSent R.shows R.informs request.now.message.metadata (R.settings sink.old) (R.settings sink.new) (R.entries sink.old) (R.entries sink.new) (R.failures sink.old) (R.failures sink.new) reply (header_of info)) }
     ensures refused { IfErr result (λ e. (e ≡ CatalogError.Memory) ×
         (R.settings sink.new ≡ R.settings sink.old) × (R.entries sink.new ≡ R.entries sink.old) × (R.failures sink.new ≡ R.failures sink.old)) }
@@ -166,10 +241,17 @@ pub(crate) fn answer_query<H: ZoneHandler, R: ResponseHandler>(
     let message = request.message();
     let info = match request.request_info() {
         Ok(info) => info,
-        Err(_) => return Ok(send_error(sink, alloc, message, edns.take(), ResponseCode::FORM_ERR)),
+        Err(_) => return Ok(send_error(sink, alloc, message, edns, ResponseCode::FORM_ERR)),
     };
-    match zones.find(alloc, info.query.name())? {
-        None => Ok(send_error(sink, alloc, message, edns.take(), ResponseCode::REFUSED)),
-        Some(chain) => answer_zone(chain.as_slice(), alloc, request, edns, info.query, sink),
+    match catalog.find(alloc, info.query.name())? {
+        None => Ok(send_error(sink, alloc, message, edns, ResponseCode::REFUSED)),
+        Some(chain) => {
+            let chain = chain.as_slice();
+            if info.query.query_type().value() == RecordType::AXFR.value() {
+                answer_transfer(catalog, chain, alloc, request, edns, now, info.query, sink)
+            } else {
+                answer_lookup(catalog, chain, alloc, request, edns, now, info.query, sink)
+            }
+        }
     }
 }

@@ -1,19 +1,22 @@
 //! Handing replies to a sink.
 
-ghost use Rattle.std.specs.Prelude.{◌≡◌, ◌++◌, []};
+ghost use Rattle.std.specs.Prelude.{◌≡◌};
 ghost use Rattle.std.specs.Iterator.{IsFinite};
+ghost use Rattle.std.specs.Option.{option_copied};
 ghost use Rattle.hickory_wire.specs.serialize.writing.Reply.{Reply};
 ghost use Rattle.hickory_base.specs.responses.Responses.{GivesBy, IsReplyOf, header_of};
-ghost use Rattle.hickory_catalog.specs.Replies.{error_reply, reply_of_sections, unimplemented_reply};
+ghost use Rattle.hickory_catalog.specs.Replies.{contents_of, error_reply, plain_reply};
 ghost use Rattle.hickory_catalog.specs.Sending.{IsSent, failure_header};
 
-use crate::edns::with_high_code;
+use crate::contents::{ReplyContents, response};
+use crate::edns::set_high_code;
 use hickory_base::message_request::MessageRequest;
-use hickory_base::message_response::{MessageResponse, MessageResponseBuilder};
+use hickory_base::message_response::MessageResponse;
 use hickory_base::server::{RecordRef, ResponseHandler, ResponseInfo};
-use hickory_wire::{Edns, Header, HeaderCounts, MessageType, Metadata, Record, ResponseCode};
+use hickory_wire::{
+    Boxed, Edns, Header, HeaderCounts, MessageType, Metadata, Record, ResponseCode, TSIG,
+};
 use std::alloc::Global;
-use std::iter;
 
 /// What is told where the sink failed: ServFail, with the id and the opcode of the request.
 fn failure(request: &Metadata) -> ResponseInfo
@@ -63,86 +66,34 @@ where
     }
 }
 
-/// Hands an error reply over: a response code, and no records.
+/// Hands a reply over that says this, with this EDNS, signed or not.
+pub(crate) fn send_contents<R: ResponseHandler>(
+    sink: &mut R,
+    alloc: Global,
+    request: &MessageRequest,
+    edns: Option<&Edns>,
+    contents: &ReplyContents,
+    signature: Option<Boxed<Record<TSIG>>>,
+) -> ResponseInfo
+    ensures { IsSent R.shows R.informs request.now.metadata (R.settings sink.old) (R.settings sink.new) (R.entries sink.old) (R.entries sink.new) (R.failures sink.old) (R.failures sink.new)
+        (record (plain_reply request.now (option_copied edns.entry) (contents_of contents.now)) { signature = signature }) (header_of result) }
+{
+    let mut response = response(request, edns, contents);
+    response.signature = signature;
+    send(sink, alloc, &request.metadata, response)
+}
+
+/// Hands an error reply over, with this EDNS: a response code, and no records.
 pub(crate) fn send_error<R: ResponseHandler>(
     sink: &mut R,
     alloc: Global,
     request: &MessageRequest,
-    edns: Option<Edns>,
+    edns: &mut Option<Edns>,
     code: ResponseCode,
 ) -> ResponseInfo
-    ensures { IsSent R.shows R.informs request.now.metadata (R.settings sink.old) (R.settings sink.new) (R.entries sink.old) (R.entries sink.new) (R.failures sink.old) (R.failures sink.new) (error_reply request.now edns code) (header_of result) }
+    ensures { IsSent R.shows R.informs request.now.metadata (R.settings sink.old) (R.settings sink.new) (R.entries sink.old) (R.entries sink.new) (R.failures sink.old) (R.failures sink.new) (error_reply request.now edns.old code) (header_of result) }
 {
-    let edns = with_high_code(code, edns);
-    let builder = MessageResponseBuilder::new(&request.queries, edns.as_ref());
-    let error = builder.error_msg(&request.metadata, code);
-    send(sink, alloc, &request.metadata, error)
-}
-
-/// Hands over what is answered where a case is not implemented: ServFail, without EDNS.
-pub(crate) fn send_unimplemented<R: ResponseHandler>(
-    sink: &mut R,
-    alloc: Global,
-    request: &MessageRequest,
-) -> ResponseInfo
-    ensures { IsSent R.shows R.informs request.now.metadata (R.settings sink.old) (R.settings sink.new) (R.entries sink.old) (R.entries sink.new) (R.failures sink.old) (R.failures sink.new) (unimplemented_reply request.now) (header_of result) }
-{
-    send_error(sink, alloc, request, None, ResponseCode::SERV_FAIL)
-}
-
-/// The records of a reply, section by section.
-#[derive(Clone, Copy)]
-pub(crate) struct Sections<'a> {
-    /// The answer section.
-    pub answers: &'a [Record],
-    /// The front of the authority section.
-    pub authorities: &'a [Record],
-    /// The rest of the authority section.
-    pub other_authorities: &'a [Record],
-    /// The additional section.
-    pub additionals: &'a [Record],
-}
-
-impl<'a> Sections<'a> {
-    /// No records.
-    pub fn none() -> Sections<'a>
-        ensures answers { result.answers.now ≡ [] }
-        ensures authorities { result.authorities.now ≡ [] }
-        ensures other_authorities { result.other_authorities.now ≡ [] }
-        ensures additionals { result.additionals.now ≡ [] }
-    {
-        Sections {
-            answers: &[],
-            authorities: &[],
-            other_authorities: &[],
-            additionals: &[],
-        }
-    }
-}
-
-/// Hands a reply over, of this metadata and these records.
-pub(crate) fn send_records<R: ResponseHandler>(
-    sink: &mut R,
-    alloc: Global,
-    request: &MessageRequest,
-    edns: Option<Edns>,
-    metadata: Metadata,
-    sections: Sections<'_>,
-) -> ResponseInfo
-    ensures { IsSent R.shows R.informs request.now.metadata (R.settings sink.old) (R.settings sink.new) (R.entries sink.old) (R.entries sink.new) (R.failures sink.old) (R.failures sink.new)
-        (reply_of_sections request.now edns metadata sections.entry.answers.now (sections.entry.authorities.now ++ sections.entry.other_authorities.now) sections.entry.additionals.now) (header_of result) }
-{
-    let edns = with_high_code(metadata.response_code, edns);
-    let builder = MessageResponseBuilder::new(&request.queries, edns.as_ref());
-    let response = builder.build(
-        metadata,
-        sections.answers.iter(),
-        sections
-            .authorities
-            .iter()
-            .chain(sections.other_authorities.iter()),
-        iter::empty::<&Record>(),
-        sections.additionals.iter(),
-    );
-    send(sink, alloc, &request.metadata, response)
+    set_high_code(code, edns);
+    let contents = ReplyContents::error(alloc, &request.metadata, code);
+    send_contents(sink, alloc, request, edns.as_ref(), &contents, None)
 }

@@ -5,15 +5,14 @@ use Rattle.std.specs.Io.BufRead.{first_piece}
 use Rattle.std.specs.declared.net.SocketAddr.{SocketAddr}
 use Rattle.std.specs.declared.net.SocketAddr.TheVariants.{V4}
 use Rattle.hex.specs.Hex.{decode_of, encode_lower}
-use Rattle.hickory_wire.specs.rr.domain.DomainName.{DomainName}
 use Rattle.hickory_wire.specs.serialize.reading.MessageReading.{Reads}
 use Rattle.hickory_wire.specs.serialize.writing.Reply.{Reply}
 use Rattle.hickory_wire.specs.declared.error.ProtoError.{ProtoError}
 use Rattle.hickory_wire.specs.declared.protocol.Protocol.{Protocol}
 use Rattle.hickory_base.specs.requests.RequestReading.{IsFaultOf, IsQuestionSection, message_of}
 use Rattle.hickory_base.specs.requests.Requests.{ReceivedRequest}
-use Rattle.hickory_base.specs.declared.zone_store.handler.ZoneHandler.{Ghosts}
-use Rattle.hickory_catalog.specs.Requests.{RequestReply}
+use Rattle.hickory_catalog.specs.Requests.{RequestAnswered}
+use Rattle.hickory_catalog.specs.Server.{Server}
 use Rattle.hickory_base.specs.responses.EncodingSinks.{IsEncodingOf}
 use Rattle.zone_reply.specs.Command.{transport_of, refusal_line, refusal_status}
 use Rattle.zone_reply.specs.declared.command.Refusal.{Refusal}
@@ -31,17 +30,18 @@ pub record IsRequestOf (bytes : List ℕ) (protocol : Protocol) (request : Recei
   pub source_is : request.source ≡ local_source
   pub protocol_is : request.protocol ≡ protocol
 
--- The bytes are an encoding, at the transport's limit, of the reply that the zones give to the request, where this identifies the server.
-pub record IsReplyToRequest {H : Type 0} (handler : Ghosts H) (zones : List (DomainName × List H)) (identifier : Option (List ℕ)) (protocol : Protocol) (request : ReceivedRequest) (bytes : List ℕ) : Type 0 where
+-- The bytes are an encoding, at the transport's limit, of the one reply that the server gives to the request at the moment 0, which leaves its
+-- zones as they are.
+pub record IsReplyToRequest {H : Type 0} (server : Server H) (protocol : Protocol) (request : ReceivedRequest) (bytes : List ℕ) : Type 0 where
   pub reply : Reply
-  pub is_reply : RequestReply handler zones identifier request reply
+  pub is_reply : RequestAnswered server request 0 (reply ∷ []) server.zones
   pub is_encoded : IsEncodingOf protocol reply bytes
 
 -- The bytes are an encoding of the reply to the request that the message is read as.
-pub record IsReplyTo {H : Type 0} (handler : Ghosts H) (zones : List (DomainName × List H)) (identifier : Option (List ℕ)) (protocol : Protocol) (message bytes : List ℕ) : Type 0 where
+pub record IsReplyTo {H : Type 0} (server : Server H) (protocol : Protocol) (message bytes : List ℕ) : Type 0 where
   pub request : ReceivedRequest
   pub is_read : IsRequestOf message protocol request
-  pub is_reply : IsReplyToRequest handler zones identifier protocol request bytes
+  pub is_reply : IsReplyToRequest server protocol request bytes
 
 -- Why there is no reply to a message: it cannot be read, or memory is refused.
 abbrev pub IsRefusedMessage : List ℕ → Refusal → Type 0
@@ -66,23 +66,23 @@ abbrev pub hex_line : List ℕ → List ℕ
 hex_line bytes = encode_lower bytes ++ 10 ∷ []
 
 -- The line is that of an encoded reply to the message of the input, over the transport that the arguments name.
-pub record IsReplyLine {H : Type 0} (handler : Ghosts H) (zones : List (DomainName × List H)) (identifier : Option (List ℕ)) (arguments : List (List ℕ)) (input : Option (List ℕ)) (line : List ℕ) : Type 0 where
+pub record IsReplyLine {H : Type 0} (server : Server H) (arguments : List (List ℕ)) (input : Option (List ℕ)) (line : List ℕ) : Type 0 where
   pub protocol : Protocol
   pub is_named : transport_of arguments ≡ Some protocol
   pub message : List ℕ
   pub is_first : IsFirstMessage input message
   pub bytes : List ℕ
-  pub is_reply : IsReplyTo handler zones identifier protocol message bytes
+  pub is_reply : IsReplyTo server protocol message bytes
   pub line_is : line ≡ hex_line bytes
 
 -- What is answered: the line of a reply, or why there is none. A reader may fail at any time, and memory may be refused at any time once the
 -- arguments name a transport.
-abbrev pub IsAnswer : {H : Type 0} → Ghosts H → List (DomainName × List H) → Option (List ℕ) → List (List ℕ) → Option (List ℕ) → Result (List ℕ) Refusal → Type 0
-IsAnswer handler zones identifier arguments input (Ok line) = IsReplyLine handler zones identifier arguments input line
-IsAnswer handler zones identifier arguments input (Err Usage) = transport_of arguments ≡ None
-IsAnswer handler zones identifier arguments input (Err NotHex) = IsSome (transport_of arguments)
-IsAnswer handler zones identifier arguments input (Err Unreadable) = IsSome (transport_of arguments) × (message : List ℕ) × IsFirstMessage input message × (e : ProtoError) × IsFaultOf message e
-IsAnswer handler zones identifier arguments input (Err Memory) = IsSome (transport_of arguments)
+abbrev pub IsAnswer : {H : Type 0} → Server H → List (List ℕ) → Option (List ℕ) → Result (List ℕ) Refusal → Type 0
+IsAnswer server arguments input (Ok line) = IsReplyLine server arguments input line
+IsAnswer server arguments input (Err Usage) = transport_of arguments ≡ None
+IsAnswer server arguments input (Err NotHex) = IsSome (transport_of arguments)
+IsAnswer server arguments input (Err Unreadable) = IsSome (transport_of arguments) × (message : List ℕ) × IsFirstMessage input message × (e : ProtoError) × IsFaultOf message e
+IsAnswer server arguments input (Err Memory) = IsSome (transport_of arguments)
 
 -- an answer with the bytes of its line
 abbrev pub line_items : Result (Vec ℕ) Refusal → Result (List ℕ) Refusal

@@ -1,6 +1,7 @@
 //! From arguments and an input to a line of output and a status.
 
 ghost use Rattle.std.specs.Prelude.{◌≡◌, ℕ, List, Result, IfOk, IfErr, map, string_bytes};
+ghost use Rattle.hickory_catalog.specs.Server.{server_of};
 ghost use Rattle.zone_reply.specs.Answers.{IsAnswer, IsReplyTo, IsReplyToRequest, IsRequestOf, IsRefusedMessage, answer_line, answer_status, hex_line, line_items};
 ghost use Rattle.zone_reply.specs.Command.{IsPrinted};
 ghost use Rattle.zone_reply.specs.declared.command.Refusal.{Refusal};
@@ -46,7 +47,7 @@ fn reply<S: ReplySigner, H: ZoneHandler>(
     request: &Request,
 ) -> Result<Octets, Refusal>
     ensures kept { catalog.new ≡ catalog.old }
-    ensures ok { IfOk result (λ bytes. IsReplyToRequest H.ZoneHandler catalog.old.zones catalog.old.nsid protocol request.now bytes) }
+    ensures ok { IfOk result (λ bytes. IsReplyToRequest (server_of H.ZoneHandler S.signature_for catalog.old) protocol request.now bytes) }
     ensures err { IfErr result (λ e. e ≡ Memory) }
 {
     let mut sink = EncodingSink::new(alloc, protocol);
@@ -66,7 +67,7 @@ fn request_line<S: ReplySigner, H: ZoneHandler>(
     request: &Request,
 ) -> Result<Vec<u8>, Refusal>
     ensures kept { catalog.new ≡ catalog.old }
-    ensures ok { IfOk result (λ line. (bytes : List ℕ) × IsReplyToRequest H.ZoneHandler catalog.old.zones catalog.old.nsid protocol request.now bytes × (line.items ≡ hex_line bytes)) }
+    ensures ok { IfOk result (λ line. (bytes : List ℕ) × IsReplyToRequest (server_of H.ZoneHandler S.signature_for catalog.old) protocol request.now bytes × (line.items ≡ hex_line bytes)) }
     ensures err { IfErr result (λ e. e ≡ Memory) }
 {
     let bytes = reply(alloc, catalog, protocol, request)?;
@@ -81,7 +82,7 @@ fn reply_line<S: ReplySigner, H: ZoneHandler>(
     message: Vec<u8>,
 ) -> Result<Vec<u8>, Refusal>
     ensures kept { catalog.new ≡ catalog.old }
-    ensures ok { IfOk result (λ line. (bytes : List ℕ) × IsReplyTo H.ZoneHandler catalog.old.zones catalog.old.nsid protocol message.items bytes × (line.items ≡ hex_line bytes)) }
+    ensures ok { IfOk result (λ line. (bytes : List ℕ) × IsReplyTo (server_of H.ZoneHandler S.signature_for catalog.old) protocol message.items bytes × (line.items ≡ hex_line bytes)) }
     ensures err { IfErr result (λ e. IsRefusedMessage message.items e) }
 {
     let request = request(alloc, protocol, message)?;
@@ -96,7 +97,7 @@ fn answer<S: ReplySigner, H: ZoneHandler, R: Read>(
     reader: &mut R,
 ) -> Result<Vec<u8>, Refusal>
     ensures kept { catalog.new ≡ catalog.old }
-    ensures answer { IsAnswer H.ZoneHandler catalog.old.zones catalog.old.nsid (map string_bytes arguments.now) (R.remaining reader.old) (line_items result) }
+    ensures answer { IsAnswer (server_of H.ZoneHandler S.signature_for catalog.old) (map string_bytes arguments.now) (R.remaining reader.old) (line_items result) }
 {
     let Some(protocol) = transport(arguments) else {
         return Err(Refusal::Usage);
@@ -119,7 +120,7 @@ pub fn run<S: ReplySigner, H: ZoneHandler, R: Read, W: Write>(
 ) -> u8
     ensures kept { catalog.new ≡ catalog.old }
     ensures prints { (answer : Result (List ℕ) Refusal) ×
-        IsAnswer H.ZoneHandler catalog.old.zones catalog.old.nsid (map string_bytes arguments.now) (R.remaining reader.old) answer ×
+        IsAnswer (server_of H.ZoneHandler S.signature_for catalog.old) (map string_bytes arguments.now) (R.remaining reader.old) answer ×
         IsPrinted (W.contents writer.old) (W.contents writer.new) (answer_line answer) (answer_status answer) result }
 {
     match answer(alloc, catalog, arguments, reader) {

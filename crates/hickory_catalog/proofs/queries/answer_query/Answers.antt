@@ -1,4 +1,4 @@
-use Rattle.std.proofs.Common.{refl}
+use Rattle.std.proofs.Common.{refl, rules}
 use Rattle.hickory_catalog.specs.Queries.{no_zone, other_count, zone}
 use Rattle.hickory_catalog.specs.Replies.{error_reply}
 use Rattle.hickory_catalog.proofs.QueryReplies.{finds_none, finds_some, if_ok_map}
@@ -8,22 +8,32 @@ pub returns-in-Err-clause-replied : goal.returns-in-Err-clause-replied
 returns-in-Err-clause-replied g c = (
   error_reply c.args.request.now.message c.args.edns.now 1,
   other_count c.in-Err.ensures.err refl,
-  rw (c.message-message.ensures, c.take.ensures.value) at c.send_error.ensures,
+  search rules,
 )
 
 pub returns-in-None-clause-replied : goal.returns-in-None-clause-replied
 returns-in-None-clause-replied g c = (
   error_reply c.args.request.now.message c.args.edns.now 5,
-  no_zone c.in-Ok.ensures.query (finds_none c.args.zones.now (λ chain. chain.now.items) c.name.result.now _ c.in_ok-find.field-0 c.in_ok-find.ensures.found c.in-None.is c.name.ensures) refl,
-  rw (c.message-message.ensures, c.take-in-None.ensures.value) at c.send_error-in-None.ensures,
+  no_zone c.in-Ok.ensures.query (finds_none c.args.catalog.now.zones (λ chain. chain.now.items) c.name.result.now _ c.in_ok-find.field-0 c.in_ok-find.ensures.found c.in-None.is c.name.ensures) refl,
+  search rules,
 )
 
-pub returns-in-Some-clause-replied : goal.returns-in-Some-clause-replied
-returns-in-Some-clause-replied g c =
-    if_ok_map c.answer_zone.result _ _ c.answer_zone.ensures.replied
+pub returns-then-value-clause-replied : goal.returns-then-value-clause-replied
+returns-then-value-clause-replied g c =
+    if_ok_map c.answer_transfer.result _ _ c.answer_transfer.ensures.replied
     (λ info w. (
       w.0,
-      zone c.in-Ok.ensures.query (finds_some c.args.zones.now (λ chain. chain.now.items) c.name.result.now _ c.in_ok-find.field-0 c.in-Some.chain c.in_ok-find.ensures.found c.in-Some.is c.name.ensures)
-          (rw c.as_slice.ensures.value at w.1),
+      zone c.in-Ok.ensures.query (finds_some c.args.catalog.now.zones (λ chain. chain.now.items) c.name.result.now _ c.in_ok-find.field-0 c.in-Some.chain c.in_ok-find.ensures.found c.in-Some.is c.name.ensures)
+          (rw c.as_slice-chain.ensures.value at w.1),
+      w.2,
+    ))
+
+pub returns-else-value-clause-replied : goal.returns-else-value-clause-replied
+returns-else-value-clause-replied g c =
+    if_ok_map c.answer_lookup.result _ _ c.answer_lookup.ensures.replied
+    (λ info w. (
+      w.0,
+      zone c.in-Ok.ensures.query (finds_some c.args.catalog.now.zones (λ chain. chain.now.items) c.name.result.now _ c.in_ok-find.field-0 c.in-Some.chain c.in_ok-find.ensures.found c.in-Some.is c.name.ensures)
+          (rw c.as_slice-chain.ensures.value at w.1),
       w.2,
     ))

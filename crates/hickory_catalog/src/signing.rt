@@ -1,0 +1,114 @@
+//! Signing replies, and handing them over.
+
+ghost use Rattle.std.specs.Prelude.{◌≡◌, ◌≢◌, [], IfOk, IfErr, OnOk, Some, None};
+ghost use Rattle.std.specs.Option.{option_copied};
+ghost use Rattle.hickory_wire.specs.serialize.writing.Encoder.{IsSameVector, max_size, written_bytes};
+ghost use Rattle.hickory_wire.specs.serialize.writing.Reply.{Reply};
+ghost use Rattle.hickory_wire.specs.serialize.writing.ReplyParts.{Refused};
+ghost use Rattle.hickory_wire.specs.serialize.writing.Writing.{Fronts, Written};
+ghost use Rattle.hickory_base.specs.responses.Responses.{header_of};
+ghost use Rattle.hickory_catalog.specs.Replies.{contents_of, plain_reply};
+ghost use Rattle.hickory_catalog.specs.Sending.{IsSent};
+ghost use Rattle.hickory_catalog.specs.Signing.{IsSignatureOf, SignedReply};
+
+use crate::contents::{ReplyContents, response};
+use crate::edns::set_high_code;
+use crate::sending::{send_contents, send_error};
+use crate::signer::{ReplySigner, SignError};
+use hickory_base::errors::CatalogError;
+use hickory_base::message_request::MessageRequest;
+use hickory_base::server::{ResponseHandler, ResponseInfo};
+use hickory_wire::{
+    BinEncoder, Boxed, Edns, ProtoError, Record, ResponseCode, TSIG, TSigResponseContext,
+};
+use std::alloc::Global;
+
+/// Writes a reply that has no signature. The encoder must be empty.
+fn emit(
+    encoder: &mut BinEncoder<'_>,
+    request: &MessageRequest,
+    edns: Option<&Edns>,
+    contents: &ReplyContents,
+) -> Result<ResponseInfo, ProtoError>
+    requires { written_bytes encoder.old ≡ [] }
+    ensures same_vector { IsSameVector encoder.old encoder.new }
+    ensures written { OnOk result ((fronts : Fronts) × Written (max_size encoder.old) (plain_reply request.now (option_copied edns.entry) (contents_of contents.now)) (written_bytes encoder.new) fronts) }
+    ensures refused { IfErr result (λ e. e ≢ ProtoError.Memory → Refused (max_size encoder.old) (plain_reply request.now (option_copied edns.entry) (contents_of contents.now)) e) }
+{
+    response(request, edns, contents).destructive_emit(encoder)
+}
+
+/// The bytes of a reply that has no signature, within 65,535.
+fn written(
+    alloc: Global,
+    request: &MessageRequest,
+    edns: Option<&Edns>,
+    contents: &ReplyContents,
+) -> Result<Vec<u8>, ProtoError>
+    ensures written { IfOk result (λ bytes. (fronts : Fronts) × Written 65535 (plain_reply request.now (option_copied edns.entry) (contents_of contents.now)) bytes.items fronts) }
+    ensures refused { IfErr result (λ e. e ≢ ProtoError.Memory → Refused 65535 (plain_reply request.now (option_copied edns.entry) (contents_of contents.now)) e) }
+{
+    let mut bytes = Vec::new(alloc);
+    emit(
+        &mut BinEncoder::new(alloc, &mut bytes),
+        request,
+        edns,
+        contents,
+    )?;
+    Ok(bytes)
+}
+
+/// The signature of a reply, which has none yet.
+fn signature<S: ReplySigner>(
+    signer: &S,
+    alloc: Global,
+    request: &MessageRequest,
+    edns: Option<&Edns>,
+    contents: &ReplyContents,
+    context: &TSigResponseContext,
+) -> Result<Boxed<Record<TSIG>>, SignError>
+    ensures signed { IfOk result (λ signature. IsSignatureOf (S.signature_for signer.now) context.entry.now (plain_reply request.now (option_copied edns.entry) (contents_of contents.now)) (Some signature)) }
+    ensures failed { IfErr result (λ e. e ≢ SignError.Memory → IsSignatureOf (S.signature_for signer.now) context.entry.now (plain_reply request.now (option_copied edns.entry) (contents_of contents.now)) None) }
+{
+    match written(alloc, request, edns, contents) {
+        Ok(bytes) => signer.sign(alloc, context, bytes.as_slice()),
+        Err(e) => match e {
+            ProtoError::Memory => Err(SignError::Memory),
+            _ => Err(SignError::Failed),
+        },
+    }
+}
+
+/// Hands over the reply that says this, with this EDNS, signed where the answer came with a context. Where it cannot be
+/// signed, the reply is ServFail without a signature.
+pub(crate) fn send_signed<S: ReplySigner, R: ResponseHandler>(
+    signer: &S,
+    alloc: Global,
+    request: &MessageRequest,
+    edns: &mut Option<Edns>,
+    contents: &ReplyContents,
+    context: &Option<TSigResponseContext>,
+    sink: &mut R,
+) -> Result<ResponseInfo, CatalogError>
+    ensures replied { IfOk result (λ info. (reply : Reply) ×
+        SignedReply (S.signature_for signer.now) request.now edns.old (contents_of contents.now) context.now reply ×
+        IsSent R.shows R.informs request.now.metadata (R.settings sink.old) (R.settings sink.new) (R.entries sink.old) (R.entries sink.new) (R.failures sink.old) (R.failures sink.new) reply (header_of info)) }
+    ensures refused { IfErr result (λ e. (e ≡ CatalogError.Memory) ×
+        (R.settings sink.new ≡ R.settings sink.old) × (R.entries sink.new ≡ R.entries sink.old) × (R.failures sink.new ≡ R.failures sink.old)) }
+{
+    set_high_code(contents.metadata.response_code, edns);
+    let Some(context) = context else {
+        return Ok(send_contents(sink, alloc, request, edns.as_ref(), contents, None));
+    };
+    match signature(signer, alloc, request, edns.as_ref(), contents, context) {
+        Ok(made) => Ok(send_contents(sink, alloc, request, edns.as_ref(), contents, Some(made))),
+        Err(SignError::Failed) => Ok(send_error(
+            sink,
+            alloc,
+            request,
+            edns,
+            ResponseCode::SERV_FAIL,
+        )),
+        Err(SignError::Memory) => Err(CatalogError::Memory),
+    }
+}
