@@ -4,6 +4,7 @@ use crate::fault::Fault;
 use crate::handler::Handler;
 use crate::script::Script;
 use crate::text::lower_name;
+use hickory_server::proto::LowerName;
 use std::alloc::Global;
 
 /// The handler last begun.
@@ -37,17 +38,26 @@ pub(crate) fn last_begun(script: &Script, alloc: Global) -> Result<Begun<'_>, Fa
 }
 
 /// The chain that is served at just this name.
+fn chain_at<'s>(
+    script: &'s Script,
+    alloc: Global,
+    apex: &LowerName,
+) -> Result<&'s [Handler], Fault> {
+    if !script.catalog.contains(apex) {
+        return Err(Fault::NoChain);
+    }
+    match script.catalog.find(alloc, apex)? {
+        Some(chain) => Ok(chain.as_slice()),
+        None => Err(Fault::NoChain),
+    }
+}
+
+/// The chain that is served at just the name of a word.
 pub(crate) fn chain_of<'s>(
     script: &'s Script,
     alloc: Global,
     apex: &str,
 ) -> Result<&'s [Handler], Fault> {
     let apex = lower_name(alloc, apex)?;
-    if !script.catalog.contains(&apex) {
-        return Err(Fault::NoChain);
-    }
-    match script.catalog.find(alloc, &apex)? {
-        Some(chain) => Ok(chain.as_slice()),
-        None => Err(Fault::NoChain),
-    }
+    chain_at(script, alloc, &apex)
 }

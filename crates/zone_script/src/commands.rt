@@ -1,7 +1,7 @@
 //! The commands, by their subjects.
 //!
-//! Each module has a function `obey`, which is given the words of a line, the line without the blanks around it, and what
-//! to put behind the text that is printed; it tells whether the line is one of its commands.
+//! Each module has a function `obey`, which is given the words of a line, the line without the blanks around it, and the
+//! text to put behind what is printed; it obeys the line if that is one of its commands, and else gives `None`.
 
 pub(crate) mod asking;
 pub(crate) mod calling;
@@ -22,54 +22,94 @@ use crate::fault::Fault;
 use crate::script::Script;
 use std::alloc::Global;
 
-/// Obeys a command of a server's: its settings, zones and chains, and what is asked of it.
+/// Obeys a command of a server's: its settings, zones and chains.
 fn obey_server(
     script: &mut Script,
     alloc: Global,
     words: &[&str],
-    line: &str,
     out: &mut String,
-) -> Result<bool, Fault> {
-    Ok(
-        setting::obey(script, alloc, words, out)?
-            || sections::obey(script, words)?
-            || zones::obey(script, alloc, words, out)?
-            || chains::obey(script, alloc, words, out)?
-            || asking::obey(script, alloc, words, out)?
-            || calling::obey(script, alloc, words, out)?
-            || lists::obey(script, alloc, words, line, out)?
-            || networks::obey(script, alloc, words, out)?,
-    )
+) -> Option<Result<(), Fault>> {
+    if let Some(done) = setting::obey(script, alloc, words, out) {
+        return Some(done);
+    }
+    if let Some(done) = sections::obey(script, words) {
+        return Some(done);
+    }
+    if let Some(done) = zones::obey(script, alloc, words, out) {
+        return Some(done);
+    }
+    chains::obey(script, alloc, words, out)
 }
 
-/// Obeys a command on values and bytes.
-fn obey_values(
+/// Obeys a command on what is asked of a server, or on whom it serves.
+fn obey_asked(
     script: &mut Script,
     alloc: Global,
     words: &[&str],
     line: &str,
     out: &mut String,
-) -> Result<bool, Fault> {
-    Ok(
-        names::obey(alloc, words, line, out)?
-            || messages::obey(alloc, words, out)?
-            || records::obey(alloc, words, line, out)?
-            || requests::obey(script, alloc, words, out)?
-            || encoding::obey(script, alloc, words, line, out)?
-            || values::obey(script, alloc, words, out)?,
-    )
+) -> Option<Result<(), Fault>> {
+    if let Some(done) = asking::obey(script, alloc, words, out) {
+        return Some(done);
+    }
+    if let Some(done) = calling::obey(script, alloc, words, out) {
+        return Some(done);
+    }
+    if let Some(done) = lists::obey(script, alloc, words, line, out) {
+        return Some(done);
+    }
+    networks::obey(script, alloc, words, out)
 }
 
-/// Obeys a command, and tells whether there is such a command.
+/// Obeys a command on values.
+fn obey_values(
+    alloc: Global,
+    words: &[&str],
+    line: &str,
+    out: &mut String,
+) -> Option<Result<(), Fault>> {
+    if let Some(done) = names::obey(alloc, words, line, out) {
+        return Some(done);
+    }
+    if let Some(done) = messages::obey(alloc, words, out) {
+        return Some(done);
+    }
+    records::obey(alloc, words, line, out)
+}
+
+/// Obeys a command on values and bytes.
+fn obey_bytes(
+    script: &mut Script,
+    alloc: Global,
+    words: &[&str],
+    line: &str,
+    out: &mut String,
+) -> Option<Result<(), Fault>> {
+    if let Some(done) = obey_values(alloc, words, line, out) {
+        return Some(done);
+    }
+    if let Some(done) = requests::obey(script, alloc, words, out) {
+        return Some(done);
+    }
+    if let Some(done) = encoding::obey(script, alloc, words, line, out) {
+        return Some(done);
+    }
+    values::obey(script, alloc, words, out)
+}
+
+/// Obeys a command, if there is such a command.
 pub(crate) fn obey(
     script: &mut Script,
     alloc: Global,
     words: &[&str],
     line: &str,
     out: &mut String,
-) -> Result<bool, Fault> {
-    Ok(
-        obey_server(script, alloc, words, line, out)?
-            || obey_values(script, alloc, words, line, out)?,
-    )
+) -> Option<Result<(), Fault>> {
+    if let Some(done) = obey_server(script, alloc, words, out) {
+        return Some(done);
+    }
+    if let Some(done) = obey_asked(script, alloc, words, line, out) {
+        return Some(done);
+    }
+    obey_bytes(script, alloc, words, line, out)
 }

@@ -6,40 +6,30 @@ use hickory_server::store::blocklist::AddError;
 use hickory_server::zone_handler::CatalogError;
 use hickory_server::zone_text::{TextError, TextFault};
 use std::alloc::{AllocError, AllocFailed};
-use std::io;
 use std::net::AddrParseError;
 use std::num::ParseIntError;
-use thiserror::Error;
+use std::{fmt, io};
 
 /// Why a line is not obeyed, or the script ends: the last two end it, after any other it goes on.
-#[derive(Debug, Drop, Error)]
+#[derive(Clone, Copy)]
 pub(crate) enum Fault {
     /// No command begins so.
-    #[error("no such command")]
     Command,
     /// The command is written in another way.
-    #[error("write it as: {0}")]
     Usage(&'static str),
     /// A number is wanted where there is none, or none that fits.
-    #[error("not a number that fits here")]
     Number,
     /// An address is wanted.
-    #[error("not an IP address")]
     Address,
     /// A network is wanted.
-    #[error("{0}")]
     Network(IpNetTextError),
     /// Bytes are wanted.
-    #[error("not an even number of hex digits")]
     Hex,
     /// A word is no name text of letters, digits, `-`, `_` and `*`.
-    #[error("{0}")]
     Name(NameError),
     /// A word is not the text of what is wanted there.
-    #[error("{0}")]
     Text(TextFault),
     /// A line is not the text of a record.
-    #[error("{fault}")]
     At {
         /// Where in the line, in characters from 1 on.
         column: usize,
@@ -47,59 +37,82 @@ pub(crate) enum Fault {
         fault: TextFault,
     },
     /// A mnemonic or a number of a type, a class, a kind of request or a response code is wanted.
-    #[error("{0}")]
     Code(CodeTextError),
     /// The line is not UTF-8.
-    #[error("the line is not UTF-8")]
     NotText,
     /// No command has said where records go.
-    #[error("no command before says where this record goes")]
     NoSection,
     /// No zone has been begun.
-    #[error("no zone is begun")]
     NoZone,
     /// No scripted handler has been begun.
-    #[error("no part is begun")]
     NoPart,
     /// No list of blocked names has been begun.
-    #[error("no blocklist is begun")]
     NoBlocklist,
     /// No handler has been begun.
-    #[error("no handler is begun")]
     NoHandler,
     /// There is no chain of this very name.
-    #[error("there is no chain of this name")]
     NoChain,
     /// The zone has the record already (RFC 2181 section 5).
-    #[error("the zone has this record already")]
     Twice,
     /// The owner name is outside the zone (RFC 1035 section 5.2).
-    #[error("the owner name is outside the zone")]
     Outside,
     /// A record of type SOA in a zone has the data of one.
-    #[error("an SOA record without the data of one")]
     NoSoaData,
     /// The records make no zone.
-    #[error("these records make no zone")]
     NotAZone,
     /// The bytes are no message, or a value has no form in bytes.
-    #[error("{0}")]
     Message(ProtoError),
     /// A list was not added.
-    #[error("{0}")]
     List(AddError),
     /// Memory was refused. It ends the script.
-    #[error("no memory")]
     Memory,
     /// Reading or printing failed. It ends the script.
-    #[error("input or output failed")]
     Io,
 }
 
 impl Fault {
+    /// What is told of a fault of which the same is told each time.
+    fn text(&self) -> &'static str {
+        match self {
+            Fault::Command => "no such command",
+            Fault::Number => "not a number that fits here",
+            Fault::Address => "not an IP address",
+            Fault::Hex => "not an even number of hex digits",
+            Fault::NotText => "the line is not UTF-8",
+            Fault::NoSection => "no command before says where this record goes",
+            Fault::NoZone => "no zone is begun",
+            Fault::NoPart => "no part is begun",
+            Fault::NoBlocklist => "no blocklist is begun",
+            Fault::NoHandler => "no handler is begun",
+            Fault::NoChain => "there is no chain of this name",
+            Fault::Twice => "the zone has this record already",
+            Fault::Outside => "the owner name is outside the zone",
+            Fault::NoSoaData => "an SOA record without the data of one",
+            Fault::NotAZone => "these records make no zone",
+            Fault::Memory => "no memory",
+            _ => "input or output failed",
+        }
+    }
+
     /// Whether the script ends with it.
     pub(crate) fn is_last(&self) -> bool {
         matches!(self, Fault::Memory | Fault::Io)
+    }
+}
+
+impl fmt::Display for Fault {
+    fn fmt<W: fmt::Write>(&self, f: &mut fmt::Formatter<W>) -> fmt::Result {
+        match self {
+            Fault::Usage(usage) => write!(f, "write it as: {usage}"),
+            Fault::Network(e) => write!(f, "{e}"),
+            Fault::Name(e) => write!(f, "{e}"),
+            Fault::Text(fault) => write!(f, "{fault}"),
+            Fault::At { fault, .. } => write!(f, "{fault}"),
+            Fault::Code(e) => write!(f, "{e}"),
+            Fault::Message(e) => write!(f, "{e}"),
+            Fault::List(e) => write!(f, "{e}"),
+            other => f.write_str(other.text()),
+        }
     }
 }
 

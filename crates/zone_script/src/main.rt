@@ -33,15 +33,37 @@ use std::process::ExitCode;
 use std::rt::Env;
 use std::{env, io};
 
+/// Obeys a line as it was read, and prints what is said of it.
+fn obey_line<R: Print + Alloc<A = Global>>(
+    rt: &R,
+    script: &mut Script,
+    line: Result<String, io::Error>,
+) -> Result<(), Fault> {
+    let said = script.said(rt.alloc(), line)?;
+    print!(rt; "{said}")?;
+    Ok(())
+}
+
+/// Obeys the lines of the standard input.
+fn obey_lines<R: Input + Print + Alloc<A = Global>>(
+    rt: &R,
+    script: &mut Script,
+) -> Result<(), Fault> {
+    let alloc = rt.alloc();
+    for line in BufReader::new(alloc, rt.reader())?.lines(alloc) {
+        obey_line(rt, script, line)?;
+    }
+    Ok(())
+}
+
 /// Obeys the script of the standard input, and tells whether each line was obeyed.
 fn obey_input<R: Input + Print + Alloc<A = Global>>(rt: &R) -> Result<bool, Fault> {
-    let alloc = rt.alloc();
-    let mut script = Script::new(alloc)?;
-    for line in BufReader::new(alloc, rt.reader())?.lines(alloc) {
-        let said = script.said(alloc, line)?;
-        print!(rt; "{said}")?;
-    }
-    Ok(script.is_obeyed())
+    let mut script = Script::new(rt.alloc())?;
+    let ended = obey_lines(rt, &mut script);
+    let is_obeyed = script.is_obeyed();
+    drop(script);
+    ended?;
+    Ok(is_obeyed)
 }
 
 /// Whether the program was given arguments.

@@ -30,7 +30,11 @@ pub(crate) fn print_text(
     size: Option<usize>,
 ) -> Result<(), AllocError> {
     match Message::read(alloc, bytes) {
-        Ok(message) => print_message(out, &message, size),
+        Ok(message) => {
+            let printed = print_message(out, &message, size);
+            drop(message);
+            printed
+        }
         Err(DecodeError::Memory) => Err(AllocError),
         Err(fault) => writeln!(out, "{fault}"),
     }

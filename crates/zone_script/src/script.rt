@@ -68,13 +68,14 @@ fn is_record(words: &[&str]) -> bool {
 impl Script {
     /// Nothing said.
     pub(crate) fn new(alloc: Global) -> Result<Script, AllocError> {
+        let log = CallLog::new(alloc)?;
         Ok(Script {
             settings: Settings::new(),
             catalog: Catalog::new(alloc, NoSigner),
             served: BTreeSet::new(alloc),
             zone: None,
             chain: Vec::new(alloc),
-            log: CallLog::new(alloc)?,
+            log,
             place: Place::Nothing,
             reply: Sections::new(alloc),
             draft: Draft::new(alloc),
@@ -99,16 +100,37 @@ impl Script {
         }
     }
 
+    /// Puts the record of a line where the last section command says.
+    fn put_line(&mut self, alloc: Global, line: &str) -> Result<(), Fault> {
+        let record = record(alloc, line)?;
+        let put = self.put(alloc, &record);
+        drop(record);
+        put
+    }
+
+    /// Obeys a line of these words.
+    fn obey_words(
+        &mut self,
+        alloc: Global,
+        words: &[&str],
+        line: &str,
+        out: &mut String,
+    ) -> Result<(), Fault> {
+        if is_record(words) {
+            return self.put_line(alloc, line);
+        }
+        match commands::obey(self, alloc, words, line.trim(), out) {
+            Some(done) => done,
+            None => Err(Fault::Command),
+        }
+    }
+
     /// Obeys a line that is neither blank nor a comment. What it prints is put behind `out`.
     fn obey(&mut self, alloc: Global, line: &str, out: &mut String) -> Result<(), Fault> {
         let words: Vec<&str> = line.split_whitespace().collect(alloc)?;
-        if is_record(&words) {
-            self.put(alloc, &record(alloc, line)?)
-        } else if commands::obey(self, alloc, &words, line.trim(), out)? {
-            Ok(())
-        } else {
-            Err(Fault::Command)
-        }
+        let done = self.obey_words(alloc, &words, line, out);
+        drop(words);
+        done
     }
 
     /// What a line prints.

@@ -22,5 +22,5 @@ pub(crate) fn name(alloc: Global, word: &str) -> Result<Name, Fault> {
 /// The name of a word in lower case.
 pub(crate) fn lower_name(alloc: Global, word: &str) -> Result<LowerName, Fault> {
     let name = name(alloc, word)?;
-    Ok(LowerName::new(alloc, &name)?)
+    LowerName::new(alloc, &name).map_err(Fault::from)
 }

@@ -8,7 +8,7 @@ use crate::question::{REPLY_DNSSEC_OK, message};
 use crate::script::Script;
 use crate::text::lower_name;
 use hickory_base::encoding_sink::EncodingSink;
-use hickory_server::proto::Edns;
+use hickory_server::proto::{Edns, LowerName};
 use hickory_server::server::{Request, RequestHandler};
 use hickory_server::zone_handler::{CatalogError, ZoneHandler};
 use std::alloc::Global;
@@ -79,9 +79,10 @@ fn answer(
 
 /// Hands a message to the server.
 fn ask(script: &mut Script, alloc: Global, words: &[&str], out: &mut String) -> Result<(), Fault> {
-    let bytes = message(alloc, words)?;
-    let request = received(script, alloc, bytes)?;
-    answer(script, alloc, &request, out)
+    let request = received(script, alloc, message(alloc, words)?)?;
+    let answered = answer(script, alloc, &request, out);
+    drop(request);
+    answered
 }
 
 /// Hands a request to the lookup of the server, with this EDNS for the reply.
@@ -120,9 +121,10 @@ fn answer_with(
 /// Hands a message to the lookup of the server.
 fn look_up(script: &Script, alloc: Global, words: &[&str], out: &mut String) -> Result<(), Fault> {
     let dnssec_ok = words.iter().any(|word| *word == REPLY_DNSSEC_OK);
-    let bytes = message(alloc, words)?;
-    let request = received(script, alloc, bytes)?;
-    answer_with(script, alloc, &request, dnssec_ok, out)
+    let request = received(script, alloc, message(alloc, words)?)?;
+    let answered = answer_with(script, alloc, &request, dnssec_ok, out);
+    drop(request);
+    answered
 }
 
 /// Puts the handlers of a chain behind a text.
@@ -134,28 +136,37 @@ fn print_chain(chain: &[Handler], out: &mut String) -> Result<(), Fault> {
     Ok(())
 }
 
-/// Tells which handlers answer for a name.
-fn find(script: &Script, alloc: Global, name: &str, out: &mut String) -> Result<(), Fault> {
-    let name = lower_name(alloc, name)?;
-    match script.catalog.find(alloc, &name)? {
+/// Puts the handlers that answer for a name behind a text.
+fn print_found(
+    script: &Script,
+    alloc: Global,
+    name: &LowerName,
+    out: &mut String,
+) -> Result<(), Fault> {
+    match script.catalog.find(alloc, name)? {
         Some(chain) => print_chain(chain, out),
-        None => Ok(out.push_str("no zone\n")?),
+        None => out.push_str("no zone\n").map_err(Fault::from),
     }
 }
 
-/// Obeys a command that asks, and tells whether it is one.
+/// Tells which handlers answer for a name.
+fn find(script: &Script, alloc: Global, name: &str, out: &mut String) -> Result<(), Fault> {
+    let name = lower_name(alloc, name)?;
+    print_found(script, alloc, &name, out)
+}
+
+/// Obeys a command that asks, if it is one.
 pub(crate) fn obey(
     script: &mut Script,
     alloc: Global,
     words: &[&str],
     out: &mut String,
-) -> Result<bool, Fault> {
-    match words {
-        ["ask", words @ ..] => ask(script, alloc, words, out)?,
-        ["lookup", words @ ..] => look_up(script, alloc, words, out)?,
-        ["find", name] => find(script, alloc, name, out)?,
-        ["find", ..] => return Err(Fault::Usage("find NAME")),
-        _ => return Ok(false),
-    }
-    Ok(true)
+) -> Option<Result<(), Fault>> {
+    Some(match words {
+        ["ask", words @ ..] => ask(script, alloc, words, out),
+        ["lookup", words @ ..] => look_up(script, alloc, words, out),
+        ["find", name] => find(script, alloc, name, out),
+        ["find", ..] => Err(Fault::Usage("find NAME")),
+        _ => return None,
+    })
 }

@@ -94,6 +94,23 @@ fn print_answer(
     print_context(out, &answer.1)
 }
 
+/// Tells of an answer, and whether the next handler may look at it.
+fn tell_flow(answer: LookupControlFlow<AuthLookup>, out: &mut String) -> Result<(), Fault> {
+    let printed = print_flow(out, &answer);
+    drop(answer);
+    printed.map_err(Fault::from)
+}
+
+/// Tells of an answer, and what a signer has to know.
+fn tell_answer(
+    answer: (LookupControlFlow<AuthLookup>, Option<TSigResponseContext>),
+    out: &mut String,
+) -> Result<(), Fault> {
+    let printed = print_answer(out, &answer);
+    drop(answer);
+    printed.map_err(Fault::from)
+}
+
 /// Puts a transfer behind a text, if there is one, and what a signer has to know.
 fn print_transferred(
     out: &mut String,
@@ -147,8 +164,7 @@ fn search_for(
     out: &mut String,
 ) -> Result<(), Fault> {
     let options = LookupOptions::from_edns(request.message().edns.as_ref());
-    let answer = handler.search(alloc, request, options);
-    Ok(print_answer(out, &answer)?)
+    tell_answer(handler.search(alloc, request, options), out)
 }
 
 /// Calls `search`.
@@ -159,9 +175,10 @@ fn search(
     words: &[&str],
     out: &mut String,
 ) -> Result<(), Fault> {
-    let bytes = message(alloc, words)?;
-    let request = received(script, alloc, bytes)?;
-    search_for(handler, alloc, &request, out)
+    let request = received(script, alloc, message(alloc, words)?)?;
+    let called = search_for(handler, alloc, &request, out);
+    drop(request);
+    called
 }
 
 /// Calls `zone_transfer` with a request.
@@ -174,7 +191,9 @@ fn transfer_for(
 ) -> Result<(), Fault> {
     let options = LookupOptions::from_edns(request.message().edns.as_ref());
     let answer = handler.zone_transfer(alloc, request, options, now);
-    Ok(print_transferred(out, &answer)?)
+    let printed = print_transferred(out, &answer);
+    drop(answer);
+    printed.map_err(Fault::from)
 }
 
 /// Calls `zone_transfer`.
@@ -185,9 +204,10 @@ fn transfer(
     name: &str,
     out: &mut String,
 ) -> Result<(), Fault> {
-    let bytes = message(alloc, &[name, "AXFR"])?;
-    let request = received(script, alloc, bytes)?;
-    transfer_for(handler, alloc, &request, script.settings.now, out)
+    let request = received(script, alloc, message(alloc, &[name, "AXFR"])?)?;
+    let called = transfer_for(handler, alloc, &request, script.settings.now, out);
+    drop(request);
+    called
 }
 
 /// Calls `lookup`, which is told of no request.
@@ -203,7 +223,8 @@ fn look_up(
     let options = options(words)?;
     let name = lower_name(alloc, name)?;
     let answer = handler.lookup(alloc, &name, record_type, None, options);
-    Ok(print_flow(out, &answer)?)
+    drop(name);
+    tell_flow(answer, out)
 }
 
 /// Calls `consult` about an empty answer that stands.
@@ -220,7 +241,8 @@ fn consult(
     let name = lower_name(alloc, name)?;
     let last = LookupControlFlow::Break(Ok(AuthLookup::Empty));
     let answer = handler.consult(alloc, &name, record_type, None, options, last);
-    Ok(print_answer(out, &answer)?)
+    drop(name);
+    tell_answer(answer, out)
 }
 
 /// Calls `nsec_records`.
@@ -234,7 +256,8 @@ fn nsec(
     let options = options(words)?;
     let name = lower_name(alloc, name)?;
     let answer = handler.nsec_records(alloc, &name, options);
-    Ok(print_flow(out, &answer)?)
+    drop(name);
+    tell_flow(answer, out)
 }
 
 /// What is told of a denial by NSEC3 records: 10 iterations and no salt.
@@ -262,7 +285,8 @@ fn nsec3(
     let options = options(words)?;
     let name = lower_name(alloc, name)?;
     let answer = handler.nsec3_records(alloc, nsec3_info(&name, record_type), options);
-    Ok(print_flow(out, &answer)?)
+    drop(name);
+    tell_flow(answer, out)
 }
 
 /// Makes a call of a handler.
@@ -292,7 +316,9 @@ fn call_begun(
     out: &mut String,
 ) -> Result<(), Fault> {
     let begun = last_begun(script, alloc)?;
-    make_call(script, alloc, begun.handler(), words, out)
+    let called = make_call(script, alloc, begun.handler(), words, out);
+    drop(begun);
+    called
 }
 
 /// Puts the calls that a scripted handler got behind a text, and then what was told. That memory was refused is what is
@@ -308,16 +334,15 @@ fn call(script: &Script, alloc: Global, words: &[&str], out: &mut String) -> Res
     }
 }
 
-/// Obeys a command that calls a handler, and tells whether it is one.
+/// Obeys a command that calls a handler, if it is one.
 pub(crate) fn obey(
     script: &Script,
     alloc: Global,
     words: &[&str],
     out: &mut String,
-) -> Result<bool, Fault> {
+) -> Option<Result<(), Fault>> {
     match words {
-        ["call", words @ ..] => call(script, alloc, words, out)?,
-        _ => return Ok(false),
+        ["call", words @ ..] => Some(call(script, alloc, words, out)),
+        _ => None,
     }
-    Ok(true)
 }

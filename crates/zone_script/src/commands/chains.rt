@@ -177,8 +177,11 @@ fn begin_answer(script: &mut Script, alloc: Global, words: &[&str]) -> Result<()
     let [call_word, flow_word, words @ ..] = words else {
         return Err(Fault::Usage(ANSWER_USAGE));
     };
-    let answer = Answer::new(alloc, call(call_word)?, flow(flow_word)?, outcome(words)?);
-    last_part(script)?.answers.push(answer)?;
+    let call = call(call_word)?;
+    let flow = flow(flow_word)?;
+    let outcome = outcome(words)?;
+    let part = last_part(script)?;
+    part.answers.push(Answer::new(alloc, call, flow, outcome))?;
     script.place = Place::Answer(Section::Answers);
     Ok(())
 }
@@ -206,17 +209,27 @@ fn upsert(
     }
 }
 
-/// Serves the handlers since the last such command as the chain of a name.
-fn serve(script: &mut Script, alloc: Global, apex: &str, out: &mut String) -> Result<(), Fault> {
-    let apex = lower_name(alloc, apex)?;
+/// Ends the chain that is to be served at a name.
+fn end_chain(script: &mut Script, alloc: Global, apex: &LowerName) -> Result<(), Fault> {
     close(script, alloc)?;
     if script.chain.is_empty() {
         return Err(Fault::NoHandler);
     }
     script.served.insert(apex.clone()?)?;
     script.place = Place::Nothing;
-    let chain = mem::replace(&mut script.chain, Vec::new(alloc));
-    upsert(script, apex, chain, out)
+    Ok(())
+}
+
+/// Serves the handlers since the last such command as the chain of a name.
+fn serve(script: &mut Script, alloc: Global, apex: &str, out: &mut String) -> Result<(), Fault> {
+    let apex = lower_name(alloc, apex)?;
+    match end_chain(script, alloc, &apex) {
+        Ok(()) => {
+            let chain = mem::replace(&mut script.chain, Vec::new(alloc));
+            upsert(script, apex, chain, out)
+        }
+        Err(e) => Err(e),
+    }
 }
 
 /// Takes the chain of a name away.
@@ -238,23 +251,22 @@ fn print_served(script: &Script, out: &mut String) -> Result<(), Fault> {
     Ok(())
 }
 
-/// Obeys a command on chains, and tells whether it is one.
+/// Obeys a command on chains, if it is one.
 pub(crate) fn obey(
     script: &mut Script,
     alloc: Global,
     words: &[&str],
     out: &mut String,
-) -> Result<bool, Fault> {
-    match words {
-        ["part", origin, words @ ..] => begin(script, alloc, origin, words)?,
-        ["part"] => return Err(Fault::Usage(PART_USAGE)),
-        ["on", words @ ..] => begin_answer(script, alloc, words)?,
-        ["serve", apex] => serve(script, alloc, apex, out)?,
-        ["serve", ..] => return Err(Fault::Usage("serve NAME")),
-        ["remove", apex] => remove(script, alloc, apex)?,
-        ["remove", ..] => return Err(Fault::Usage("remove NAME")),
-        ["zones"] => print_served(script, out)?,
-        _ => return Ok(false),
-    }
-    Ok(true)
+) -> Option<Result<(), Fault>> {
+    Some(match words {
+        ["part", origin, words @ ..] => begin(script, alloc, origin, words),
+        ["part"] => Err(Fault::Usage(PART_USAGE)),
+        ["on", words @ ..] => begin_answer(script, alloc, words),
+        ["serve", apex] => serve(script, alloc, apex, out),
+        ["serve", ..] => Err(Fault::Usage("serve NAME")),
+        ["remove", apex] => remove(script, alloc, apex),
+        ["remove", ..] => Err(Fault::Usage("remove NAME")),
+        ["zones"] => print_served(script, out),
+        _ => return None,
+    })
 }

@@ -123,7 +123,9 @@ fn put_times(script: &mut Script, count: u16, record: &Record) -> Result<(), Fau
 fn repeat(script: &mut Script, alloc: Global, count: &str, line: &str) -> Result<(), Fault> {
     let count = count.parse::<u16>()?;
     let record = text::record(alloc, line)?;
-    put_times(script, count, &record)
+    let put = put_times(script, count, &record);
+    drop(record);
+    put
 }
 
 const EDNS_USAGE: &str = "edns [payload=N] [version=N] [high=N] [do] [nsid=HEX] [CODE=HEX]";
@@ -219,17 +221,25 @@ fn find_option(script: &Script, code: &str, out: &mut String) -> Result<(), Faul
 const SIGNATURE_USAGE: &str =
     "signature NAME [algorithm=NAME] [time=N] [fudge=N] [mac=HEX] [id=N] [error=N] [other=HEX]";
 
+/// Sets what a key and its number say of a signature.
+fn set_signed_number(data: &mut TSIG, key: &str, number: &str) -> Result<(), Fault> {
+    match key {
+        "time" => data.time = number.parse::<u64>()?,
+        "fudge" => data.fudge = number.parse::<u16>()?,
+        "id" => data.oid = number.parse::<u16>()?,
+        "error" => data.error = number.parse::<u16>()?,
+        _ => return Err(Fault::Usage(SIGNATURE_USAGE)),
+    }
+    Ok(())
+}
+
 /// Sets what a key and its value say of a signature.
 fn set_signed(alloc: Global, data: &mut TSIG, key: &str, value: &str) -> Result<(), Fault> {
     match key {
         "algorithm" => data.algorithm = text::name(alloc, value)?,
-        "time" => data.time = value.parse::<u64>()?,
-        "fudge" => data.fudge = value.parse::<u16>()?,
         "mac" => data.mac = Octets::from_vec(octets(alloc, &[value])?),
-        "id" => data.oid = value.parse::<u16>()?,
-        "error" => data.error = value.parse::<u16>()?,
         "other" => data.other = Octets::from_vec(octets(alloc, &[value])?),
-        _ => return Err(Fault::Usage(SIGNATURE_USAGE)),
+        _ => return set_signed_number(data, key, value),
     }
     Ok(())
 }
@@ -273,27 +283,31 @@ fn sign(script: &mut Script, alloc: Global, name: &str, words: &[&str]) -> Resul
     Ok(())
 }
 
-/// Obeys a command that says what a reply is made of, and tells whether it is one.
+/// Puts the question of these words behind those of the reply.
+fn add_question(script: &mut Script, alloc: Global, words: &[&str]) -> Result<(), Fault> {
+    match words {
+        [name, kind] => question(script, alloc, name, kind, DNSClass::IN),
+        [name, kind, class] => { question(script, alloc, name, kind, class.parse::<DNSClass>()?) }
+        _ => Err(Fault::Usage("question NAME TYPE [CLASS]")),
+    }
+}
+
+/// Obeys a command that says what a reply is made of, if it is one.
 fn obey_parts(
     script: &mut Script,
     alloc: Global,
     words: &[&str],
     out: &mut String,
-) -> Result<bool, Fault> {
-    match words {
-        ["reply", words @ ..] => begin(script, alloc, words)?,
-        ["question", name, kind] => question(script, alloc, name, kind, DNSClass::IN)?,
-        ["question", name, kind, class] => {
-            question(script, alloc, name, kind, class.parse::<DNSClass>()?)?;
-        }
-        ["question", ..] => return Err(Fault::Usage("question NAME TYPE [CLASS]")),
-        ["edns", words @ ..] => set_edns(script, alloc, words, out)?,
-        ["option", code] => find_option(script, code, out)?,
-        ["signature", name, words @ ..] => sign(script, alloc, name, words)?,
-        ["signature"] => return Err(Fault::Usage(SIGNATURE_USAGE)),
-        _ => return Ok(false),
-    }
-    Ok(true)
+) -> Option<Result<(), Fault>> {
+    Some(match words {
+        ["reply", words @ ..] => begin(script, alloc, words),
+        ["question", words @ ..] => add_question(script, alloc, words),
+        ["edns", words @ ..] => set_edns(script, alloc, words, out),
+        ["option", code] => find_option(script, code, out),
+        ["signature", name, words @ ..] => sign(script, alloc, name, words),
+        ["signature"] => Err(Fault::Usage(SIGNATURE_USAGE)),
+        _ => return None,
+    })
 }
 
 /// Tells what the reply is encoded as within a limit: a server failure where it cannot be.
@@ -321,22 +335,26 @@ fn rewrite(alloc: Global, limit: &str, digits: &[&str], out: &mut String) -> Res
     put_written(alloc, rewritten(alloc, bytes.as_slice(), limit), out)
 }
 
-/// Obeys a command on replies to be encoded, and tells whether it is one.
+/// Tells what the reply is encoded as.
+fn encode(script: &Script, alloc: Global, out: &mut String) -> Result<(), Fault> {
+    put_written(alloc, encoded(alloc, script), out)
+}
+
+/// Obeys a command on replies to be encoded, if it is one.
 pub(crate) fn obey(
     script: &mut Script,
     alloc: Global,
     words: &[&str],
     line: &str,
     out: &mut String,
-) -> Result<bool, Fault> {
-    match words {
-        ["times", count, ..] => repeat(script, alloc, count, behind_word(behind_word(line)))?,
-        ["times"] => return Err(Fault::Usage("times COUNT RECORD")),
-        ["encode"] => put_written(alloc, encoded(alloc, script), out)?,
-        ["encode", limit] => encode_within(script, alloc, limit, out)?,
-        ["emit", limit] => emit_within(script, alloc, limit, out)?,
-        ["rewrite", limit, digits @ ..] => rewrite(alloc, limit, digits, out)?,
+) -> Option<Result<(), Fault>> {
+    Some(match words {
+        ["times", count, ..] => repeat(script, alloc, count, behind_word(behind_word(line))),
+        ["times"] => Err(Fault::Usage("times COUNT RECORD")),
+        ["encode"] => encode(script, alloc, out),
+        ["encode", limit] => encode_within(script, alloc, limit, out),
+        ["emit", limit] => emit_within(script, alloc, limit, out),
+        ["rewrite", limit, digits @ ..] => rewrite(alloc, limit, digits, out),
         _ => return obey_parts(script, alloc, words, out),
-    }
-    Ok(true)
+    })
 }

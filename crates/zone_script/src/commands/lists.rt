@@ -79,21 +79,52 @@ fn behind<'l>(line: &'l str, word: &str) -> &'l str {
     line.strip_prefix(word).unwrap_or("").trim_start()
 }
 
-/// Begins a list of blocked names: a handler that comes last into the chain.
-fn begin(script: &mut Script, alloc: Global, origin: &str, text: &str) -> Result<(), Fault> {
+/// A list of blocked names without names.
+fn new_list(alloc: Global, origin: &str, text: &str) -> Result<BlocklistZoneHandler, Fault> {
     let config = settings(alloc, text)?;
-    let list = BlocklistZoneHandler::new(alloc, name(alloc, origin)?, config)?;
-    close(script, alloc)?;
-    script.chain.push(Handler {
+    Ok(BlocklistZoneHandler::new(alloc, name(alloc, origin)?, config)?)
+}
+
+/// The handler that a list is.
+fn handler_of(list: BlocklistZoneHandler) -> Result<Handler, AllocError> {
+    let origin = list.origin().clone()?;
+    Ok(Handler {
         zone_type: list.zone_type(),
         axfr_policy: list.axfr_policy(),
-        origin: list.origin().clone()?,
+        origin,
         validates: list.can_validate_dnssec(),
         proof_kind: None,
         source: Source::Blocklist(list),
-    })?;
+    })
+}
+
+/// Puts a handler last into the chain, behind the open zone.
+fn append(script: &mut Script, alloc: Global, handler: Handler) -> Result<(), Fault> {
+    match close(script, alloc) {
+        Ok(()) => Ok(script.chain.push(handler)?),
+        Err(e) => {
+            drop(handler);
+            Err(e)
+        }
+    }
+}
+
+/// Begins a list of blocked names: a handler that comes last into the chain.
+fn begin(script: &mut Script, alloc: Global, origin: &str, text: &str) -> Result<(), Fault> {
+    let list = new_list(alloc, origin, text)?;
+    append(script, alloc, handler_of(list)?)?;
     script.place = Place::Nothing;
     Ok(())
+}
+
+/// Begins the list of a line.
+fn begin_line(script: &mut Script, alloc: Global, origin: &str, line: &str) -> Result<(), Fault> {
+    begin(
+        script,
+        alloc,
+        origin,
+        behind(behind(line, "blocklist"), origin),
+    )
 }
 
 /// The bytes of strings, one behind the other.
@@ -112,10 +143,13 @@ fn text_bytes(alloc: Global, text: &str) -> Result<Vec<u8>, Fault> {
     if !text.starts_with('"') {
         return Ok(text.as_bytes().to_vec(alloc)?);
     }
-    match read_data(alloc, RecordType::TXT, text)? {
-        RData::TXT(strings) => Ok(joined(alloc, &strings)?),
+    let data = read_data(alloc, RecordType::TXT, text)?;
+    let bytes = match &data {
+        RData::TXT(strings) => joined(alloc, strings).map_err(Fault::from),
         _ => Err(Fault::Usage(BLOCK_USAGE)),
-    }
+    };
+    drop(data);
+    bytes
 }
 
 /// Adds a text to the list that stands last in the chain.
@@ -154,49 +188,67 @@ const PLAIN: LookupOptions = LookupOptions { dnssec_ok: false };
 
 /// Whether the address of a name is blocked.
 fn is_blocked(list: &BlocklistZoneHandler, alloc: Global, name: &LowerName) -> Result<bool, Fault> {
-    match list.lookup(alloc, name, RecordType::A, None, PLAIN) {
+    let answer = list.lookup(alloc, name, RecordType::A, None, PLAIN);
+    let is_blocked = match &answer {
         LookupControlFlow::Break(Ok(_)) => Ok(true),
         LookupControlFlow::Break(Err(_)) => Err(Fault::Memory),
         _ => Ok(false),
-    }
+    };
+    drop(answer);
+    is_blocked
 }
 
-/// Prints of each name whether it is blocked.
-fn print_blocked(
+/// Prints of a name whether it is blocked.
+fn print_verdict(
     list: &BlocklistZoneHandler,
+    alloc: Global,
+    word: &str,
+    out: &mut String,
+) -> Result<(), Fault> {
+    let name = lower_name(alloc, word)?;
+    let is_blocked = is_blocked(list, alloc, &name);
+    drop(name);
+    let verb = if is_blocked? {
+        "is blocked"
+    } else {
+        "is not blocked"
+    };
+    writeln!(out, "{word} {verb}").map_err(Fault::from)
+}
+
+/// Prints of each name whether the list that stands last in the chain blocks it.
+fn print_blocked(
+    script: &Script,
     alloc: Global,
     words: &[&str],
     out: &mut String,
 ) -> Result<(), Fault> {
+    let list = open_list(script)?;
     for word in words {
-        let verb = if is_blocked(list, alloc, &lower_name(alloc, word)?)? {
-            "is blocked"
-        } else {
-            "is not blocked"
-        };
-        writeln!(out, "{word} {verb}")?;
+        print_verdict(list, alloc, word, out)?;
     }
     Ok(())
 }
 
-/// Obeys a command on lists of blocked names, and tells whether it is one.
+/// Prints how many names the list has that stands last in the chain.
+fn print_entries(script: &Script, out: &mut String) -> Result<(), Fault> {
+    print_count(open_list(script)?, out).map_err(Fault::from)
+}
+
+/// Obeys a command on lists of blocked names, if it is one.
 pub(crate) fn obey(
     script: &mut Script,
     alloc: Global,
     words: &[&str],
     line: &str,
     out: &mut String,
-) -> Result<bool, Fault> {
-    match words {
-        ["blocklist", origin, ..] => {
-            let text = behind(behind(line, "blocklist"), origin);
-            begin(script, alloc, origin, text)?;
-        }
-        ["blocklist"] => return Err(Fault::Usage(BLOCKLIST_USAGE)),
-        ["block", ..] => block(script, alloc, behind(line, "block"))?,
-        ["entries"] => print_count(open_list(script)?, out)?,
-        ["blocked", words @ ..] => print_blocked(open_list(script)?, alloc, words, out)?,
-        _ => return Ok(false),
-    }
-    Ok(true)
+) -> Option<Result<(), Fault>> {
+    Some(match words {
+        ["blocklist", origin, ..] => begin_line(script, alloc, origin, line),
+        ["blocklist"] => Err(Fault::Usage(BLOCKLIST_USAGE)),
+        ["block", ..] => block(script, alloc, behind(line, "block")),
+        ["entries"] => print_entries(script, out),
+        ["blocked", words @ ..] => print_blocked(script, alloc, words, out),
+        _ => return None,
+    })
 }

@@ -12,7 +12,11 @@ use std::fmt::Write;
 /// Tells of the message that bytes begin with, as `dig` prints one.
 fn tell_message(alloc: Global, bytes: &[u8], out: &mut String) -> Result<(), Fault> {
     match Message::read(alloc, bytes) {
-        Ok(message) => Ok(print_message(out, &message, Some(bytes.len()))?),
+        Ok(message) => {
+            let printed = print_message(out, &message, Some(bytes.len()));
+            drop(message);
+            printed.map_err(Fault::from)
+        }
         Err(e) => put_fault(e, out),
     }
 }
@@ -49,7 +53,10 @@ fn tell_parts(alloc: Global, bytes: &[u8], out: &mut String) -> Result<(), Fault
 /// The fault of a message, if there is one.
 fn fault_of(alloc: Global, bytes: &[u8]) -> Result<Option<DecodeError>, Fault> {
     match BinDecoder::new(bytes).read_message(alloc) {
-        Ok(_) => Ok(None),
+        Ok(message) => {
+            drop(message);
+            Ok(None)
+        }
         Err(DecodeError::Memory) => Err(Fault::Memory),
         Err(e) => Ok(Some(e)),
     }
@@ -84,10 +91,18 @@ fn tell_fronts(alloc: Global, bytes: &[u8], out: &mut String) -> Result<(), Faul
     put_fronts(first, bytes.len(), fault, out)
 }
 
+/// Whether a record is equal to its copy.
+fn equals_copy(record: &Record) -> Result<bool, AllocError> {
+    let copy = record.clone()?;
+    let is_equal = copy == *record;
+    drop(copy);
+    Ok(is_equal)
+}
+
 /// Whether each record is equal to its copy.
 fn have_equal_copies(records: &[Record]) -> Result<bool, AllocError> {
     for record in records {
-        if record.clone()? != *record {
+        if !equals_copy(record)? {
             return Ok(false);
         }
     }
@@ -142,17 +157,24 @@ fn count_equal_pairs(records: &[Record]) -> usize {
     pairs
 }
 
+/// Puts how what a message is made of compares with its copies, and its answers with each other, behind a text.
+fn put_copies(message: &Message, out: &mut String) -> Result<(), AllocError> {
+    let copies = if has_equal_copies(message)? {
+        "equal"
+    } else {
+        "not equal"
+    };
+    let pairs = count_equal_pairs(message.answers.as_slice());
+    writeln!(out, "copies are {copies}, equal pairs of answers {pairs}")
+}
+
 /// Tells how what a message is made of compares with its copies, and its answers with each other.
 fn tell_copies(alloc: Global, bytes: &[u8], out: &mut String) -> Result<(), Fault> {
     match Message::read(alloc, bytes) {
         Ok(message) => {
-            let copies = if has_equal_copies(&message)? {
-                "equal"
-            } else {
-                "not equal"
-            };
-            let pairs = count_equal_pairs(message.answers.as_slice());
-            Ok(writeln!(out, "copies are {copies}, equal pairs of answers {pairs}")?)
+            let put = put_copies(&message, out);
+            drop(message);
+            put.map_err(Fault::from)
         }
         Err(e) => put_fault(e, out),
     }
@@ -206,11 +228,10 @@ fn decode(alloc: Global, words: &[&str], out: &mut String) -> Result<(), Fault> 
     tell(alloc, reading, bytes.as_slice(), out)
 }
 
-/// Obeys a command on messages, and tells whether it is one.
-pub(crate) fn obey(alloc: Global, words: &[&str], out: &mut String) -> Result<bool, Fault> {
+/// Obeys a command on messages, if it is one.
+pub(crate) fn obey(alloc: Global, words: &[&str], out: &mut String) -> Option<Result<(), Fault>> {
     match words {
-        ["decode", words @ ..] => decode(alloc, words, out)?,
-        _ => return Ok(false),
+        ["decode", words @ ..] => Some(decode(alloc, words, out)),
+        _ => None,
     }
-    Ok(true)
 }

@@ -97,24 +97,55 @@ fn order<T: Ord + Hash>(a: &T, b: &T) -> &'static str {
     }
 }
 
-/// Tells the canonical order of two names (RFC 4034 section 6.1), and that of the two in lower case.
+/// The order of a name in lower case and another name.
+fn lower_order(
+    alloc: Global,
+    first: &LowerName,
+    second: &Name,
+) -> Result<&'static str, AllocError> {
+    let second = LowerName::new(alloc, second)?;
+    Ok(order(first, &second))
+}
+
+/// Puts the canonical order of two names behind a text (RFC 4034 section 6.1), and that of the two in lower case.
+fn put_order(
+    alloc: Global,
+    first: &Name,
+    second: &Name,
+    out: &mut String,
+) -> Result<(), AllocError> {
+    let told = order(first, second);
+    let first = LowerName::new(alloc, first)?;
+    let lower = lower_order(alloc, &first, second);
+    drop(first);
+    writeln!(out, "{told}, in lower case {}", lower?)
+}
+
+/// Tells the order of a name and the name of a word.
+fn compare_with(alloc: Global, first: &Name, second: &str, out: &mut String) -> Result<(), Fault> {
+    let second = text::name(alloc, second)?;
+    put_order(alloc, first, &second, out).map_err(Fault::from)
+}
+
+/// Tells the order of two names.
 fn compare(alloc: Global, first: &str, second: &str, out: &mut String) -> Result<(), Fault> {
     let first = text::name(alloc, first)?;
-    let second = text::name(alloc, second)?;
-    let told = order(&first, &second);
-    let first = LowerName::new(alloc, &first)?;
-    let second = LowerName::new(alloc, &second)?;
-    let lower = order(&first, &second);
-    writeln!(out, "{told}, in lower case {lower}")?;
-    Ok(())
+    compare_with(alloc, &first, second, out)
+}
+
+/// Whether a name is that of a word or above it.
+fn is_above(alloc: Global, zone: &Name, name: &str) -> Result<bool, Fault> {
+    let name = text::name(alloc, name)?;
+    Ok(zone.zone_of(&name))
 }
 
 /// Tells whether the first name is the second or above it.
 fn enclose(alloc: Global, zone: &str, name: &str, out: &mut String) -> Result<(), Fault> {
     let zone = text::name(alloc, zone)?;
-    let name = text::name(alloc, name)?;
-    let answer = if zone.zone_of(&name) { "yes\n" } else { "no\n" };
-    Ok(out.push_str(answer)?)
+    let is_above = is_above(alloc, &zone, name);
+    drop(zone);
+    let answer = if is_above? { "yes\n" } else { "no\n" };
+    out.push_str(answer).map_err(Fault::from)
 }
 
 /// Takes the labels of a name off, and puts what is left after each behind a text.
@@ -129,36 +160,38 @@ fn put_parents(name: &mut LowerName, out: &mut String) -> Result<(), AllocError>
     Ok(())
 }
 
-/// Tells what is left of a name in lower case as its labels come off, and then of the root.
-fn list_parents(alloc: Global, word: &str, out: &mut String) -> Result<(), Fault> {
-    let name = text::name(alloc, word)?;
-    let mut name = LowerName::new(alloc, &name)?;
-    put_parents(&mut name, out)?;
+/// Puts what is left of a name as its labels come off behind a text, and then of the root.
+fn put_all_parents(name: &mut LowerName, out: &mut String) -> Result<(), AllocError> {
+    put_parents(name, out)?;
     name.remove_first_label();
-    writeln!(out, "{name}")?;
-    Ok(())
+    writeln!(out, "{name}")
 }
 
-/// Obeys a command on names, and tells whether it is one.
+/// Tells what is left of a name in lower case as its labels come off, and then of the root.
+fn list_parents(alloc: Global, word: &str, out: &mut String) -> Result<(), Fault> {
+    let mut name = text::lower_name(alloc, word)?;
+    put_all_parents(&mut name, out).map_err(Fault::from)
+}
+
+/// Obeys a command on names, if it is one.
 pub(crate) fn obey(
     alloc: Global,
     words: &[&str],
     line: &str,
     out: &mut String,
-) -> Result<bool, Fault> {
-    match words {
-        ["name", word] => describe(alloc, word, out)?,
-        ["name", word, "relative"] => describe_marked(alloc, word, false, out)?,
-        ["name", word, "qualified"] => describe_marked(alloc, word, true, out)?,
-        ["name", ..] => return Err(Fault::Usage("name NAME [relative|qualified]")),
-        ["plain", ..] => describe_plain(alloc, behind_word(line), out)?,
-        ["compare", first, second] => compare(alloc, first, second, out)?,
-        ["compare", ..] => return Err(Fault::Usage("compare NAME NAME")),
-        ["encloses", zone, name] => enclose(alloc, zone, name, out)?,
-        ["encloses", ..] => return Err(Fault::Usage("encloses NAME NAME")),
-        ["parents", word] => list_parents(alloc, word, out)?,
-        ["parents", ..] => return Err(Fault::Usage("parents NAME")),
-        _ => return Ok(false),
-    }
-    Ok(true)
+) -> Option<Result<(), Fault>> {
+    Some(match words {
+        ["name", word] => describe(alloc, word, out),
+        ["name", word, "relative"] => describe_marked(alloc, word, false, out),
+        ["name", word, "qualified"] => describe_marked(alloc, word, true, out),
+        ["name", ..] => Err(Fault::Usage("name NAME [relative|qualified]")),
+        ["plain", ..] => describe_plain(alloc, behind_word(line), out),
+        ["compare", first, second] => compare(alloc, first, second, out),
+        ["compare", ..] => Err(Fault::Usage("compare NAME NAME")),
+        ["encloses", zone, name] => enclose(alloc, zone, name, out),
+        ["encloses", ..] => Err(Fault::Usage("encloses NAME NAME")),
+        ["parents", word] => list_parents(alloc, word, out),
+        ["parents", ..] => Err(Fault::Usage("parents NAME")),
+        _ => return None,
+    })
 }

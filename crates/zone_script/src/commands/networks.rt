@@ -37,6 +37,24 @@ fn print_permits(access: &AccessControl, words: &[&str], out: &mut String) -> Re
     Ok(())
 }
 
+/// Begins an access list.
+fn begin(script: &mut Script, alloc: Global) -> Result<(), Fault> {
+    script.access = AccessControl::new(alloc);
+    Ok(())
+}
+
+/// Denies the networks of words.
+fn deny(script: &mut Script, alloc: Global, words: &[&str]) -> Result<(), Fault> {
+    let networks = networks(alloc, words)?;
+    script.access.insert_deny(&networks).map_err(Fault::from)
+}
+
+/// Allows the networks of words.
+fn allow(script: &mut Script, alloc: Global, words: &[&str]) -> Result<(), Fault> {
+    let networks = networks(alloc, words)?;
+    script.access.insert_allow(&networks).map_err(Fault::from)
+}
+
 /// How a command on networks is written, by its first word.
 fn usage(word: &str) -> Option<&'static str> {
     match word {
@@ -48,21 +66,20 @@ fn usage(word: &str) -> Option<&'static str> {
     }
 }
 
-/// Obeys a command on networks, and tells whether it is one.
+/// Obeys a command on networks, if it is one.
 pub(crate) fn obey(
     script: &mut Script,
     alloc: Global,
     words: &[&str],
     out: &mut String,
-) -> Result<bool, Fault> {
-    match words {
-        ["access"] => script.access = AccessControl::new(alloc),
-        [word] => return usage(word).map_or(Ok(false), |usage| Err(Fault::Usage(usage))),
-        ["network", words @ ..] => print_networks(alloc, words, out)?,
-        ["deny", words @ ..] => script.access.insert_deny(&networks(alloc, words)?)?,
-        ["allow", words @ ..] => script.access.insert_allow(&networks(alloc, words)?)?,
-        ["permits", words @ ..] => print_permits(&script.access, words, out)?,
-        _ => return Ok(false),
-    }
-    Ok(true)
+) -> Option<Result<(), Fault>> {
+    Some(match words {
+        ["access"] => begin(script, alloc),
+        [word] => Err(Fault::Usage(usage(word)?)),
+        ["network", words @ ..] => print_networks(alloc, words, out),
+        ["deny", words @ ..] => deny(script, alloc, words),
+        ["allow", words @ ..] => allow(script, alloc, words),
+        ["permits", words @ ..] => print_permits(&script.access, words, out),
+        _ => return None,
+    })
 }

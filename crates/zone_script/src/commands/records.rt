@@ -42,18 +42,32 @@ fn wire(alloc: Global, record: &Record) -> Result<Vec<u8>, Fault> {
     }
 }
 
+/// The record that the text of a record reads back as.
+fn read_again(alloc: Global, record: &Record) -> Result<Record, Fault> {
+    let line = format!(in alloc; "{record}")?;
+    text::record(alloc, line.as_str())
+}
+
+/// The bytes of the record that the text of a record reads back as.
+fn wire_again(alloc: Global, record: &Record) -> Result<Vec<u8>, Fault> {
+    let again = read_again(alloc, record)?;
+    let bytes = wire(alloc, &again);
+    drop(again);
+    bytes
+}
+
 /// Whether the text of a record reads back as the record of these bytes, letter case and TTL included.
 fn text_reads_back(alloc: Global, record: &Record, bytes: &[u8]) -> Result<bool, Fault> {
-    let line = format!(in alloc; "{record}")?;
-    let again = text::record(alloc, line.as_str())?;
-    let again = wire(alloc, &again)?;
+    let again = wire_again(alloc, record)?;
     Ok(again.as_slice() == bytes)
 }
 
 /// Whether the bytes of a record read back as that record, and end where they do.
 fn bytes_read_back(alloc: Global, record: &Record, bytes: &[u8]) -> Result<bool, Fault> {
     let (again, end) = read_record(alloc, bytes)?;
-    Ok(again == *record && again.ttl == record.ttl && end == bytes.len())
+    let is_same = again == *record && again.ttl == record.ttl;
+    drop(again);
+    Ok(is_same && end == bytes.len())
 }
 
 /// Puts what is told of a record behind a text: whether its text and its bytes read back as it.
@@ -82,10 +96,20 @@ fn put_described(alloc: Global, record: &Record, out: &mut String) -> Result<(),
     Ok(put_wire(alloc, bytes.as_slice(), out)?)
 }
 
+/// A copy of the record of a line.
+fn copied(alloc: Global, line: &str) -> Result<Record, Fault> {
+    let record = text::record(alloc, line)?;
+    let copy: Result<_, _> = record.clone();
+    drop(record);
+    copy.map_err(Fault::from)
+}
+
 /// Tells of a copy of the record of a line: its text, and its bytes in full.
 fn describe(alloc: Global, line: &str, out: &mut String) -> Result<(), Fault> {
-    let record = text::record(alloc, line)?.clone()?;
-    put_described(alloc, &record, out)
+    let record = copied(alloc, line)?;
+    let put = put_described(alloc, &record, out);
+    drop(record);
+    put
 }
 
 /// Tells of a record and where it ends.
@@ -99,16 +123,29 @@ fn put_read(alloc: Global, record: &Record, end: usize, out: &mut String) -> Res
 /// Tells of the record that bytes begin with.
 pub(crate) fn tell_record(alloc: Global, bytes: &[u8], out: &mut String) -> Result<(), Fault> {
     match read_record(alloc, bytes) {
-        Ok((record, end)) => put_read(alloc, &record, end, out),
+        Ok((record, end)) => {
+            let put = put_read(alloc, &record, end, out);
+            drop(record);
+            put
+        }
         Err(e) => put_fault(e, out),
     }
+}
+
+/// Whether a record is equal to that of a text.
+fn equals(alloc: Global, first: &Record, second: &str) -> Result<bool, Fault> {
+    let second = text::record(alloc, second)?;
+    let is_equal = *first == second;
+    drop(second);
+    Ok(is_equal)
 }
 
 /// Whether the records of two texts are equal.
 fn are_equal(alloc: Global, first: &str, second: &str) -> Result<bool, Fault> {
     let first = text::record(alloc, first)?;
-    let second = text::record(alloc, second)?;
-    Ok(first == second)
+    let is_equal = equals(alloc, &first, second);
+    drop(first);
+    is_equal
 }
 
 /// Tells whether two records are equal.
@@ -124,17 +161,16 @@ fn compare(alloc: Global, line: &str, out: &mut String) -> Result<(), Fault> {
     Ok(out.push_str(told)?)
 }
 
-/// Obeys a command on records, and tells whether it is one.
+/// Obeys a command on records, if it is one.
 pub(crate) fn obey(
     alloc: Global,
     words: &[&str],
     line: &str,
     out: &mut String,
-) -> Result<bool, Fault> {
-    match words {
-        ["record", ..] => describe(alloc, behind_word(line), out)?,
-        ["same", "record", ..] => compare(alloc, behind_word(behind_word(line)), out)?,
-        _ => return Ok(false),
-    }
-    Ok(true)
+) -> Option<Result<(), Fault>> {
+    Some(match words {
+        ["record", ..] => describe(alloc, behind_word(line), out),
+        ["same", "record", ..] => compare(alloc, behind_word(behind_word(line)), out),
+        _ => return None,
+    })
 }

@@ -7,7 +7,8 @@ use crate::reading::{put_fault, put_proto_fault};
 use crate::script::Script;
 use crate::words::octets;
 use hickory_server::proto::{
-    BinDecoder, BinEncoder, DecodeError, Items, Metadata, ProtoError, Record, ResponseCode,
+    BinDecoder, BinEncoder, DecodeError, Items, Metadata, ProtoError, Protocol, Record,
+    ResponseCode,
 };
 use hickory_server::server::{Request, RequestInfo};
 use hickory_server::zone_handler::{
@@ -111,7 +112,9 @@ fn tell_request(
     out: &mut String,
 ) -> Result<(), Fault> {
     let request = request(script, alloc, digits)?;
-    Ok(put_request(alloc, &request, out)?)
+    let put = put_request(alloc, &request, out);
+    drop(request);
+    put.map_err(Fault::from)
 }
 
 /// Puts a list of records behind a text, under a heading.
@@ -154,8 +157,9 @@ fn tell_update(
     out: &mut String,
 ) -> Result<(), Fault> {
     let request = request(script, alloc, digits)?;
-    put_update(request.message(), out)?;
-    Ok(())
+    let put = put_update(request.message(), out);
+    drop(request);
+    put.map_err(Fault::from)
 }
 
 /// The questions behind the header of a message, so many of them.
@@ -168,10 +172,11 @@ fn read_questions(alloc: Global, bytes: &[u8], count: u16) -> Result<Queries, De
 /// Tells of the questions behind the header of a message, so many of them.
 fn tell_questions(
     alloc: Global,
-    count: u16,
+    count: &str,
     digits: &[&str],
     out: &mut String,
 ) -> Result<(), Fault> {
+    let count = count.parse::<u16>()?;
     let bytes = octets(alloc, digits)?;
     match read_questions(alloc, bytes.as_slice(), count) {
         Ok(queries) => Ok(put_questions(alloc, &queries, out)?),
@@ -207,7 +212,9 @@ fn compare_with(
     out: &mut String,
 ) -> Result<(), Fault> {
     let second = request(script, alloc, &[second])?;
-    Ok(put_sameness(first, second.message(), out)?)
+    let put = put_sameness(first, second.message(), out);
+    drop(second);
+    put.map_err(Fault::from)
 }
 
 /// Tells whether two messages are equal, and whether their questions are.
@@ -219,7 +226,9 @@ fn compare(
     out: &mut String,
 ) -> Result<(), Fault> {
     let first = request(script, alloc, &[first])?;
-    compare_with(script, alloc, first.message(), second, out)
+    let compared = compare_with(script, alloc, first.message(), second, out);
+    drop(first);
+    compared
 }
 
 /// Writes a message within a limit.
@@ -235,13 +244,16 @@ fn emitted(alloc: Global, message: &MessageRequest, limit: u16) -> Result<Vec<u8
 fn emit(
     script: &Script,
     alloc: Global,
-    limit: u16,
+    limit: &str,
     digits: &[&str],
     out: &mut String,
 ) -> Result<(), Fault> {
+    let limit = limit.parse::<u16>()?;
     let request = request(script, alloc, digits)?;
-    match emitted(alloc, request.message(), limit) {
-        Ok(bytes) => Ok(put_bytes(alloc, bytes.as_slice(), out)?),
+    let bytes = emitted(alloc, request.message(), limit);
+    drop(request);
+    match bytes {
+        Ok(bytes) => put_bytes(alloc, bytes.as_slice(), out).map_err(Fault::from),
         Err(e) => put_proto_fault(e, out),
     }
 }
@@ -264,96 +276,122 @@ fn rebuilt(alloc: Global, bytes: &[u8]) -> Result<MessageRequest, DecodeError> {
     })
 }
 
-/// Tells of the request that is made of a message without answers and authorities.
-fn rebuild(script: &Script, alloc: Global, digits: &[&str], out: &mut String) -> Result<(), Fault> {
+/// The request that is made of a message without answers and authorities.
+fn rebuilt_request(script: &Script, alloc: Global, digits: &[&str]) -> Result<Request, Fault> {
     let bytes = octets(alloc, digits)?;
     let message = rebuilt(alloc, bytes.as_slice())?;
     let settings = script.settings;
-    let request = Request::from_message(alloc, message, settings.source, settings.protocol)?;
-    put_origin(&request, out)?;
+    Ok(Request::from_message(alloc, message, settings.source, settings.protocol)?)
+}
+
+/// Puts where a request came from behind a text, its questions and its bytes.
+fn put_rebuilt(alloc: Global, request: &Request, out: &mut String) -> Result<(), AllocError> {
+    put_origin(request, out)?;
     put_questions(alloc, &request.message().queries, out)?;
-    put_bytes(alloc, request.as_slice(), out)?;
-    Ok(())
+    put_bytes(alloc, request.as_slice(), out)
+}
+
+/// Tells of the request that is made of a message without answers and authorities.
+fn rebuild(script: &Script, alloc: Global, digits: &[&str], out: &mut String) -> Result<(), Fault> {
+    let request = rebuilt_request(script, alloc, digits)?;
+    let put = put_rebuilt(alloc, &request, out);
+    drop(request);
+    put.map_err(Fault::from)
+}
+
+/// The reply without records to a request.
+fn response(alloc: Global, request: &Request, protocol: Protocol) -> Result<Vec<u8>, ProtoError> {
+    let metadata = Metadata::response_from_request(request.metadata());
+    let builder = MessageResponseBuilder::from_message_request(request.message());
+    let reply = builder.build_no_records(metadata);
+    let (_, bytes) = reply.encode(alloc, protocol)?;
+    Ok(bytes)
 }
 
 /// Tells of the reply without records to a request, over the script's transport.
 fn respond(script: &Script, alloc: Global, digits: &[&str], out: &mut String) -> Result<(), Fault> {
     let request = request(script, alloc, digits)?;
-    let metadata = Metadata::response_from_request(request.metadata());
+    let bytes = response(alloc, &request, script.settings.protocol);
+    drop(request);
+    put_bytes(alloc, bytes?.as_slice(), out).map_err(Fault::from)
+}
+
+/// Puts the error reply to a request behind a text.
+fn put_refusal(
+    alloc: Global,
+    request: &Request,
+    code: ResponseCode,
+    protocol: Protocol,
+    out: &mut String,
+) -> Result<(), Fault> {
     let builder = MessageResponseBuilder::from_message_request(request.message());
-    let reply = builder.build_no_records(metadata);
-    let (_, bytes) = reply.encode(alloc, script.settings.protocol)?;
-    put_bytes(alloc, bytes.as_slice(), out)?;
-    Ok(())
+    let reply = builder.error_msg(request.metadata(), code);
+    let (info, bytes) = reply.encode(alloc, protocol)?;
+    put_header(info.metadata(), info.counts(), out)?;
+    put_bytes(alloc, bytes.as_slice(), out).map_err(Fault::from)
 }
 
 /// Tells of the error reply to a request, over the script's transport.
 fn refuse(
     script: &Script,
     alloc: Global,
-    code: ResponseCode,
+    code: &str,
     digits: &[&str],
     out: &mut String,
 ) -> Result<(), Fault> {
+    let code = code.parse::<ResponseCode>()?;
     let request = request(script, alloc, digits)?;
-    let builder = MessageResponseBuilder::from_message_request(request.message());
-    let reply = builder.error_msg(request.metadata(), code);
-    let (info, bytes) = reply.encode(alloc, script.settings.protocol)?;
-    put_header(info.metadata(), info.counts(), out)?;
-    put_bytes(alloc, bytes.as_slice(), out)?;
-    Ok(())
+    let put = put_refusal(alloc, &request, code, script.settings.protocol, out);
+    drop(request);
+    put
 }
 
 const REFUSE_USAGE: &str = "refuse CODE MESSAGE";
 
-/// Obeys a command on requests that are read, and tells whether it is one.
+/// Obeys a command on requests that are read, if it is one.
 fn obey_reading(
     script: &Script,
     alloc: Global,
     words: &[&str],
     out: &mut String,
-) -> Result<bool, Fault> {
-    match words {
-        ["request", "as-update", digits @ ..] => tell_update(script, alloc, digits, out)?,
-        ["request", digits @ ..] => tell_request(script, alloc, digits, out)?,
-        ["questions", count, digits @ ..] => {
-            tell_questions(alloc, count.parse::<u16>()?, digits, out)?
-        }
-        ["same", "message", first, "and", second] => compare(script, alloc, first, second, out)?,
-        _ => return Ok(false),
-    }
-    Ok(true)
+) -> Option<Result<(), Fault>> {
+    Some(match words {
+        ["request", "as-update", digits @ ..] => tell_update(script, alloc, digits, out),
+        ["request", digits @ ..] => tell_request(script, alloc, digits, out),
+        ["questions", count, digits @ ..] => tell_questions(alloc, count, digits, out),
+        ["same", "message", first, "and", second] => compare(script, alloc, first, second, out),
+        _ => return None,
+    })
 }
 
-/// Obeys a command on requests and replies that are written, and tells whether it is one.
+/// Obeys a command on requests and replies that are written, if it is one.
 fn obey_writing(
     script: &Script,
     alloc: Global,
     words: &[&str],
     out: &mut String,
-) -> Result<bool, Fault> {
-    match words {
+) -> Option<Result<(), Fault>> {
+    Some(match words {
         ["emit", limit, digits @ ..] if !digits.is_empty() => {
-            emit(script, alloc, limit.parse::<u16>()?, digits, out)?
+            emit(script, alloc, limit, digits, out)
         }
-        ["rebuild", digits @ ..] => rebuild(script, alloc, digits, out)?,
-        ["respond", digits @ ..] => respond(script, alloc, digits, out)?,
-        ["refuse", code, digits @ ..] => {
-            let code = code.parse::<ResponseCode>()?;
-            refuse(script, alloc, code, digits, out)?
-        }
-        ["refuse"] => return Err(Fault::Usage(REFUSE_USAGE)),
-        _ => return Ok(false),
-    }
-    Ok(true)
+        ["rebuild", digits @ ..] => rebuild(script, alloc, digits, out),
+        ["respond", digits @ ..] => respond(script, alloc, digits, out),
+        ["refuse", code, digits @ ..] => refuse(script, alloc, code, digits, out),
+        ["refuse"] => Err(Fault::Usage(REFUSE_USAGE)),
+        _ => return None,
+    })
 }
 
-/// Obeys a command on requests, and tells whether it is one.
+/// Obeys a command on requests, if it is one.
 pub(crate) fn obey(
     script: &Script,
     alloc: Global,
     words: &[&str],
     out: &mut String,
-) -> Result<bool, Fault> {
-    Ok(obey_reading(script, alloc, words, out)? || obey_writing(script, alloc, words, out)?)
+) -> Option<Result<(), Fault>> {
+    if let Some(done) = obey_reading(script, alloc, words, out) {
+        return Some(done);
+    }
+    obey_writing(script, alloc, words, out)
 }

@@ -24,13 +24,11 @@ fn go_on(place: Place, section: Section) -> Place {
 }
 
 /// Obeys a command on sections, and tells whether it is one.
-pub(crate) fn obey(script: &mut Script, words: &[&str]) -> Result<bool, Fault> {
+pub(crate) fn obey(script: &mut Script, words: &[&str]) -> Option<Result<(), Fault>> {
     let [word] = words else {
-        return Ok(false);
+        return None;
     };
-    let Some(section) = section(word) else {
-        return Ok(false);
-    };
+    let section = section(word)?;
     script.place = go_on(script.place, section);
-    Ok(true)
+    Some(Ok(()))
 }

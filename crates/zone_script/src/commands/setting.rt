@@ -53,6 +53,18 @@ fn set_source(script: &mut Script, address: &str, port: &str) -> Result<(), Faul
     Ok(())
 }
 
+/// Sets when messages come.
+fn set_now(script: &mut Script, seconds: &str) -> Result<(), Fault> {
+    script.settings.now = seconds.parse::<u64>()?;
+    Ok(())
+}
+
+/// Takes away what identifies the server.
+fn forget_identifier(script: &mut Script) -> Result<(), Fault> {
+    script.catalog.set_nsid(None);
+    Ok(())
+}
+
 /// Sets what identifies the server (RFC 5001).
 fn identify(script: &mut Script, alloc: Global, digits: &[&str]) -> Result<(), Fault> {
     let payload = NSIDPayload::new(octets(alloc, digits)?)?;
@@ -68,23 +80,22 @@ fn print_identifier(script: &Script, alloc: Global, out: &mut String) -> Result<
     }
 }
 
-/// Obeys a command on what holds for the messages that follow, and tells whether it is one.
+/// Obeys a command on what holds for the messages that follow, if it is one.
 pub(crate) fn obey(
     script: &mut Script,
     alloc: Global,
     words: &[&str],
     out: &mut String,
-) -> Result<bool, Fault> {
-    match words {
-        [word] if set(script, word) => (),
-        ["source", address, port] => set_source(script, address, port)?,
-        ["source", ..] => return Err(Fault::Usage("source ADDRESS PORT")),
-        ["now", seconds] => script.settings.now = seconds.parse::<u64>()?,
-        ["now", ..] => return Err(Fault::Usage("now SECONDS")),
-        ["identifier"] => print_identifier(script, alloc, out)?,
-        ["identifier", "none"] => script.catalog.set_nsid(None),
-        ["identifier", digits @ ..] => identify(script, alloc, digits)?,
-        _ => return Ok(false),
-    }
-    Ok(true)
+) -> Option<Result<(), Fault>> {
+    Some(match words {
+        [word] if set(script, word) => Ok(()),
+        ["source", address, port] => set_source(script, address, port),
+        ["source", ..] => Err(Fault::Usage("source ADDRESS PORT")),
+        ["now", seconds] => set_now(script, seconds),
+        ["now", ..] => Err(Fault::Usage("now SECONDS")),
+        ["identifier"] => print_identifier(script, alloc, out),
+        ["identifier", "none"] => forget_identifier(script),
+        ["identifier", digits @ ..] => identify(script, alloc, digits),
+        _ => return None,
+    })
 }

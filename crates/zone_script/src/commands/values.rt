@@ -88,6 +88,11 @@ fn tell_long_identifier(alloc: Global, len: &str, out: &mut String) -> Result<()
     tell_identifier(vec![in alloc; 0u8; len]?, out)
 }
 
+/// Tells of the identifier of these hex digits.
+fn tell_short_identifier(alloc: Global, digits: &[&str], out: &mut String) -> Result<(), Fault> {
+    tell_identifier(octets(alloc, digits)?, out)
+}
+
 /// The failure of these words.
 fn failure(alloc: Global, reply: &Sections, words: &[&str]) -> Result<LookupError, Fault> {
     match words {
@@ -109,8 +114,8 @@ fn yes_or_no(is_so: bool) -> &'static str {
     if is_so { "yes" } else { "no" }
 }
 
-/// Puts what a failure says behind a text.
-fn put_failure(failure: LookupError, out: &mut String) -> Result<(), AllocError> {
+/// Puts what a failure says behind a text, but for its SOA record.
+fn put_lent_failure(failure: &LookupError, out: &mut String) -> Result<(), AllocError> {
     let no_name = yes_or_no(failure.is_nx_domain());
     let no_records = yes_or_no(failure.is_no_records_found());
     writeln!(
@@ -122,37 +127,65 @@ fn put_failure(failure: LookupError, out: &mut String) -> Result<(), AllocError>
             writeln!(out, "  authority {record}")?;
         }
     }
+    Ok(())
+}
+
+/// Puts the SOA record of a failure behind a text.
+fn put_soa(failure: LookupError, out: &mut String) -> Result<(), AllocError> {
     match failure.into_soa() {
         None => Ok(()),
-        Some(soa) => writeln!(out, "  SOA {}", soa.get()),
+        Some(soa) => {
+            let put = writeln!(out, "  SOA {}", soa.get());
+            drop(soa);
+            put
+        }
     }
 }
 
-/// Obeys a command on codes, and tells whether it is one.
-fn obey_codes(words: &[&str], out: &mut String) -> Result<bool, Fault> {
-    match words {
-        ["type", word] => tell_type(word, out)?,
-        ["class", word] => tell_class(word, out)?,
-        ["opcode", word] => tell_op_code(word, out)?,
-        ["status", word] => tell_status(word, out)?,
-        ["status", high, low] => join_status(high, low, out)?,
-        _ => return Ok(false),
+/// Puts what a failure says behind a text.
+fn put_failure(failure: LookupError, out: &mut String) -> Result<(), Fault> {
+    match put_lent_failure(&failure, out) {
+        Ok(()) => put_soa(failure, out).map_err(Fault::from),
+        Err(e) => {
+            drop(failure);
+            Err(Fault::from(e))
+        }
     }
-    Ok(true)
 }
 
-/// Obeys a command on values, and tells whether it is one.
+/// Tells of the failure of these words.
+fn tell_failure(
+    script: &Script,
+    alloc: Global,
+    words: &[&str],
+    out: &mut String,
+) -> Result<(), Fault> {
+    put_failure(failure(alloc, &script.reply, words)?, out)
+}
+
+/// Obeys a command on codes, if it is one.
+fn obey_codes(words: &[&str], out: &mut String) -> Option<Result<(), Fault>> {
+    Some(match words {
+        ["type", word] => tell_type(word, out),
+        ["class", word] => tell_class(word, out),
+        ["opcode", word] => tell_op_code(word, out),
+        ["status", word] => tell_status(word, out),
+        ["status", high, low] => join_status(high, low, out),
+        _ => return None,
+    })
+}
+
+/// Obeys a command on values, if it is one.
 pub(crate) fn obey(
     script: &Script,
     alloc: Global,
     words: &[&str],
     out: &mut String,
-) -> Result<bool, Fault> {
-    match words {
-        ["nsid", "length", len] => tell_long_identifier(alloc, len, out)?,
-        ["nsid", digits @ ..] => tell_identifier(octets(alloc, digits)?, out)?,
-        ["failure", words @ ..] => put_failure(failure(alloc, &script.reply, words)?, out)?,
+) -> Option<Result<(), Fault>> {
+    Some(match words {
+        ["nsid", "length", len] => tell_long_identifier(alloc, len, out),
+        ["nsid", digits @ ..] => tell_short_identifier(alloc, digits, out),
+        ["failure", words @ ..] => tell_failure(script, alloc, words, out),
         _ => return obey_codes(words, out),
-    }
-    Ok(true)
+    })
 }

@@ -127,13 +127,20 @@ fn zone_of(alloc: Global, origin: LowerName, records: &[Record]) -> Result<OpenZ
 /// The zone whose records are the answers of a message.
 fn zone_of_message(alloc: Global, origin: LowerName, bytes: &[u8]) -> Result<OpenZone, Fault> {
     let message = Message::read(alloc, bytes)?;
-    zone_of(alloc, origin, message.answers.as_slice())
+    let zone = zone_of(alloc, origin, message.answers.as_slice());
+    drop(message);
+    zone
 }
 
 /// The zone whose records are the answers of a message in hex digits.
 fn loaded(alloc: Global, origin: &str, digits: &[&str]) -> Result<OpenZone, Fault> {
     let bytes = octets(alloc, digits)?;
     zone_of_message(alloc, lower_name(alloc, origin)?, &bytes)
+}
+
+/// Goes on with the zone whose records are the answers of a message in hex digits.
+fn load(script: &mut Script, alloc: Global, origin: &str, digits: &[&str]) -> Result<(), Fault> {
+    open(script, alloc, loaded(alloc, origin, digits)?)
 }
 
 /// The zone in memory that a handler is.
@@ -209,18 +216,30 @@ fn print_zone_message(
 ) -> Result<(), Fault> {
     let records = records_of(alloc, zone)?;
     let bytes = message_of(alloc, &records)?;
-    Ok(print_hex(alloc, out, &bytes)?)
+    print_hex(alloc, out, &bytes).map_err(Fault::from)
+}
+
+/// Tells of the zone in memory that a handler is.
+fn tell_of(handler: &Handler, alloc: Global, what: &str, out: &mut String) -> Result<(), Fault> {
+    let zone = zone_in(handler)?;
+    match what {
+        "show" => print_zone(out, zone).map_err(Fault::from),
+        "serial" => writeln!(out, "{}", zone.serial()).map_err(Fault::from),
+        _ => print_zone_message(alloc, out, zone),
+    }
 }
 
 /// Tells of the zone last begun.
 fn tell(script: &Script, alloc: Global, what: &str, out: &mut String) -> Result<(), Fault> {
     let begun = last_begun(script, alloc)?;
-    let zone = zone_in(begun.handler())?;
-    match what {
-        "show" => Ok(print_zone(out, zone)?),
-        "serial" => Ok(writeln!(out, "{}", zone.serial())?),
-        _ => print_zone_message(alloc, out, zone),
-    }
+    let told = tell_of(begun.handler(), alloc, what, out);
+    drop(begun);
+    told
+}
+
+/// Tells of the zones of the chain that is served at a name.
+fn show(script: &Script, alloc: Global, apex: &str, out: &mut String) -> Result<(), Fault> {
+    print_zones(out, chain_of(script, alloc, apex)?)
 }
 
 /// Tells whether the answers of the reply make a set, and a zone under a name and type.
@@ -233,30 +252,28 @@ fn print_accepted(
 ) -> Result<(), Fault> {
     let record_type = record_type.parse::<RecordType>()?;
     let key = RrKey::new(lower_name(alloc, name)?, record_type);
-    let (is_set, is_zone) = accepted(alloc, &key, &script.reply.answers)?;
+    let judged = accepted(alloc, &key, &script.reply.answers);
+    drop(key);
+    let (is_set, is_zone) = judged?;
     let set = if is_set { "a set" } else { "no set" };
     let zone = if is_zone { "a zone" } else { "no zone" };
-    Ok(writeln!(out, "{set}, {zone}")?)
+    writeln!(out, "{set}, {zone}").map_err(Fault::from)
 }
 
-/// Obeys a command on zones, and tells whether it is one.
+/// Obeys a command on zones, if it is one.
 pub(crate) fn obey(
     script: &mut Script,
     alloc: Global,
     words: &[&str],
     out: &mut String,
-) -> Result<bool, Fault> {
-    match words {
-        ["zone", origin, words @ ..] => begin(script, alloc, origin, words)?,
-        ["zone"] => return Err(Fault::Usage(ZONE_USAGE)),
-        ["load", origin, digits @ ..] => {
-            let zone = loaded(alloc, origin, digits)?;
-            open(script, alloc, zone)?;
-        }
-        ["accepts", name, kind] => print_accepted(script, alloc, name, kind, out)?,
-        ["show", apex] => print_zones(out, chain_of(script, alloc, apex)?)?,
-        [what @ ("show" | "serial" | "message")] => tell(script, alloc, what, out)?,
-        _ => return Ok(false),
-    }
-    Ok(true)
+) -> Option<Result<(), Fault>> {
+    Some(match words {
+        ["zone", origin, words @ ..] => begin(script, alloc, origin, words),
+        ["zone"] => Err(Fault::Usage(ZONE_USAGE)),
+        ["load", origin, digits @ ..] => load(script, alloc, origin, digits),
+        ["accepts", name, kind] => print_accepted(script, alloc, name, kind, out),
+        ["show", apex] => show(script, alloc, apex, out),
+        [what @ ("show" | "serial" | "message")] => tell(script, alloc, what, out),
+        _ => return None,
+    })
 }
