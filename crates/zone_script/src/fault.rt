@@ -12,7 +12,7 @@ use std::num::ParseIntError;
 use thiserror::Error;
 
 /// Why a line is not obeyed, or the script ends: the last two end it, after any other it goes on.
-#[derive(Debug, Drop, Error)]
+#[derive(Clone, Copy, Debug, Error)]
 pub(crate) enum Fault {
     /// No command begins so.
     #[error("no such command")]
