@@ -15,6 +15,8 @@ pub(crate) mod records;
 pub(crate) mod requests;
 pub(crate) mod sections;
 pub(crate) mod setting;
+pub(crate) mod updatable;
+pub(crate) mod updates;
 pub(crate) mod values;
 pub(crate) mod zones;
 
@@ -60,6 +62,20 @@ fn obey_values(
     )
 }
 
+/// Obeys a command on dynamic updates, if it is one.
+fn obey_updates(
+    script: &mut Script,
+    alloc: Global,
+    words: &[&str],
+    line: &str,
+    out: &mut String,
+) -> Option<Result<(), Fault>> {
+    if let Some(done) = updatable::obey(script, alloc, words, out) {
+        return Some(done);
+    }
+    updates::obey(script, alloc, words, line, out)
+}
+
 /// Obeys a command, and tells whether there is such a command.
 pub(crate) fn obey(
     script: &mut Script,
@@ -68,6 +84,10 @@ pub(crate) fn obey(
     line: &str,
     out: &mut String,
 ) -> Result<bool, Fault> {
+    if let Some(done) = obey_updates(script, alloc, words, line, out) {
+        done?;
+        return Ok(true);
+    }
     Ok(
         obey_server(script, alloc, words, line, out)?
             || obey_values(script, alloc, words, line, out)?,

@@ -64,6 +64,9 @@ pub(crate) enum Fault {
     /// No list of blocked names has been begun.
     #[error("no blocklist is begun")]
     NoBlocklist,
+    /// No zone that takes updates has been begun.
+    #[error("no updatable zone is begun")]
+    NoUpdatable,
     /// No handler has been begun.
     #[error("no handler is begun")]
     NoHandler,
