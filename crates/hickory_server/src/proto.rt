@@ -9,7 +9,8 @@ pub use hickory_wire::{
     Additionals, BinDecoder, BinEncoder, Boxed, CodeTextError, DNSClass, DecodeError, Edns,
     EdnsOption, Header, HeaderCounts, Items, Labels, LowerName, LowerQuery, MX, Message,
     MessageType, Metadata, NSIDPayload, Name, NameError, Octets, OpCode, Proof, ProtoError,
-    Protocol, Query, RData, Record, RecordType, ResponseCode, SOA, TSIG, TSigResponseContext,
-    TSigResponseKind, TsigError, comparison_laws, encoder_laws, fault_laws, message_laws,
-    name_laws, named_numbers, record_comparisons, record_laws, worked,
+    Protocol, Query, RData, Record, RecordType, ReplyParts, ResponseCode, SOA, TSIG,
+    TSigResponseContext, TSigResponseKind, TsigError, comparison_laws, emit_message_parts,
+    encode_message_parts, encoder_laws, fault_laws, message_laws, name_laws, named_numbers,
+    record_comparisons, record_laws, worked,
 };

@@ -15,6 +15,8 @@ pub(crate) mod records;
 pub(crate) mod requests;
 pub(crate) mod sections;
 pub(crate) mod setting;
+pub(crate) mod updatable;
+pub(crate) mod updates;
 pub(crate) mod values;
 pub(crate) mod zones;
 
@@ -97,6 +99,20 @@ fn obey_bytes(
     values::obey(script, alloc, words, out)
 }
 
+/// Obeys a command on dynamic updates.
+fn obey_updates(
+    script: &mut Script,
+    alloc: Global,
+    words: &[&str],
+    line: &str,
+    out: &mut String,
+) -> Option<Result<(), Fault>> {
+    if let Some(done) = updatable::obey(script, alloc, words, out) {
+        return Some(done);
+    }
+    updates::obey(script, alloc, words, line, out)
+}
+
 /// Obeys a command, if there is such a command.
 pub(crate) fn obey(
     script: &mut Script,
@@ -109,6 +125,9 @@ pub(crate) fn obey(
         return Some(done);
     }
     if let Some(done) = obey_asked(script, alloc, words, line, out) {
+        return Some(done);
+    }
+    if let Some(done) = obey_updates(script, alloc, words, line, out) {
         return Some(done);
     }
     obey_bytes(script, alloc, words, line, out)

@@ -48,6 +48,9 @@ pub(crate) enum Fault {
     NoPart,
     /// No list of blocked names has been begun.
     NoBlocklist,
+    /// No zone that takes updates has been begun.
+    #[error("no updatable zone is begun")]
+    NoUpdatable,
     /// No handler has been begun.
     NoHandler,
     /// There is no chain of this very name.

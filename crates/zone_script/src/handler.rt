@@ -4,12 +4,14 @@ ghost use Rattle.std.specs.Prelude.{◌≡◌};
 
 use crate::asked::{Asked, note};
 use crate::part::{Call, Part};
+use crate::verifier::ScriptedVerifier;
 use hickory_server::proto::{
     LowerName, Name, RecordType, ResponseCode, TSigResponseContext, TSigResponseKind,
 };
 use hickory_server::server::{Request, RequestInfo};
 use hickory_server::store::blocklist::BlocklistZoneHandler;
 use hickory_server::store::in_memory::InMemoryZoneHandler;
+use hickory_server::store::sqlite::SqliteZoneHandler;
 use hickory_server::zone_handler::{
     AuthLookup, AxfrPolicy, LookupControlFlow, LookupError, LookupOptions, Nsec3QueryInfo,
     NxProofKind, UpdateFault, ZoneHandler, ZoneTransfer, ZoneType,
@@ -25,6 +27,8 @@ pub(crate) enum Source {
     Part(Part),
     /// A list of blocked names.
     Blocklist(BlocklistZoneHandler),
+    /// A zone that takes dynamic updates.
+    Updatable(SqliteZoneHandler<ScriptedVerifier>),
 }
 
 /// A handler: what it tells of itself, and what it answers by.
@@ -185,6 +189,7 @@ impl ZoneHandler for Handler {
         match &self.source {
             Source::Zone(zone) => zone.lookup(alloc, name, record_type, info, options),
             Source::Blocklist(list) => list.lookup(alloc, name, record_type, info, options),
+            Source::Updatable(zone) => zone.lookup(alloc, name, record_type, info, options),
             Source::Part(part) => {
                 let asked = Asked::lookup(name, record_type, id_of(info), options);
                 look_up(part, alloc, &asked)
@@ -201,6 +206,7 @@ impl ZoneHandler for Handler {
         match &self.source {
             Source::Zone(zone) => zone.search(alloc, request, options),
             Source::Blocklist(list) => list.search(alloc, request, options),
+            Source::Updatable(zone) => zone.search(alloc, request, options),
             Source::Part(part) => {
                 let answer = search_part(part, alloc, request, options);
                 (answer, context_of(part, request.metadata().id))
@@ -220,6 +226,7 @@ impl ZoneHandler for Handler {
         match &self.source {
             Source::Zone(zone) => zone.consult(alloc, name, record_type, info, options, last),
             Source::Blocklist(list) => list.consult(alloc, name, record_type, info, options, last),
+            Source::Updatable(zone) => zone.consult(alloc, name, record_type, info, options, last),
             Source::Part(part) => {
                 let asked = Asked::consult(name, record_type, id_of(info), options, count(&last));
                 let answer = consult_part(part, alloc, &asked, last);
@@ -243,6 +250,7 @@ impl ZoneHandler for Handler {
         match &self.source {
             Source::Zone(zone) => zone.zone_transfer(alloc, request, options, now),
             Source::Blocklist(list) => list.zone_transfer(alloc, request, options, now),
+            Source::Updatable(zone) => zone.zone_transfer(alloc, request, options, now),
             Source::Part(part) => {
                 let outcome = part.transferred(alloc)?;
                 Some((outcome, context_of(part, request.metadata().id)))
@@ -259,6 +267,7 @@ impl ZoneHandler for Handler {
         match &self.source {
             Source::Zone(zone) => zone.nsec_records(alloc, name, options),
             Source::Blocklist(list) => list.nsec_records(alloc, name, options),
+            Source::Updatable(zone) => zone.nsec_records(alloc, name, options),
             Source::Part(part) => deny(part, alloc, &Asked::nsec(name, options)),
         }
     }
@@ -276,6 +285,7 @@ impl ZoneHandler for Handler {
         match &self.source {
             Source::Zone(zone) => zone.nsec3_records(alloc, info, options),
             Source::Blocklist(list) => list.nsec3_records(alloc, info, options),
+            Source::Updatable(zone) => zone.nsec3_records(alloc, info, options),
             Source::Part(part) => deny(part, alloc, &Asked::nsec3(&info, options)),
         }
     }

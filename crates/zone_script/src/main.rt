@@ -22,6 +22,8 @@ mod sections;
 mod settings;
 mod signer;
 mod text;
+mod updates;
+mod verifier;
 mod words;
 mod writing;
 

@@ -10,6 +10,7 @@ use crate::sections::{Section, Sections};
 use crate::settings::Settings;
 use crate::signer::NoSigner;
 use crate::text::record;
+use crate::updates::Updates;
 use hickory_server::access::AccessControl;
 use hickory_server::proto::{LowerName, Record};
 use hickory_server::zone_handler::Catalog;
@@ -50,6 +51,8 @@ pub(crate) struct Script {
     /// The rest of it.
     pub(crate) draft: Draft,
     pub(crate) access: AccessControl,
+    /// The update that is being written.
+    pub(crate) updates: Updates,
     line_number: u64,
     is_obeyed: bool,
 }
@@ -80,6 +83,7 @@ impl Script {
             reply: Sections::new(alloc),
             draft: Draft::new(alloc),
             access: AccessControl::new(alloc),
+            updates: Updates::new(alloc),
             line_number: 0,
             is_obeyed: true,
         })

@@ -8,6 +8,7 @@ use crate::printing::print_records;
 use crate::question::message;
 use crate::script::Script;
 use crate::text::lower_name;
+use crate::words::octets;
 use hickory_server::proto::{LowerName, RecordType, TSigResponseContext};
 use hickory_server::server::Request;
 use hickory_server::zone_handler::{
@@ -154,7 +155,7 @@ fn options(words: &[&str]) -> Result<LookupOptions, Fault> {
 }
 
 const CALL_USAGE: &str =
-    "call search HEX|NAME TYPE, call lookup|consult NAME TYPE [do], call transfer NAME, call nsec NAME [do], call nsec3 NAME TYPE [do]";
+    "call search HEX|NAME TYPE, call lookup|consult NAME TYPE [do], call transfer NAME|request HEX, call nsec NAME [do], call nsec3 NAME TYPE [do]";
 
 /// Calls `search` with a request.
 fn search_for(
@@ -208,6 +209,20 @@ fn transfer(
     let called = transfer_for(handler, alloc, &request, script.settings.now, out);
     drop(request);
     called
+}
+
+/// Calls `zone_transfer` with the request of these bytes, which may be signed.
+fn transfer_of(
+    script: &Script,
+    alloc: Global,
+    handler: &Handler,
+    digits: &[&str],
+    out: &mut String,
+) -> Result<(), Fault> {
+    let request = received(script, alloc, octets(alloc, digits)?)?;
+    let told = transfer_for(handler, alloc, &request, script.settings.now, out);
+    drop(request);
+    told
 }
 
 /// Calls `lookup`, which is told of no request.
@@ -300,6 +315,7 @@ fn make_call(
     match words {
         ["search", words @ ..] => search(script, alloc, handler, words, out),
         ["transfer", name] => transfer(script, alloc, handler, name, out),
+        ["transfer", "request", digits @ ..] => transfer_of(script, alloc, handler, digits, out),
         ["lookup", name, kind, words @ ..] => look_up(handler, alloc, name, kind, words, out),
         ["consult", name, kind, words @ ..] => consult(handler, alloc, name, kind, words, out),
         ["nsec", name, words @ ..] => nsec(handler, alloc, name, words, out),

@@ -37,7 +37,7 @@ pub(crate) fn type_word(zone_type: ZoneType) -> &'static str {
 }
 
 /// Who may have a transfer, by a word.
-fn axfr_policy(word: &str) -> Option<AxfrPolicy> {
+pub(crate) fn axfr_policy(word: &str) -> Option<AxfrPolicy> {
     match word {
         "deny" => Some(AxfrPolicy::Deny),
         "allow-all" => Some(AxfrPolicy::AllowAll),
@@ -147,6 +147,7 @@ fn load(script: &mut Script, alloc: Global, origin: &str, digits: &[&str]) -> Re
 fn zone_in(handler: &Handler) -> Result<&InMemoryZoneHandler, Fault> {
     match &handler.source {
         Source::Zone(zone) => Ok(zone),
+        Source::Updatable(zone) => Ok(zone.in_memory()),
         _ => Err(Fault::NoZone),
     }
 }
