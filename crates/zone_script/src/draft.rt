@@ -44,10 +44,9 @@ fn put_flags(metadata: &Metadata, out: &mut String) -> Result<(), AllocError> {
 pub(crate) fn put_metadata(metadata: &Metadata, out: &mut String) -> Result<(), AllocError> {
     write!(
         out,
-        "opcode {}, status {}",
-        metadata.op_code, metadata.response_code
+        "opcode {}, status {}, id {}, flags",
+        metadata.op_code, metadata.response_code, metadata.id
     )?;
-    write!(out, ", id {}, flags", metadata.id)?;
     put_flags(metadata, out)?;
     out.push('\n')
 }
@@ -59,15 +58,10 @@ pub(crate) fn put_header(
     out: &mut String,
 ) -> Result<(), AllocError> {
     put_metadata(metadata, out)?;
-    write!(
-        out,
-        "queries {}, answers {}",
-        counts.queries, counts.answers
-    )?;
     writeln!(
         out,
-        ", authorities {}, additionals {}",
-        counts.authorities, counts.additionals
+        "queries {}, answers {}, authorities {}, additionals {}",
+        counts.queries, counts.answers, counts.authorities, counts.additionals
     )
 }
 

@@ -129,7 +129,10 @@ fn consult_part(
 ) -> LookupControlFlow<AuthLookup> {
     match note(part, alloc, asked) {
         Ok(()) => part.consulted(alloc, last),
-        Err(e) => LookupControlFlow::Break(Err(e)),
+        Err(e) => {
+            drop(last);
+            LookupControlFlow::Break(Err(e))
+        }
     }
 }
 

@@ -237,7 +237,10 @@ impl Answer {
     ) -> LookupControlFlow<AuthLookup> {
         match self.flow {
             Flow::Add => LookupControlFlow::Break(self.added(alloc, last)),
-            _ => self.given(alloc),
+            _ => {
+                drop(last);
+                self.given(alloc)
+            }
         }
     }
 

@@ -19,15 +19,9 @@ impl fmt::Display for Ends {
     fn fmt<W: fmt::Write>(&self, f: &mut fmt::Formatter<W>) -> fmt::Result {
         write!(
             f,
-            "header ends at {}, questions at {}",
-            self.header, self.questions
-        )?;
-        write!(
-            f,
-            ", answers at {}, authorities at {}",
-            self.answers, self.authorities
-        )?;
-        write!(f, ", additionals at {}", self.additionals)
+            "header ends at {}, questions at {}, answers at {}, authorities at {}, additionals at {}",
+            self.header, self.questions, self.answers, self.authorities, self.additionals
+        )
     }
 }
 
@@ -36,7 +30,7 @@ pub(crate) fn put_fault(e: DecodeError, out: &mut String) -> Result<(), Fault> {
     if e == DecodeError::Memory {
         return Err(Fault::Memory);
     }
-    Ok(writeln!(out, "fault {e:?}: {e}")?)
+    writeln!(out, "fault {e:?}: {e}").map_err(Fault::from)
 }
 
 /// Puts a fault of reading or writing behind a text. Want of memory is no answer, and ends the script.
@@ -44,7 +38,7 @@ pub(crate) fn put_proto_fault(e: ProtoError, out: &mut String) -> Result<(), Fau
     match e {
         ProtoError::Decode(e) => put_fault(e, out),
         ProtoError::Memory => Err(Fault::Memory),
-        e => Ok(writeln!(out, "fault {e:?}: {e}")?),
+        e => writeln!(out, "fault {e:?}: {e}").map_err(Fault::from),
     }
 }
 
@@ -76,23 +70,53 @@ pub(crate) fn read_record(alloc: Global, bytes: &[u8]) -> Result<(Record, usize)
     Ok((record, decoder.index()))
 }
 
+/// Where a section of so many records ends.
+fn section_end(
+    alloc: Global,
+    decoder: &mut BinDecoder<'_>,
+    count: u16,
+) -> Result<usize, DecodeError> {
+    let records = decoder.read_section(alloc, count)?;
+    drop(records);
+    Ok(decoder.index())
+}
+
+/// Where the additional section of so many records ends.
+fn additionals_end(
+    alloc: Global,
+    decoder: &mut BinDecoder<'_>,
+    count: u16,
+) -> Result<usize, DecodeError> {
+    let additionals = decoder.read_additionals(alloc, count)?;
+    drop(additionals);
+    Ok(decoder.index())
+}
+
+/// Where so many questions end.
+fn questions_end(
+    alloc: Global,
+    decoder: &mut BinDecoder<'_>,
+    count: u16,
+) -> Result<usize, DecodeError> {
+    let questions = decoder.read_queries(alloc, count)?;
+    drop(questions);
+    Ok(decoder.index())
+}
+
 /// Where the parts of a message end, read one by one.
 pub(crate) fn read_parts(alloc: Global, bytes: &[u8]) -> Result<Ends, DecodeError> {
     let mut decoder = BinDecoder::new(bytes);
     let counts = decoder.read_header()?.counts;
     let header = decoder.index();
-    decoder.read_queries(alloc, counts.queries)?;
-    let questions = decoder.index();
-    decoder.read_section(alloc, counts.answers)?;
-    let answers = decoder.index();
-    decoder.read_section(alloc, counts.authorities)?;
-    let authorities = decoder.index();
-    decoder.read_additionals(alloc, counts.additionals)?;
+    let questions = questions_end(alloc, &mut decoder, counts.queries)?;
+    let answers = section_end(alloc, &mut decoder, counts.answers)?;
+    let authorities = section_end(alloc, &mut decoder, counts.authorities)?;
+    let additionals = additionals_end(alloc, &mut decoder, counts.additionals)?;
     Ok(Ends {
         header,
         questions,
         answers,
         authorities,
-        additionals: decoder.index(),
+        additionals,
     })
 }

@@ -100,7 +100,10 @@ impl Script {
             Place::Nothing => Err(Fault::NoSection),
             Place::Zone => commands::zones::put(self, alloc, record),
             Place::Answer(section) => commands::chains::put(self, section, record),
-            Place::Reply(section) => Ok(self.reply.push(section, record.clone()?)?),
+            Place::Reply(section) => self
+                .reply
+                .push(section, record.clone()?)
+                .map_err(Fault::from),
         }
     }
 
@@ -172,7 +175,7 @@ impl Script {
             Err(e) => Err(Fault::from(e)),
         };
         match answer {
-            Err(fault) if !fault.is_last() => Ok(self.told(alloc, &fault)?),
+            Err(fault) if !fault.is_last() => self.told(alloc, &fault).map_err(Fault::from),
             answer => answer,
         }
     }

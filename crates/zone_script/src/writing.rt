@@ -183,7 +183,7 @@ pub(crate) fn put_written(
     match written {
         Ok(Written { info, bytes }) => {
             put_header(info.metadata(), info.counts(), out)?;
-            Ok(put_bytes(alloc, bytes.as_slice(), out)?)
+            put_bytes(alloc, bytes.as_slice(), out).map_err(Fault::from)
         }
         Err(e) => put_proto_fault(e, out),
     }

@@ -50,7 +50,7 @@ fn print_outcome(
     let wants_memory = print_calls(script, alloc, out)?;
     match told {
         None => print_replies(script, alloc, sink, out),
-        Some(_) if wants_memory => Ok(out.push_str("no memory\n")?),
+        Some(_) if wants_memory => out.push_str("no memory\n").map_err(Fault::from),
         Some(e) => Err(Fault::from(e)),
     }
 }
@@ -58,7 +58,7 @@ fn print_outcome(
 /// The request of these bytes.
 pub(crate) fn received(script: &Script, alloc: Global, bytes: Vec<u8>) -> Result<Request, Fault> {
     let settings = script.settings;
-    Ok(Request::from_bytes(alloc, bytes, settings.source, settings.protocol)?)
+    Request::from_bytes(alloc, bytes, settings.source, settings.protocol).map_err(Fault::from)
 }
 
 /// Hands a request to the server.

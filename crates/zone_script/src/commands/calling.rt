@@ -344,8 +344,8 @@ fn call(script: &Script, alloc: Global, words: &[&str], out: &mut String) -> Res
     let made = call_begun(script, alloc, words, &mut told);
     let wants_memory = print_calls(script, alloc, out)?;
     match made {
-        Ok(()) => Ok(out.push_str(told.as_str())?),
-        Err(Fault::Memory) if wants_memory => Ok(out.push_str("no memory\n")?),
+        Ok(()) => out.push_str(told.as_str()).map_err(Fault::from),
+        Err(Fault::Memory) if wants_memory => out.push_str("no memory\n").map_err(Fault::from),
         Err(e) => Err(e),
     }
 }

@@ -191,7 +191,10 @@ pub(crate) fn put(script: &mut Script, section: Section, record: &Record) -> Res
     let part = last_part(script)?;
     match part.answers.last_mut() {
         None => Err(Fault::NoSection),
-        Some(answer) => Ok(answer.records.push(section, record.clone()?)?),
+        Some(answer) => answer
+            .records
+            .push(section, record.clone()?)
+            .map_err(Fault::from),
     }
 }
 
@@ -204,7 +207,7 @@ fn upsert(
 ) -> Result<(), Fault> {
     match script.catalog.upsert(apex, chain) {
         Ok(None) => Ok(()),
-        Ok(Some(old)) => Ok(writeln!(out, "in place of a chain of {}", old.len())?),
+        Ok(Some(old)) => writeln!(out, "in place of a chain of {}", old.len()).map_err(Fault::from),
         Err(_) => Err(Fault::Memory),
     }
 }

@@ -133,7 +133,8 @@ const EDNS_USAGE: &str = "edns [payload=N] [version=N] [high=N] [do] [nsid=HEX] 
 /// Puts an option behind those that are there.
 fn push_option(alloc: Global, edns: &mut Edns, code: u16, digits: &str) -> Result<(), Fault> {
     let bytes = Octets::from_vec(octets(alloc, &[digits])?);
-    Ok(edns.push_option(EdnsOption { code, bytes })?)
+    edns.push_option(EdnsOption { code, bytes })
+        .map_err(Fault::from)
 }
 
 /// Sets what a key and its value say of EDNS; a key that is a number is an option's.
@@ -171,13 +172,13 @@ fn put_options(edns: &Edns, out: &mut String) -> Result<(), AllocError> {
 /// Puts what EDNS says behind a text.
 fn put_edns(edns: &Edns, out: &mut String) -> Result<(), AllocError> {
     let flags = if edns.dnssec_ok() { "do" } else { "no flag" };
-    write!(
+    writeln!(
         out,
-        "payload {}, version {}",
+        "payload {}, version {}, high bits {}, {flags}",
         edns.max_payload(),
-        edns.version()
+        edns.version(),
+        edns.rcode_high()
     )?;
-    writeln!(out, ", high bits {}, {flags}", edns.rcode_high())?;
     put_options(edns, out)
 }
 

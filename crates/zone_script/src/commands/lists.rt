@@ -82,7 +82,7 @@ fn behind<'l>(line: &'l str, word: &str) -> &'l str {
 /// A list of blocked names without names.
 fn new_list(alloc: Global, origin: &str, text: &str) -> Result<BlocklistZoneHandler, Fault> {
     let config = settings(alloc, text)?;
-    Ok(BlocklistZoneHandler::new(alloc, name(alloc, origin)?, config)?)
+    BlocklistZoneHandler::new(alloc, name(alloc, origin)?, config).map_err(Fault::from)
 }
 
 /// The handler that a list is.
@@ -161,7 +161,8 @@ fn block(script: &mut Script, alloc: Global, text: &str) -> Result<(), Fault> {
     let Source::Blocklist(list) = &mut handler.source else {
         return Err(Fault::NoBlocklist);
     };
-    Ok(list.add(&mut CountedReader::new(bytes.as_slice()))?)
+    list.add(&mut CountedReader::new(bytes.as_slice()))
+        .map_err(Fault::from)
 }
 
 /// The list that stands last in the chain.

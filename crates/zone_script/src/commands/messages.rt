@@ -29,7 +29,7 @@ fn tell_name(
     out: &mut String,
 ) -> Result<(), Fault> {
     match read_name(alloc, bytes, is_behind_header) {
-        Ok((name, end)) => Ok(writeln!(out, "{name} ends at {end}")?),
+        Ok((name, end)) => writeln!(out, "{name} ends at {end}").map_err(Fault::from),
         Err(e) => put_fault(e, out),
     }
 }
@@ -37,7 +37,7 @@ fn tell_name(
 /// Tells of the question that bytes begin with.
 fn tell_question(alloc: Global, bytes: &[u8], out: &mut String) -> Result<(), Fault> {
     match read_question(alloc, bytes) {
-        Ok((question, end)) => Ok(writeln!(out, "{question} ends at {end}")?),
+        Ok((question, end)) => writeln!(out, "{question} ends at {end}").map_err(Fault::from),
         Err(e) => put_fault(e, out),
     }
 }
@@ -45,7 +45,7 @@ fn tell_question(alloc: Global, bytes: &[u8], out: &mut String) -> Result<(), Fa
 /// Tells where the parts of a message end.
 fn tell_parts(alloc: Global, bytes: &[u8], out: &mut String) -> Result<(), Fault> {
     match read_parts(alloc, bytes) {
-        Ok(ends) => Ok(writeln!(out, "{ends}")?),
+        Ok(ends) => writeln!(out, "{ends}").map_err(Fault::from),
         Err(e) => put_fault(e, out),
     }
 }
@@ -71,7 +71,7 @@ fn put_fronts(
 ) -> Result<(), Fault> {
     write!(out, "{first} to {last} bytes: ")?;
     match fault {
-        None => Ok(out.push_str("a message\n")?),
+        None => out.push_str("a message\n").map_err(Fault::from),
         Some(e) => put_fault(e, out),
     }
 }

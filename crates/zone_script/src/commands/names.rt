@@ -39,8 +39,7 @@ fn put_name(alloc: Global, name: &Name, out: &mut String) -> Result<(), Fault> {
         "{name} {}, labels {labels}, lower case {lower}",
         kind(name)
     )?;
-    put_wire(alloc, name, out)?;
-    Ok(())
+    put_wire(alloc, name, out).map_err(Fault::from)
 }
 
 /// Tells of the name of a word.
@@ -65,7 +64,9 @@ fn describe_marked(
 fn describe_plain(alloc: Global, text: &str, out: &mut String) -> Result<(), Fault> {
     match Name::from_ascii(alloc, text) {
         Ok(name) => put_name(alloc, &name, out),
-        Err(NameError::Text) => Ok(out.push_str("not the text of a name\n")?),
+        Err(NameError::Text) => out
+            .push_str("not the text of a name\n")
+            .map_err(Fault::from),
         Err(NameError::Memory) => Err(Fault::Memory),
     }
 }

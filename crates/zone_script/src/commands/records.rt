@@ -93,7 +93,7 @@ fn put_wire(alloc: Global, bytes: &[u8], out: &mut String) -> Result<(), AllocEr
 fn put_described(alloc: Global, record: &Record, out: &mut String) -> Result<(), Fault> {
     let bytes = wire(alloc, record)?;
     put_record(alloc, record, bytes.as_slice(), out)?;
-    Ok(put_wire(alloc, bytes.as_slice(), out)?)
+    put_wire(alloc, bytes.as_slice(), out).map_err(Fault::from)
 }
 
 /// A copy of the record of a line.
@@ -116,8 +116,7 @@ fn describe(alloc: Global, line: &str, out: &mut String) -> Result<(), Fault> {
 fn put_read(alloc: Global, record: &Record, end: usize, out: &mut String) -> Result<(), Fault> {
     let bytes = wire(alloc, record)?;
     put_record(alloc, record, bytes.as_slice(), out)?;
-    writeln!(out, ", ends at {end}")?;
-    Ok(())
+    writeln!(out, ", ends at {end}").map_err(Fault::from)
 }
 
 /// Tells of the record that bytes begin with.
@@ -158,7 +157,7 @@ fn compare(alloc: Global, line: &str, out: &mut String) -> Result<(), Fault> {
     } else {
         "different\n"
     };
-    Ok(out.push_str(told)?)
+    out.push_str(told).map_err(Fault::from)
 }
 
 /// Obeys a command on records, if it is one.

@@ -179,7 +179,11 @@ fn tell_questions(
     let count = count.parse::<u16>()?;
     let bytes = octets(alloc, digits)?;
     match read_questions(alloc, bytes.as_slice(), count) {
-        Ok(queries) => Ok(put_questions(alloc, &queries, out)?),
+        Ok(queries) => {
+            let put = put_questions(alloc, &queries, out);
+            drop(queries);
+            put.map_err(Fault::from)
+        }
         Err(e) => put_fault(e, out),
     }
 }
@@ -281,7 +285,7 @@ fn rebuilt_request(script: &Script, alloc: Global, digits: &[&str]) -> Result<Re
     let bytes = octets(alloc, digits)?;
     let message = rebuilt(alloc, bytes.as_slice())?;
     let settings = script.settings;
-    Ok(Request::from_message(alloc, message, settings.source, settings.protocol)?)
+    Request::from_message(alloc, message, settings.source, settings.protocol).map_err(Fault::from)
 }
 
 /// Puts where a request came from behind a text, its questions and its bytes.

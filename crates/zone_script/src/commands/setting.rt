@@ -75,8 +75,8 @@ fn identify(script: &mut Script, alloc: Global, digits: &[&str]) -> Result<(), F
 /// Puts what identifies the server behind a text, in hex digits.
 fn print_identifier(script: &Script, alloc: Global, out: &mut String) -> Result<(), Fault> {
     match script.catalog.nsid() {
-        Some(payload) => Ok(print_hex(alloc, out, payload.as_slice())?),
-        None => Ok(out.push_str("none\n")?),
+        Some(payload) => print_hex(alloc, out, payload.as_slice()).map_err(Fault::from),
+        None => out.push_str("none\n").map_err(Fault::from),
     }
 }
 

@@ -17,8 +17,7 @@ fn tell_type(word: &str, out: &mut String) -> Result<(), Fault> {
         Ok(number) => RecordType::new(number),
         Err(_) => word.parse::<RecordType>()?,
     };
-    writeln!(out, "{record_type}, number {}", record_type.value())?;
-    Ok(())
+    writeln!(out, "{record_type}, number {}", record_type.value()).map_err(Fault::from)
 }
 
 /// Tells of a class.
@@ -27,8 +26,7 @@ fn tell_class(word: &str, out: &mut String) -> Result<(), Fault> {
         Ok(number) => DNSClass::new(number),
         Err(_) => word.parse::<DNSClass>()?,
     };
-    writeln!(out, "{class}, number {}", class.value())?;
-    Ok(())
+    writeln!(out, "{class}, number {}", class.value()).map_err(Fault::from)
 }
 
 /// Puts a kind of request behind a text.
@@ -39,24 +37,31 @@ fn put_op_code(code: OpCode, out: &mut String) -> Result<(), AllocError> {
 /// Tells of a kind of request.
 fn tell_op_code(word: &str, out: &mut String) -> Result<(), Fault> {
     match word.parse::<u8>() {
-        Ok(number) if number < 16 => Ok(put_op_code(OpCode::new(number), out)?),
+        Ok(number) if number < 16 => put_op_code(OpCode::new(number), out).map_err(Fault::from),
         Ok(_) => Err(Fault::Number),
-        Err(_) => Ok(put_op_code(word.parse::<OpCode>()?, out)?),
+        Err(_) => put_op_code(word.parse::<OpCode>()?, out).map_err(Fault::from),
     }
 }
 
 /// Puts a response code behind a text, with its bits in the OPT record and in the header.
 fn put_status(code: ResponseCode, out: &mut String) -> Result<(), AllocError> {
-    write!(out, "{code}, number {}", code.value())?;
-    writeln!(out, ", high bits {}, low bits {}", code.high(), code.low())
+    writeln!(
+        out,
+        "{code}, number {}, high bits {}, low bits {}",
+        code.value(),
+        code.high(),
+        code.low()
+    )
 }
 
 /// Tells of a response code.
 fn tell_status(word: &str, out: &mut String) -> Result<(), Fault> {
     match word.parse::<u16>() {
-        Ok(number) if number < 4096 => Ok(put_status(ResponseCode::new(number), out)?),
+        Ok(number) if number < 4096 => put_status(ResponseCode::new(number), out).map_err(
+            Fault::from,
+        ),
         Ok(_) => Err(Fault::Number),
-        Err(_) => Ok(put_status(word.parse::<ResponseCode>()?, out)?),
+        Err(_) => put_status(word.parse::<ResponseCode>()?, out).map_err(Fault::from),
     }
 }
 
@@ -67,7 +72,7 @@ fn join_status(high: &str, low: &str, out: &mut String) -> Result<(), Fault> {
     if low >= 16 {
         return Err(Fault::Number);
     }
-    Ok(put_status(ResponseCode::from_parts(high, low), out)?)
+    put_status(ResponseCode::from_parts(high, low), out).map_err(Fault::from)
 }
 
 /// Tells of the identifier of these bytes (RFC 5001).

@@ -156,8 +156,13 @@ fn zone_in(handler: &Handler) -> Result<&InMemoryZoneHandler, Fault> {
 fn print_heading(out: &mut String, zone: &InMemoryZoneHandler) -> Result<(), AllocError> {
     let kind = type_word(zone.zone_type());
     let policy = policy_word(zone.axfr_policy());
-    write!(out, "; zone {} {}, {kind}, ", zone.origin(), zone.class())?;
-    writeln!(out, "transfers {policy}, serial {}", zone.serial())
+    writeln!(
+        out,
+        "; zone {} {}, {kind}, transfers {policy}, serial {}",
+        zone.origin(),
+        zone.class(),
+        zone.serial()
+    )
 }
 
 /// Puts a zone behind a text.
