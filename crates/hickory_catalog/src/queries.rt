@@ -149,13 +149,10 @@ fn answer_transfer<S: ReplySigner, H: ZoneHandler, R: ResponseHandler>(
         (R.settings sink.new ≡ R.settings sink.old) × (R.entries sink.new ≡ R.entries sink.old) × (R.failures sink.new ≡ R.failures sink.old)) }
 {
     match ask_for_transfer(chain, alloc, request, now) {
-        None => Ok(send_error(
-            sink,
-            alloc,
-            request.message(),
-            edns,
-            ResponseCode::SERV_FAIL,
-        )),
+        None => {
+            let message = request.message();
+            Ok(send_error(sink, alloc, message, edns, ResponseCode::SERV_FAIL))
+        }
         Some((outcome, context)) => {
             let told = answer_transferred(
                 &catalog.signer,
@@ -204,17 +201,10 @@ fn answer_lookup<S: ReplySigner, H: ZoneHandler, R: ResponseHandler>(
         Some(outcome) => {
             let handler = &chain[answer.place];
             let context = answer.context;
+            let signer = &catalog.signer;
             let mut rest = outcome;
             let told = answer_outcome(
-                &catalog.signer,
-                handler,
-                alloc,
-                request,
-                edns,
-                query,
-                &mut rest,
-                &context,
-                sink,
+                signer, handler, alloc, request, edns, query, &mut rest, &context, sink,
             );
             drop(rest);
             drop(context);
