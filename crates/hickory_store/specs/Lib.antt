@@ -18,3 +18,4 @@ pub mod UpdatableZone
 pub mod UpdateAnswers
 pub mod WorkedChanges
 pub mod WorkedUpdates
+pub mod ZoneSets

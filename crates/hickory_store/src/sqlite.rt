@@ -2,13 +2,16 @@
 
 mod access;
 mod answers;
+mod changes;
 mod handler;
 pub mod laws;
 mod names;
 mod prerequisites;
 mod prescan;
 mod required_sets;
+mod updating;
 mod verifier;
+mod zone_sets;
 pub mod worked;
 
 pub use handler::SqliteZoneHandler;
