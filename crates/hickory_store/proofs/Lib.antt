@@ -9,3 +9,5 @@ pub mod RecordByRecord
 pub mod UpdateTurns
 pub mod SetsOfRecords
 pub mod UpdatedZones
+pub mod ApexNs
+pub mod ApexSoa

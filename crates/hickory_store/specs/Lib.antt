@@ -16,6 +16,7 @@ pub mod SetsByRecord
 pub mod TransferAnswers
 pub mod UpdatableZone
 pub mod UpdateAnswers
+pub mod UpdateLaws
 pub mod WorkedChanges
 pub mod WorkedUpdates
 pub mod ZoneSets

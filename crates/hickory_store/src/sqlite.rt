@@ -9,6 +9,7 @@ mod names;
 mod prerequisites;
 mod prescan;
 mod required_sets;
+mod update_requests;
 mod updating;
 mod verifier;
 mod zone_sets;
