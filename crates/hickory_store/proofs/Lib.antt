@@ -6,3 +6,8 @@ pub mod Listing
 pub mod NamedSets
 pub mod NamesInZones
 pub mod RecordByRecord
+pub mod UpdateTurns
+pub mod SetsOfRecords
+pub mod UpdatedZones
+pub mod ApexNs
+pub mod ApexSoa

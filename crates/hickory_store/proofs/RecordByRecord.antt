@@ -90,29 +90,29 @@ filter_in p x (y ∷ ys) (inl e) h = keep_first (p y) x y _ (ap p (sym e) ∙ h)
 filter_in p x (y ∷ ys) (inr is) h = keep_rest (p y) x y _ (filter_in p x ys is h)
 
 -- ---- RRsets
-itself : (name : DomainName) → SameName name name
+pub itself : (name : DomainName) → SameName name name
 itself name = record { labels = refl; marks = refl }
 
 abbrev of : Record RData → Record RData → Bool
 of r q = is_of r.name (type_of r.rdata) q
 
 -- a record is of its own RRset
-of_itself : (r : Record RData) → of r r ≡ true
+pub of_itself : (r : Record RData) → of r r ≡ true
 of_itself r = hold_both _ _ (eq_from_same r.name r.name (itself r.name)) (eq-eqb (type_of r.rdata) (type_of r.rdata) refl)
 
 -- records of one RRset have the same RRset
-same_of : (r p q : Record RData) → of r p ≡ true → of p q ≡ of r q
+pub same_of : (r p q : Record RData) → of r p ≡ true → of p q ≡ of r q
 same_of r p q h =
     let both = both_hold _ _ h in
     let name : name_eq p.name q.name ≡ name_eq r.name q.name = sym (ap is_eq (same_order r.name q.name p.name q.name (same_from_eq r.name p.name both.0) (itself q.name))) in
     ap (λ b. b && (type_of p.rdata == type_of q.rdata)) name
     ∙ ap (λ t. name_eq r.name q.name && (t == type_of q.rdata)) (sym (eqb-true (type_of r.rdata) (type_of p.rdata) both.1))
 
-same_set : (r p : Record RData) (zone : List (Record RData)) → of r p ≡ true → rrset zone p.name (type_of p.rdata) ≡ rrset zone r.name (type_of r.rdata)
+pub same_set : (r p : Record RData) (zone : List (Record RData)) → of r p ≡ true → rrset zone p.name (type_of p.rdata) ≡ rrset zone r.name (type_of r.rdata)
 same_set r p zone h = filter_agree (of p) (of r) (λ q. same_of r p q h) zone
 
 -- lower case leaves the type
-type-lower : (d : RData) → type_of (lower_data d) ≡ type_of d
+pub type-lower : (d : RData) → type_of (lower_data d) ≡ type_of d
 type-lower (rdata.A x) = refl
 type-lower (rdata.AAAA x) = refl
 type-lower (rdata.NS x) = refl

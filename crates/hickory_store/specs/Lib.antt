@@ -1,6 +1,7 @@
 pub mod Adding
 pub mod BlockAnswers
 pub mod Blocked
+pub mod Changes
 pub mod Entries
 pub mod Identity
 pub mod LendingZone
@@ -10,7 +11,12 @@ pub mod Prerequisites
 pub mod Prescan
 pub mod Readers
 pub mod Refusals
+pub mod Serials
 pub mod SetsByRecord
 pub mod TransferAnswers
 pub mod UpdatableZone
+pub mod UpdateAnswers
+pub mod UpdateLaws
+pub mod WorkedChanges
 pub mod WorkedUpdates
+pub mod ZoneSets

@@ -2,13 +2,17 @@
 
 mod access;
 mod answers;
+mod changes;
 mod handler;
 pub mod laws;
 mod names;
 mod prerequisites;
 mod prescan;
 mod required_sets;
+mod update_requests;
+mod updating;
 mod verifier;
+mod zone_sets;
 pub mod worked;
 
 pub use handler::SqliteZoneHandler;

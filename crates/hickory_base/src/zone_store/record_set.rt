@@ -1,11 +1,14 @@
 //! Records of one name and type.
 
-ghost use Rattle.std.specs.Prelude.{◌≡◌, ◌↔◌, IsTrue};
+ghost use Rattle.std.specs.Prelude.{◌≡◌, ◌↔◌, IfOk, IsTrue};
 ghost use Rattle.hickory_base.specs.zone_store.RecordSets.{IsRecordSet};
 
 use crate::zone_store::conditions::is_record_set;
+use crate::zone_store::copies::append_copies;
 use hickory_wire::{LowerName, Record, RecordType};
+use std::alloc::{AllocError, Global};
 use std::marker::Model;
+use std::rc::Rc;
 
 /// By what a set of records is found: keys are ordered by name, then by type.
 #[derive(PartialEq, Eq, PartialOrd, Ord, Hash, Drop)]
@@ -67,5 +70,26 @@ impl RecordSet {
         ensures set { IsRecordSet self.now }
     {
         self.records.as_slice()
+    }
+
+    /// The records themselves. It needs no memory.
+    pub fn into_records(self) -> Vec<Record>
+        ensures { result.items ≡ self }
+    {
+        self.records
+    }
+
+    /// The records of a set that may be shared: themselves where it is not, which needs no memory, and else copies.
+    pub fn unshared(alloc: Global, set: Rc<RecordSet>) -> Result<Vec<Record>, AllocError>
+        ensures { IfOk result (λ records. records.items ≡ set.value) }
+    {
+        match Rc::try_unwrap(set) {
+            Ok(set) => Ok(set.into_records()),
+            Err(shared) => {
+                let mut copies = Vec::new(alloc);
+                append_copies(&mut copies, shared.records())?;
+                Ok(copies)
+            }
+        }
     }
 }

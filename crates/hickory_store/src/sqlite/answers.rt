@@ -4,10 +4,10 @@ ghost use Rattle.std.specs.Prelude.{◌≡◌, ◌⊎◌, Err, None, false};
 ghost use Rattle.hickory_base.specs.requests.Questions.{one_query};
 ghost use Rattle.hickory_base.specs.zone_store.ZoneAnswers.{LookedUp, whole_zone, zone_soa};
 ghost use Rattle.hickory_base.specs.declared.errors.LookupError.TheVariants as lookup_error;
-ghost use Rattle.hickory_base.specs.declared.errors.UpdateFault.TheVariants.{Code};
 ghost use Rattle.hickory_base.specs.declared.zone_store.lookup.LookupControlFlow.TheVariants.{Skip};
 ghost use Rattle.hickory_store.specs.Permission.{transfer_permission};
 ghost use Rattle.hickory_store.specs.TransferAnswers.{SearchedIn, TransferredAs, asks_for_transfer, transfer_failure};
+ghost use Rattle.hickory_store.specs.UpdateAnswers.{AnswersUpdate};
 
 use crate::sqlite::handler::SqliteZoneHandler;
 use crate::sqlite::verifier::Verifier;
@@ -17,7 +17,7 @@ use hickory_base::zone_store::{
     AuthLookup, AxfrPolicy, InMemoryZoneHandler, LookupControlFlow, LookupOptions, Nsec3QueryInfo,
     NxProofKind, ZoneHandler, ZoneTransfer, ZoneType,
 };
-use hickory_wire::{LowerName, RecordType, ResponseCode, TSigResponseContext};
+use hickory_wire::{LowerName, RecordType, TSigResponseContext};
 use std::alloc::Global;
 
 /// Why a transfer is not given, where the permission to it is refused.
@@ -80,7 +80,7 @@ impl<V: Verifier> ZoneHandler for SqliteZoneHandler<V> {
 
     ghost nsec3_gives = { λ _ _ _ answer. answer ≡ Skip };
 
-    ghost update_gives = { λ handler _ _ answer context new. (answer ≡ Err (Code 4)) × (context ≡ None) × (new ≡ handler) };
+    ghost update_gives = { AnswersUpdate V.Verifier };
 
     fn zone_type(&self) -> ZoneType {
         self.in_memory.zone_type()
@@ -183,10 +183,10 @@ impl<V: Verifier> ZoneHandler for SqliteZoneHandler<V> {
 
     fn update(
         &mut self,
-        _alloc: Global,
-        _request: &Request,
-        _now: u64,
+        alloc: Global,
+        request: &Request,
+        now: u64,
     ) -> (Result<bool, UpdateFault>, Option<TSigResponseContext>) {
-        (Err(UpdateFault::Code(ResponseCode::NOT_IMP)), None)
+        self.update_by_request(alloc, request, now)
     }
 }

@@ -7,6 +7,7 @@ ghost use Rattle.hickory_wire.specs.rr.RecordSameness.{SameRecord};
 ghost use Rattle.hickory_wire.specs.declared.rr.rdata.RData.{RData as Data};
 ghost use Rattle.hickory_wire.specs.declared.rr.record.Record.{Record as ResourceRecord};
 ghost use Rattle.hickory_store.specs.Identity.{is_in_zone, same_record};
+ghost use Rattle.hickory_store.specs.UpdateLaws.{NsStays, SoaStays};
 
 use hickory_wire::record_comparisons;
 
@@ -15,6 +16,15 @@ use hickory_wire::record_comparisons;
 pub fn identities()
     ensures records { (a b : ResourceRecord Data) → IsTrue (same_record a b) ↔ SameRecord a b }
     ensures zones { (origin name : DomainName) → IsTrue (is_in_zone origin name) ↔ Encloses origin.labels name.labels }
+{
+    record_comparisons();
+}
+
+/// Whatever an update says, a zone with one SOA at its apex keeps one, and a zone with an NS at its apex keeps one
+/// (RFC 2136 section 3.4.2).
+pub fn apex_stays()
+    ensures soa { SoaStays }
+    ensures ns { NsStays }
 {
     record_comparisons();
 }

@@ -3,7 +3,7 @@
 //! The functions do nothing. Their contracts are the examples, and hold by the definitions alone. Response codes: 1 is
 //! FormErr, 3 NXDomain, 5 Refused, 6 YXDomain, 7 YXRRSet, 8 NXRRSet, 9 NotAuth, 10 NotZone.
 
-ghost use Rattle.std.specs.Prelude.{◌≡◌, ◌∷◌, [], ◌++◌, ℕ, None, Some, true, false};
+ghost use Rattle.std.specs.Prelude.{◌≡◌, ◌∷◌, [], ◌++◌, ℕ, None, Some, Ok, Err, true, false};
 ghost use Rattle.std.specs.declared.ops.Range.{Range};
 ghost use Rattle.hickory_wire.specs.worked.Worked.{record_of};
 ghost use Rattle.hickory_wire.specs.declared.rr.rdata.RData.TheVariants as rdata;
@@ -14,6 +14,9 @@ ghost use Rattle.hickory_base.specs.declared.zone_store.handler.AxfrPolicy.TheVa
 ghost use Rattle.hickory_store.specs.Identity.{same_record, ttl_at};
 ghost use Rattle.hickory_store.specs.Permission.{allowed, is_within, kind_refusal, refused, timed_kind, transfer_permission, update_permission, verified_kind};
 ghost use Rattle.hickory_store.specs.Prescan.{prescan_refusal, update_refusal};
+ghost use Rattle.hickory_store.specs.Serials.{is_greater, next_serial};
+ghost use Rattle.hickory_store.specs.UpdateAnswers.{applied};
+ghost use Rattle.hickory_store.specs.WorkedChanges.{added, alias, apex_address, apex_soa, comes_and_goes, deletes, hosts, ns, soa_of, updated, zone_at};
 ghost use Rattle.hickory_store.specs.WorkedUpdates.{address, asked, at_address, nx, origin, outside, required, required_of, scanned_empty, scanned_full, server, soa, types, with_data, www, www_in_capitals, zone};
 
 use crate::sqlite::verifier::Verifier;
@@ -86,3 +89,44 @@ pub fn worked_permissions<V: Verifier>(verifier: &V)
 {
     let _ = verifier;
 }
+
+/// What additions do to the zone (RFC 2136 section 3.4.2.2): a record comes, or takes the place of the one that is the same;
+/// an SOA comes where its serial is greater; beside a CNAME nothing comes, and a CNAME comes beside nothing. The serial is
+/// incremented where the zone changed.
+pub fn worked_additions()
+    ensures same { updated 7 (apex_address 3600 ∷ []) true ≡ Ok (zone_at 7, false) }
+    ensures other_ttl { updated 7 (apex_address 60 ∷ []) true ≡ Ok (apex_soa 8 ∷ ns ∷ hosts ++ apex_address 60 ∷ [], true) }
+    ensures added { updated 7 (at_address added 55 ∷ []) true ≡ Ok (zone_at 8 ++ at_address added 55 ∷ [], true) }
+    ensures added_in_replay { updated 7 (at_address added 55 ∷ []) false ≡ Ok (zone_at 7 ++ at_address added 55 ∷ [], false) }
+    ensures same_soa { updated 7 (apex_soa 7 ∷ []) true ≡ Ok (zone_at 7, false) }
+    ensures far_soa { updated 7 (apex_soa 2147483655 ∷ []) true ≡ Ok (zone_at 7, false) }
+    ensures next_soa { updated 7 (apex_soa 9 ∷ []) true ≡ Ok (ns ∷ apex_address 3600 ∷ hosts ++ apex_soa 10 ∷ [], true) }
+    ensures soas { updated 7 (apex_soa 9 ∷ apex_soa 8 ∷ []) true ≡ Ok (ns ∷ apex_address 3600 ∷ hosts ++ apex_soa 10 ∷ [], true) }
+    ensures soa_below { updated 7 (record_of www 1 3600 (soa_of 9) ∷ []) true ≡ Ok (zone_at 7, false) }
+    ensures cname_beside { updated 7 (record_of www 1 3600 (rdata.CNAME server) ∷ []) true ≡ Ok (zone_at 7, false) }
+    ensures cname { updated 7 (comes_and_goes ++ record_of alias 1 60 (rdata.CNAME server) ∷ []) true ≡ Ok (zone_at 8 ++ record_of alias 1 60 (rdata.CNAME server) ∷ [], true) }
+    ensures no_soa { applied origin 1 hosts (at_address added 55 ∷ []) true ≡ Err 2 }
+{}
+
+/// What deletions do to the zone (RFC 2136 sections 3.4.2.3 and 3.4.2.4): at the apex SOA and NS stay, and so does the one
+/// NS of a name.
+pub fn worked_deletions()
+    ensures all_of_the_apex { updated 7 (asked origin 255 255 ∷ []) true ≡ Ok (apex_soa 8 ∷ ns ∷ hosts, true) }
+    ensures last_serial { updated 4294967295 (asked origin 255 255 ∷ []) true ≡ Ok (apex_soa 0 ∷ ns ∷ hosts, true) }
+    ensures soa_of_the_apex { updated 7 (asked origin 255 6 ∷ []) true ≡ Ok (zone_at 7, false) }
+    ensures rrset { updated 7 (asked www_in_capitals 255 1 ∷ []) true ≡ Ok (apex_soa 8 ∷ ns ∷ apex_address 3600 ∷ [], true) }
+    ensures other_type { updated 7 (asked www 255 15 ∷ []) true ≡ Ok (zone_at 7, false) }
+    ensures record { updated 7 (deletes www (address 10) ∷ deletes www (address 12) ∷ []) true ≡ Ok (apex_soa 8 ∷ ns ∷ apex_address 3600 ∷ record_of www 1 3600 (address 11) ∷ [], true) }
+    ensures only_ns { updated 7 (deletes origin (rdata.NS server) ∷ []) true ≡ Ok (zone_at 7, false) }
+    ensures soa { updated 7 (deletes origin (soa_of 7) ∷ []) true ≡ Ok (zone_at 7, false) }
+    ensures one_of_two_ns { updated 7 (record_of origin 1 60 (rdata.NS www) ∷ deletes origin (rdata.NS server) ∷ []) true ≡ Ok (apex_soa 8 ∷ apex_address 3600 ∷ hosts ++ record_of origin 1 60 (rdata.NS www) ∷ [], true) }
+    ensures comes_and_goes { updated 7 comes_and_goes true ≡ Ok (zone_at 8, true) }
+    ensures replayed { updated 7 (comes_and_goes ++ apex_soa 8 ∷ []) false ≡ Ok (ns ∷ apex_address 3600 ∷ hosts ++ apex_soa 8 ∷ [], false) }
+{}
+
+/// Serials are compared and incremented by the arithmetic of RFC 1982.
+pub fn worked_serials()
+    ensures increment { (next_serial 7 ≡ 8) × (next_serial 4294967295 ≡ 0) }
+    ensures greater { (is_greater 8 7 ≡ true) × (is_greater 2147483654 7 ≡ true) × (is_greater 0 4294967295 ≡ true) }
+    ensures not_greater { (is_greater 7 7 ≡ false) × (is_greater 7 8 ≡ false) × (is_greater 2147483655 7 ≡ false) × (is_greater 4294967295 0 ≡ false) }
+{}

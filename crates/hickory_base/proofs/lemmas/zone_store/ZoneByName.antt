@@ -39,17 +39,17 @@ eq_by_tests a b false false e f = refl
 eq_numbers : (a b : ℕ) → is_eq (nat_cmp a b) ≡ (a == b)
 eq_numbers a b = eq_by_tests a b (nat_lt a b) (a == b) refl refl
 
-itself : (name : DomainName) → SameName name name
+pub itself : (name : DomainName) → SameName name name
 itself name = record { labels = refl; marks = refl }
 
-key_total : IsTotalOrder key_cmp
+pub key_total : IsTotalOrder key_cmp
 key_total = then_total (on_total (λ (k : RrKey). k.name) name_cmp_total) (on_total (λ (k : RrKey). k.record_type) nat_cmp_total)
 
 -- what lies under a key has its name and type
-name_under : (name : DomainName) (key : RrKey) (r : Record RData) → IsUnder key r → is_at name r ≡ has_name name key
+pub name_under : (name : DomainName) (key : RrKey) (r : Record RData) → IsUnder key r → is_at name r ≡ has_name name key
 name_under name key r under = ap is_eq (same_order name r.name name key.name (itself name) under.name)
 
-of_under : (name : DomainName) (t : ℕ) (key : RrKey) (r : Record RData) → IsUnder key r → is_of name t r ≡ is_key name t key
+pub of_under : (name : DomainName) (t : ℕ) (key : RrKey) (r : Record RData) → IsUnder key r → is_of name t r ≡ is_key name t key
 of_under name t key r under =
     ap (λ b. b && (t == type_of r.rdata)) (name_under name key r under)
     ∙ ap (λ n. is_eq (name_cmp name key.name) && (t == n)) under.record_type

@@ -1,0 +1,102 @@
+-- What an update of a zone answers and leaves, whole or not at all (RFC 2136 sections 3.2 to 3.6).
+use Rattle.std.specs.Prelude.{◌≡◌, ◌≢◌, ℕ, ◌&&◌, Bool, true, false, cond, List, [], ◌∷◌, map, Option, Some, None, Result, Ok, Err}
+use Rattle.std.specs.List.{list_any}
+use Rattle.hickory_wire.specs.rr.domain.DomainName.{DomainName}
+use Rattle.hickory_wire.specs.declared.rr.rdata.RData.{RData}
+use Rattle.hickory_wire.specs.declared.rr.rdata.RData.TheVariants as rdata
+use Rattle.hickory_wire.specs.declared.rr.record.Record.{Record}
+use Rattle.hickory_wire.specs.declared.rr.tsig.TSigResponseContext.{TSigResponseContext}
+use Rattle.hickory_base.specs.requests.Requests.{ReceivedRequest}
+use Rattle.hickory_base.specs.requests.Updates.{UpdateMessage, update_of}
+use Rattle.hickory_base.specs.zone_store.ZoneAnswers.{MemoryZone}
+use Rattle.hickory_base.specs.zone_store.ZoneRecords.{is_at}
+use Rattle.hickory_base.specs.zone_store.ZoneSets.{zone_records}
+use Rattle.hickory_base.specs.declared.errors.UpdateFault.{UpdateFault}
+use Rattle.hickory_base.specs.declared.errors.UpdateFault.TheVariants.{Code, Memory}
+use Rattle.hickory_store.specs.Changes.{any_change, fold, is_type}
+use Rattle.hickory_store.specs.Identity.{SameZone}
+use Rattle.hickory_store.specs.Permission.{Permission, update_permission}
+use Rattle.hickory_store.specs.Prerequisites.{prerequisites_refusal}
+use Rattle.hickory_store.specs.Prescan.{prescan_refusal}
+use Rattle.hickory_store.specs.Serials.{next_serial}
+use Rattle.hickory_store.specs.UpdatableZone.{UpdatableZone}
+use Rattle.hickory_store.specs.declared.sqlite.verifier.Verifier.{Ghosts}
+
+-- the record is an SOA, 6, of the apex
+abbrev pub is_apex_soa : DomainName → Record RData → Bool
+is_apex_soa origin q = is_at origin q && is_type 6 q
+
+abbrev pub next_data : RData → RData
+next_data (rdata.SOA soa) = rdata.SOA (record soa { serial = next_serial soa.serial })
+next_data other = other
+
+-- the record once the serial of the zone is incremented (section 3.6)
+abbrev pub incremented : DomainName → Record RData → Record RData
+incremented origin q = cond (is_apex_soa origin q) (record q { rdata = next_data q.rdata }) q
+
+-- The records of a zone after an update and whether the zone changed, or the code of the refusal.
+abbrev pub Outcome : Type 0
+Outcome = Result (List (Record RData) × Bool) ℕ
+
+-- the serial is incremented where there is an SOA; without one a change is ServFail, 2
+abbrev pub with_next_serial : DomainName → List (Record RData) → Outcome
+with_next_serial origin records = cond (list_any (is_apex_soa origin) records) (Ok (map (incremented origin) records, true)) (Err 2)
+
+-- The update section is done to the zone. Where the update increments the serial and nothing changed, the zone stays (section 3.6).
+-- An update that does not, as one that is replayed, says of no change that it was one.
+abbrev pub applied : DomainName → ℕ → List (Record RData) → List (Record RData) → Bool → Outcome
+applied origin class zone updates true = cond (any_change origin class zone updates) (with_next_serial origin (fold origin class zone updates)) (Ok (zone, false))
+applied origin class zone updates false = Ok (fold origin class zone updates, false)
+
+-- These records are the zone of the outcome, and this is its answer.
+abbrev pub IsOutcome : Outcome → List (Record RData) → Bool → Type 0
+IsOutcome (Ok outcome) records changed = SameZone records outcome.0 × (changed ≡ outcome.1)
+IsOutcome (Err code) records changed = ⊥
+
+-- A code is that of the outcome; or memory was refused.
+abbrev pub IsRefused : Outcome → UpdateFault → Type 0
+IsRefused outcome (Code code) = outcome ≡ Err code
+IsRefused outcome Memory = Unit {0}
+
+-- The zone is left as an update may leave it.
+abbrev pub Updates : Outcome → Result Bool UpdateFault → MemoryZone → MemoryZone → Type 0
+Updates outcome (Ok changed) old new = IsOutcome outcome (zone_records new.sets) changed × (new ≡ record old { sets = new.sets })
+Updates outcome (Err fault) old new = IsRefused outcome fault × (new ≡ old)
+
+-- the outcome, unless the update is refused before
+abbrev pub unless_refused : Option ℕ → Outcome → Outcome
+unless_refused None outcome = outcome
+unless_refused (Some code) outcome = Err code
+
+-- the outcome of a request: who may update, the prerequisites, the prescan, and the update section, in this order (section 3)
+abbrev pub message_outcome : Option ℕ → MemoryZone → UpdateMessage → Outcome
+message_outcome refusal zone message =
+    unless_refused refusal
+    (unless_refused (prerequisites_refusal zone.origin 1 (zone_records zone.sets) message.prerequisites)
+    (unless_refused (prescan_refusal zone.origin 1 message.updates)
+    (applied zone.origin 1 (zone_records zone.sets) message.updates true)))
+
+-- what goes with the answer for the signer of the reply; nothing where memory was refused
+abbrev pub told_context : Option TSigResponseContext → Result Bool UpdateFault → Option TSigResponseContext
+told_context context (Err Memory) = None
+told_context context answer = context
+
+-- The answer to a request, what goes with it, and the handler after it.
+abbrev pub AnswersBy : {V : Type 0} → Permission → UpdatableZone V → UpdateMessage → Result Bool UpdateFault → Option TSigResponseContext → UpdatableZone V → Type 0
+AnswersBy permission old message answer context new =
+    Updates (message_outcome permission.refusal old.zone message) answer old.zone new.zone
+    × (context ≡ told_context permission.context answer)
+    × (new ≡ record old { zone = new.zone })
+
+abbrev pub AnswersUpdate : {V : Type 0} → Ghosts V → UpdatableZone V → ReceivedRequest → ℕ → Result Bool UpdateFault → Option TSigResponseContext → UpdatableZone V → Type 0
+AnswersUpdate by old request now answer context new =
+    AnswersBy (update_permission by old.verifier old.allow_update request now) old (update_of request.message) answer context new
+
+-- Requests, each at its moment, are answered one after another, but for want of memory.
+abbrev pub UpdatesAll : {V : Type 0} → Ghosts V → List (ReceivedRequest × ℕ) → UpdatableZone V → UpdatableZone V → Type 0
+UpdatesAll by [] old new = new ≡ old
+UpdatesAll {V} by (request ∷ requests) old new =
+    (answer : Result Bool UpdateFault) × (context : Option TSigResponseContext) × (between : UpdatableZone V)
+    × (answer ≢ Err Memory)
+    × AnswersUpdate by old request.0 request.1 answer context between
+    × UpdatesAll by requests between new

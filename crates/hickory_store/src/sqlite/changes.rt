@@ -1,0 +1,268 @@
+//! What the records of an update section do to the records of a zone, one after another.
+
+ghost use Rattle.std.specs.Prelude.{◌≡◌, ◌&&◌, IfOk, OnOk, filter, not};
+ghost use Rattle.std.specs.List.{list_any};
+ghost use Rattle.hickory_base.specs.zone_store.ZoneRecords.{is_at};
+ghost use Rattle.hickory_store.specs.Changes.{any_change, changes, comes, fold, goes_when, has_ttl, in_class, in_rrset, is_cleared, is_ignored, is_newer, is_spared, is_there, is_type, replaces_rrset, turn};
+ghost use Rattle.hickory_store.specs.Identity.{same_record, ttl_at};
+ghost use Rattle.hickory_store.specs.Serials.{is_greater};
+
+use hickory_wire::{DNSClass, Name, RData, Record, RecordType};
+use std::alloc::AllocError;
+
+/// Whether a record is of a type.
+pub(crate) fn is_type(record_type: RecordType, q: &Record) -> bool
+    ensures { result ≡ is_type record_type q.now }
+{
+    q.rdata.record_type() == record_type
+}
+
+/// Whether a record is of the RRset of another.
+fn in_rrset(r: &Record, q: &Record) -> bool
+    ensures { result ≡ in_rrset r.now q.now }
+{
+    r.name == q.name && is_type(r.rdata.record_type(), q)
+}
+
+/// Whether two records are the same but for their TTLs.
+fn is_same(r: &Record, q: &Record) -> bool
+    ensures { result ≡ same_record r.now q.now }
+{
+    r == q
+}
+
+/// Whether a serial is greater than another (RFC 1982 section 3.2).
+fn is_greater(a: u32, b: u32) -> bool
+    ensures { result ≡ is_greater a b }
+{
+    const HALF: u32 = 1 << 31;
+    (a < b && HALF < b - a) || (b < a && a - b < HALF)
+}
+
+/// Whether the data are those of an SOA that is newer than the other.
+fn is_newer(a: &RData, b: &RData) -> bool
+    ensures { result ≡ is_newer a.now b.now }
+{
+    match (a, b) {
+        (RData::SOA(soa), RData::SOA(other)) => is_greater(soa.get().serial, other.get().serial),
+        _ => false,
+    }
+}
+
+/// Whether the record's name has one of another type than CNAME.
+fn has_other_than_cname(records: &[Record], r: &Record) -> bool
+    ensures { result ≡ list_any (λ q. is_at r.now.name q && not (is_type 5 q)) records.now }
+{
+    records
+        .iter()
+        .any(|q| r.name == q.name && !is_type(RecordType::CNAME, q))
+}
+
+/// Whether the record's name has a CNAME.
+fn has_cname(records: &[Record], r: &Record) -> bool
+    ensures { result ≡ list_any (λ q. is_at r.now.name q && is_type 5 q) records.now }
+{
+    records
+        .iter()
+        .any(|q| r.name == q.name && is_type(RecordType::CNAME, q))
+}
+
+/// Whether the record's RRset has records.
+fn has_rrset(records: &[Record], r: &Record) -> bool
+    ensures { result ≡ list_any (in_rrset r.now) records.now }
+{
+    records.iter().any(|q| in_rrset(r, q))
+}
+
+/// Whether the record's RRset has an SOA that it is not newer than.
+fn has_soa_as_new(records: &[Record], r: &Record) -> bool
+    ensures { result ≡ list_any (λ q. in_rrset r.now q && not (is_newer r.now.rdata q.rdata)) records.now }
+{
+    records
+        .iter()
+        .any(|q| in_rrset(r, q) && !is_newer(&r.rdata, &q.rdata))
+}
+
+/// Whether a record cannot be added to the zone.
+fn is_ignored(records: &[Record], r: &Record) -> bool
+    ensures { result ≡ is_ignored records.now r.now }
+{
+    if is_type(RecordType::CNAME, r) {
+        return has_other_than_cname(records, r);
+    }
+    has_cname(records, r)
+        || (is_type(RecordType::SOA, r) && (!has_rrset(records, r) || has_soa_as_new(records, r)))
+}
+
+/// Whether a record takes the place of its whole RRset.
+fn replaces_rrset(r: &Record) -> bool
+    ensures { result ≡ replaces_rrset r.now }
+{
+    is_type(RecordType::CNAME, r) || is_type(RecordType::SOA, r)
+}
+
+/// Whether the record is there with its TTL.
+fn has_with_ttl(records: &[Record], r: &Record) -> bool
+    ensures { result ≡ has_ttl r.now.ttl (ttl_at records.now r.now) }
+{
+    for q in records {
+        if is_same(r, q) {
+            return q.ttl == r.ttl;
+        }
+    }
+    false
+}
+
+/// Whether the record's RRset has another record.
+fn has_other(records: &[Record], r: &Record) -> bool
+    ensures { result ≡ list_any (λ q. in_rrset r.now q && not (same_record r.now q)) records.now }
+{
+    records.iter().any(|q| in_rrset(r, q) && !is_same(r, q))
+}
+
+/// Whether the zone is as it would be after the record was added.
+fn is_there(records: &[Record], r: &Record) -> bool
+    ensures { result ≡ is_there records.now r.now }
+{
+    has_with_ttl(records, r) && !(replaces_rrset(r) && has_other(records, r))
+}
+
+/// Whether a record comes into the zone.
+fn comes(class: DNSClass, records: &[Record], r: &Record) -> bool
+    ensures { result ≡ comes class records.now r.now }
+{
+    r.dns_class == class && (!is_ignored(records, r) && !is_there(records, r))
+}
+
+/// Whether a record of the zone is the one that a record of class NONE speaks of.
+fn is_meant(class: DNSClass, r: &Record, q: &Record) -> bool
+    ensures { result ≡ same_record (in_class class r.now) q.now }
+{
+    r.name == q.name && (class == q.dns_class && r.rdata == q.rdata)
+}
+
+/// Whether the record's RRset has another record than the one it speaks of.
+fn has_other_than_meant(class: DNSClass, records: &[Record], r: &Record) -> bool
+    ensures { result ≡ list_any (λ q. in_rrset r.now q && not (same_record (in_class class r.now) q)) records.now }
+{
+    records
+        .iter()
+        .any(|q| in_rrset(r, q) && !is_meant(class, r, q))
+}
+
+/// Whether the record that a record of class NONE speaks of stays.
+fn is_spared(class: DNSClass, records: &[Record], r: &Record) -> bool
+    ensures { result ≡ is_spared class records.now r.now }
+{
+    is_type(RecordType::SOA, r)
+        || (is_type(RecordType::NS, r) && !has_other_than_meant(class, records, r))
+}
+
+/// Whether a record of class ANY deletes a record of the zone.
+fn is_cleared(origin: &Name, r: &Record, q: &Record) -> bool
+    ensures { result ≡ is_cleared origin.now r.now q.now }
+{
+    r.name == q.name
+        && ((is_type(RecordType::ANY, r) || is_type(r.rdata.record_type(), q))
+            && !(*origin == q.name && (is_type(RecordType::SOA, q) || is_type(RecordType::NS, q))))
+}
+
+/// Whether a record of an update section takes a record out of the zone, where it is settled whether it comes and whether
+/// it is spared.
+fn goes(
+    origin: &Name,
+    class: DNSClass,
+    r: &Record,
+    is_coming: bool,
+    is_kept: bool,
+    q: &Record,
+) -> bool
+    ensures { result ≡ goes_when origin.now class r.now is_coming is_kept q.now }
+{
+    if r.dns_class == class {
+        is_coming
+            && if replaces_rrset(r) {
+                in_rrset(r, q)
+            } else {
+                is_same(r, q)
+            }
+    } else if r.dns_class == DNSClass::ANY {
+        is_cleared(origin, r, q)
+    } else {
+        !is_kept && is_meant(class, r, q)
+    }
+}
+
+/// Whether it takes any out.
+fn has_going(
+    origin: &Name,
+    class: DNSClass,
+    r: &Record,
+    is_coming: bool,
+    is_kept: bool,
+    records: &[Record],
+) -> bool
+    ensures { result ≡ list_any (goes_when origin.now class r.now is_coming is_kept) records.now }
+{
+    records
+        .iter()
+        .any(|q| goes(origin, class, r, is_coming, is_kept, q))
+}
+
+/// Takes them out.
+fn take_out(
+    origin: &Name,
+    class: DNSClass,
+    r: &Record,
+    is_coming: bool,
+    is_kept: bool,
+    records: &mut Vec<Record>,
+)
+    ensures { records.new.items ≡ filter (λ q. not (goes_when origin.now class r.now is_coming is_kept q)) records.old.items }
+{
+    records.retain(|q| !goes(origin, class, r, is_coming, is_kept, q));
+}
+
+/// Does what one record of an update section says, and tells whether the zone changed. Where memory is refused, records may
+/// have been taken out.
+fn take_turn(
+    origin: &Name,
+    class: DNSClass,
+    records: &mut Vec<Record>,
+    r: &Record,
+) -> Result<bool, AllocError>
+    ensures zone { OnOk result (records.new.items ≡ turn origin.now class records.old.items r.now) }
+    ensures changed { IfOk result (λ changed. changed ≡ changes origin.now class records.old.items r.now) }
+{
+    let is_coming = comes(class, records, r);
+    let is_kept = is_spared(class, records, r);
+    let is_going = has_going(origin, class, r, is_coming, is_kept, records);
+    take_out(origin, class, r, is_coming, is_kept, records);
+    if is_coming {
+        let copy = r.clone()?;
+        records.push(copy)?;
+        Ok(true)
+    } else {
+        Ok(is_going)
+    }
+}
+
+/// Does what the records of an update section say, one after another, and tells whether the zone changed. Where memory is
+/// refused, some may have been done.
+pub(crate) fn fold(
+    origin: &Name,
+    class: DNSClass,
+    records: &mut Vec<Record>,
+    updates: &[Record],
+) -> Result<bool, AllocError>
+    ensures zone { OnOk result (records.new.items ≡ fold origin.now class records.old.items updates.now) }
+    ensures changed { IfOk result (λ changed. changed ≡ any_change origin.now class records.old.items updates.now) }
+{
+    let mut changed = false;
+    for r in updates {
+        if take_turn(origin, class, records, r)? {
+            changed = true;
+        }
+    }
+    Ok(changed)
+}

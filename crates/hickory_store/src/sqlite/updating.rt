@@ -1,0 +1,155 @@
+//! Dynamic updates of a zone, whole or not at all.
+
+ghost use Rattle.std.specs.Prelude.{◌≡◌, ◌<◌, ◌^◌, IfOk, MatchOption, MatchResult, None, Ok, OnOk, false, map};
+ghost use Rattle.std.specs.List.{AllByRecursion, list_any};
+ghost use Rattle.hickory_base.specs.zone_store.ZoneSets.{zone_records};
+ghost use Rattle.hickory_store.specs.Prescan.{prescan_refusal};
+ghost use Rattle.hickory_store.specs.Serials.{next_serial};
+ghost use Rattle.hickory_store.specs.UpdateAnswers.{IsRefused, Updates, applied, incremented, is_apex_soa};
+ghost use Rattle.hickory_store.specs.ZoneSets.{HasSerial};
+
+use crate::sqlite::changes::{fold, is_type};
+use crate::sqlite::handler::SqliteZoneHandler;
+use crate::sqlite::laws::identities;
+use crate::sqlite::verifier::Verifier;
+use crate::sqlite::zone_sets::zone_of_records;
+use hickory_base::errors::UpdateFault;
+use hickory_base::zone_store::{InMemoryZoneHandler, ZoneHandler};
+use hickory_wire::{Boxed, DNSClass, Name, RData, Record, RecordType, ResponseCode, SOA};
+use std::alloc::{AllocError, Global};
+
+/// Whether a record is an SOA of the apex.
+fn is_apex_soa(origin: &Name, q: &Record) -> bool
+    ensures { result ≡ is_apex_soa origin.now q.now }
+{
+    *origin == q.name && is_type(RecordType::SOA, q)
+}
+
+/// Whether the apex has an SOA.
+fn has_apex_soa(origin: &Name, records: &[Record]) -> bool
+    ensures { result ≡ list_any (is_apex_soa origin.now) records.now }
+{
+    records.iter().any(|q| is_apex_soa(origin, q))
+}
+
+/// An SOA with the next serial.
+fn next_soa(alloc: Global, soa: &SOA) -> Result<Boxed<SOA>, AllocError>
+    ensures { IfOk result (λ next. next ≡ record soa.now { serial = next_serial soa.now.serial }) }
+{
+    let mut next = soa.clone()?;
+    next.serial = next.serial.wrapping_add(1);
+    let boxed = Boxed::new(alloc, next)?;
+    Ok(boxed)
+}
+
+/// Increments the serial of a record that is an SOA of the apex.
+fn increment(alloc: Global, origin: &Name, q: &mut Record) -> Result<(), AllocError>
+    ensures { OnOk result (q.new ≡ incremented origin.now q.old) }
+{
+    if is_apex_soa(origin, q) {
+        if let RData::SOA(soa) = &q.rdata {
+            let next = next_soa(alloc, soa.get())?;
+            q.rdata = RData::SOA(next);
+        }
+    }
+    Ok(())
+}
+
+/// Increments the serials of the SOAs of the apex. Where memory is refused, those of a front may have been.
+fn increment_serials(
+    alloc: Global,
+    origin: &Name,
+    records: &mut [Record],
+) -> Result<(), AllocError>
+    ensures { OnOk result (records.new ≡ map (incremented origin.now) records.old) }
+{
+    for q in records.iter_mut() {
+        increment(alloc, origin, q)?;
+    }
+    Ok(())
+}
+
+/// The records after an update, or none where they stay as they are.
+fn updated(
+    alloc: Global,
+    origin: &Name,
+    mut records: Vec<Record>,
+    updates: &[Record],
+    increments: bool,
+) -> Result<Option<Vec<Record>>, UpdateFault>
+    ensures { MatchResult result (λ o. MatchOption o (applied origin.now 1 records.items updates.now increments ≡ Ok (records.items, false)) (λ v. applied origin.now 1 records.items updates.now increments ≡ Ok (v.items, increments))) (λ e. IsRefused (applied origin.now 1 records.items updates.now increments) e) }
+{
+    let is_changed = fold(origin, DNSClass::IN, &mut records, updates)?;
+    if increments {
+        if !is_changed {
+            return Ok(None);
+        }
+        if !has_apex_soa(origin, &records) {
+            return Err(UpdateFault::Code(ResponseCode::SERV_FAIL));
+        }
+        increment_serials(alloc, origin, &mut records)?;
+    }
+    Ok(Some(records))
+}
+
+/// That serials have 32 bits is known of a record that was read.
+fn read_serial(r: &Record)
+    ensures { HasSerial r.now }
+{
+    if let RData::SOA(soa) = &r.rdata {
+        let _ = serial(soa.get());
+    }
+}
+
+/// The serial of an SOA, which has 32 bits.
+fn serial(soa: &SOA) -> u32
+    ensures value { result ≡ soa.now.serial }
+    ensures range { soa.now.serial < 2 ^ 32 }
+{
+    soa.serial
+}
+
+/// The same of several records.
+fn read_serials(records: &[Record])
+    ensures { AllByRecursion HasSerial records.now }
+{
+    let mut rest = records;
+    while let [r, others @ ..] = rest {
+        read_serial(r);
+        rest = others;
+    }
+}
+
+impl<V: Verifier> SqliteZoneHandler<V> {
+    /// Does what the records of an update section say to the zone, one after another (RFC 2136 section 3.4.2), and tells
+    /// whether the zone changed. The records are some that `pre_scan` accepts. Whatever the error, the zone is as it was.
+    ///
+    /// Where `increments_serial` is set and some record changed the zone, the serial of its SOA is incremented; without an
+    /// SOA that is ServFail. Where it is not set, as in a replay of updates that were made before, the serial is what the
+    /// records leave, and the answer is false.
+    pub fn update_records(
+        &mut self,
+        alloc: Global,
+        updates: &[Record],
+        increments_serial: bool,
+    ) -> Result<bool, UpdateFault>
+        requires { prescan_refusal self.old.zone.origin 1 updates.now ≡ None }
+        ensures zone { Updates (applied self.old.zone.origin 1 (zone_records self.old.zone.sets) updates.now increments_serial) result self.old.zone self.new.zone }
+        ensures others { self.new ≡ record self.old { zone = self.new.zone } }
+    {
+        identities();
+        read_serials(updates);
+        let _ = self.in_memory.records().len();
+        let records = self.in_memory.copied_records(alloc)?;
+        let origin = self.in_memory.origin().as_name();
+        match updated(alloc, origin, records, updates, increments_serial) {
+            Err(fault) => Err(fault),
+            Ok(None) => Ok(false),
+            Ok(Some(records)) => {
+                let sets = zone_of_records(alloc, records)?;
+                self.in_memory.replace_records(sets);
+                Ok(increments_serial)
+            }
+        }
+    }
+}
