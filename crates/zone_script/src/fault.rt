@@ -49,7 +49,6 @@ pub(crate) enum Fault {
     /// No list of blocked names has been begun.
     NoBlocklist,
     /// No zone that takes updates has been begun.
-    #[error("no updatable zone is begun")]
     NoUpdatable,
     /// No handler has been begun.
     NoHandler,
@@ -86,6 +85,7 @@ impl Fault {
             Fault::NoZone => "no zone is begun",
             Fault::NoPart => "no part is begun",
             Fault::NoBlocklist => "no blocklist is begun",
+            Fault::NoUpdatable => "no updatable zone is begun",
             Fault::NoHandler => "no handler is begun",
             Fault::NoChain => "there is no chain of this name",
             Fault::Twice => "the zone has this record already",
