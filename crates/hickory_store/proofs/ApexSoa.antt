@@ -1,13 +1,10 @@
 -- The apex keeps one SOA.
 use Rattle.std.proofs.Common.{◌≡◌, ◌⊎◌, inl, inr, ◌∙◌, ap, sym, refl, ℕ, ◌+◌, Bool, true, false, cond, not, ◌&&◌, ◌||◌, ◌++◌, List, [], ◌∷◌, filter, arith, nat_eq}
-use Rattle.std.specs.List.{list_any}
 use Rattle.std.proofs.lemmas.List.{append-nil}
 use Rattle.hickory_wire.specs.rr.domain.DomainName.{DomainName}
 use Rattle.hickory_wire.specs.rr.domain.NameOrder.{name_eq}
 use Rattle.hickory_wire.specs.rr.RecordData.{type_of}
-use Rattle.hickory_wire.specs.declared.rr.rdata.RData.{RData}
-use Rattle.hickory_wire.specs.declared.rr.record.Record.{Record}
-use Rattle.hickory_store.specs.Changes.{comes, fold, goes_when, in_class, in_rrset, is_cleared, is_spared, is_type, replaces_rrset, turn}
+use Rattle.hickory_store.specs.Changes.{comes, goes_when, in_class, in_rrset, is_cleared, is_spared, is_type, replaces_rrset, turn}
 use Rattle.hickory_store.specs.Identity.{same_data, same_record}
 use Rattle.hickory_store.specs.UpdateAnswers.{is_apex_soa}
 use Rattle.hickory_store.specs.UpdateLaws.{SoaStays, how_many}

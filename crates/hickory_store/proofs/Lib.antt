@@ -11,3 +11,4 @@ pub mod SetsOfRecords
 pub mod UpdatedZones
 pub mod ApexNs
 pub mod ApexSoa
+pub mod CnameAlone

@@ -1,5 +1,5 @@
 -- Updates leave no record twice, and each record of type SOA with the data of one.
-use Rattle.std.proofs.Common.{◌≡◌, ◌∙◌, ℕ, Bool, true, false, cond, not, ◌&&◌, ◌||◌, List, [], ◌∷◌, ◌++◌, map, filter, Option, Some, None, Result, Ok, Err, refl, sym, ap, subst, ◌<◌, ◌+◌, ◌%◌, ◌^◌, arith}
+use Rattle.std.proofs.Common.{◌≡◌, ◌∙◌, ℕ, Bool, true, false, cond, not, ◌&&◌, List, [], ◌∷◌, ◌++◌, map, filter, Option, Some, None, Result, Ok, Err, refl, sym, ap, subst, ◌<◌, ◌^◌, arith}
 use Rattle.std.specs.Prelude.{◌↔◌, IsTrue, ◌==◌}
 use Rattle.std.specs.List.{AllByRecursion, list_any}
 use Rattle.std.specs.List.Sorted.{IsStrictlySortedBy}
@@ -9,10 +9,9 @@ use Rattle.std.specs.Ordering.{is_eq}
 use Rattle.std.specs.declared.cmp.Ordering.TheVariants.{Less}
 use Rattle.std.proofs.lemmas.Bool.{eq-eqb, eqb-true}
 use Rattle.hickory_wire.specs.rr.domain.DomainName.{DomainName}
-use Rattle.hickory_wire.specs.rr.domain.NameHash.{same_from_eq}
-use Rattle.hickory_wire.specs.rr.domain.NameOrder.{name_eq, SameName}
+use Rattle.hickory_wire.specs.rr.domain.NameOrder.{SameName}
 use Rattle.hickory_wire.specs.rr.RecordData.{type_of}
-use Rattle.hickory_wire.specs.rr.RecordSameness.{SameData, SameRecord, lower_data, lower_soa}
+use Rattle.hickory_wire.specs.rr.RecordSameness.{SameData, SameRecord, lower_soa}
 use Rattle.hickory_wire.specs.declared.rr.rdata.SOA.{SOA}
 use Rattle.hickory_wire.specs.declared.rr.rdata.RData.{RData}
 use Rattle.hickory_wire.specs.declared.rr.rdata.RData.TheVariants as rdata
@@ -24,7 +23,7 @@ use Rattle.hickory_base.specs.zone_store.ZoneRecords.{is_at, is_of}
 use Rattle.hickory_base.specs.zone_store.ZoneSets.{AreDistinct, IsSoaData, IsUnder, IsWellTyped, IsZone, key_cmp, zone_records}
 use Rattle.hickory_base.specs.declared.zone_store.record_set.RrKey.{RrKey}
 use Rattle.hickory_base.proofs.lemmas.zone_store.ZoneByName.{of_under}
-use Rattle.hickory_store.specs.Changes.{comes, fold, goes_when, in_rrset, is_ignored, is_spared, is_there, is_type, replaces_rrset, turn}
+use Rattle.hickory_store.specs.Changes.{comes, fold, goes_when, in_rrset, is_spared, replaces_rrset, turn}
 use Rattle.hickory_store.specs.Identity.{is_in_zone, same_record}
 use Rattle.hickory_store.specs.Prescan.{has_zone_data, is_addition, is_query_type, is_well_formed, prescan_refusal, update_refusal}
 use Rattle.hickory_store.specs.Refusals.{unless}

@@ -1,5 +1,5 @@
 -- Records of a zone found by their name and type.
-use Rattle.std.specs.Prelude.{◌≡◌, ◌<◌, ◌^◌, ℕ, cond, List, [], ◌∷◌, Option, Some, None}
+use Rattle.std.specs.Prelude.{◌≡◌, ◌<◌, ◌^◌, ℕ, cond, List, [], Option, Some, None}
 use Rattle.std.specs.Map.{lookup}
 use Rattle.hickory_wire.specs.rr.domain.DomainName.{DomainName}
 use Rattle.hickory_wire.specs.declared.rr.rdata.RData.{RData}

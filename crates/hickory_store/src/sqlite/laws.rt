@@ -7,7 +7,7 @@ ghost use Rattle.hickory_wire.specs.rr.RecordSameness.{SameRecord};
 ghost use Rattle.hickory_wire.specs.declared.rr.rdata.RData.{RData as Data};
 ghost use Rattle.hickory_wire.specs.declared.rr.record.Record.{Record as ResourceRecord};
 ghost use Rattle.hickory_store.specs.Identity.{is_in_zone, same_record};
-ghost use Rattle.hickory_store.specs.UpdateLaws.{NsStays, SoaStays};
+ghost use Rattle.hickory_store.specs.UpdateLaws.{CnameStaysAlone, NsStays, SoaStays};
 
 use hickory_wire::record_comparisons;
 
@@ -28,3 +28,8 @@ pub fn apex_stays()
 {
     record_comparisons();
 }
+
+/// Whatever an update says, a CNAME that is alone at its name stays alone (RFC 2136 section 3.4.2.2).
+pub fn cname_stays_alone()
+    ensures { CnameStaysAlone }
+{}

@@ -1,5 +1,5 @@
 -- What is retained is what the test retains.
-use Rattle.std.proofs.Common.{◌≡◌, rules, tests, not}
+use Rattle.std.proofs.Common.{rules, tests, not}
 use Rattle.std.proofs.lemmas.Fn.{filter_same}
 use Rattle.hickory_store.specs.Changes.{goes_when}
 use Rattle.hickory_store.proofs.sqlite.changes.take_out.Goals as goal

@@ -1,5 +1,5 @@
 -- A turn by cases: the record comes, or does not.
-use Rattle.std.proofs.Common.{◌≡◌, ◌∙◌, ap}
+use Rattle.std.proofs.Common.{◌∙◌, ap}
 use Rattle.std.specs.List.{list_any}
 use Rattle.hickory_store.specs.Changes.{comes, goes_when, is_spared}
 use Rattle.hickory_store.proofs.UpdateTurns.{turn_coming, turn_leaving, changes_coming, changes_leaving}

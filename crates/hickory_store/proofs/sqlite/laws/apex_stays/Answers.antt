@@ -1,5 +1,5 @@
 -- SOA and NS stay, since data that are the same are of one type.
-use Rattle.std.proofs.Common.{◌≡◌, ◌∙◌, sym, ap}
+use Rattle.std.proofs.Common.{◌∙◌, sym, ap}
 use Rattle.std.specs.Prelude.{◌↔◌, IsTrue}
 use Rattle.hickory_wire.specs.rr.RecordData.{type_of}
 use Rattle.hickory_wire.specs.rr.RecordSameness.{SameData}

@@ -1,5 +1,5 @@
 -- One record more is incremented.
-use Rattle.std.proofs.Common.{◌≡◌, ◌<◌, ◌∙◌, ap, length, arith, set, get_or, sym}
+use Rattle.std.proofs.Common.{◌∙◌, ap, arith, set, sym}
 use Rattle.std.proofs.lemmas.List.Edits.{map_over_more}
 use Rattle.hickory_store.specs.UpdateAnswers.{incremented}
 use Rattle.hickory_store.proofs.sqlite.updating.increment_serials.Goals as goal
