@@ -1,5 +1,5 @@
 -- Owner names that repeat earlier ones as pointers (RFC 1035 section 4.1.4).
-use Rattle.std.specs.Prelude.{◌≡◌, ◌≢◌, ℕ, ◌^◌, ◌<◌, ◌≤◌, List, [], ◌∷◌, ◌++◌, length, slice_index}
+use Rattle.std.specs.Prelude.{◌≡◌, ◌≢◌, ℕ, ◌<◌, ◌≤◌, ◌^◌, List, [], ◌∷◌, ◌++◌, length, slice_index}
 use Rattle.std.specs.List.{Contains}
 use Rattle.hickory_wire.specs.serialize.writing.Writing.{Puts}
 use Rattle.hickory_wire.specs.declared.rr.rdata.RData.{RData}
