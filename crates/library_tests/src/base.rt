@@ -1,6 +1,6 @@
 //! Replies, sinks, boxed handlers, and zones in memory.
 
-mod fixtures;
+pub(crate) mod fixtures;
 mod replies;
 mod sinks;
-mod zone_store;
+pub(crate) mod zone_store;

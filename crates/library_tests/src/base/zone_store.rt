@@ -1,5 +1,5 @@
 //! Boxed handlers, and what no script says of a zone in memory.
 
-mod boxed;
+pub(crate) mod boxed;
 mod fixtures;
 mod in_memory;

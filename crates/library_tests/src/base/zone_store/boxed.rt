@@ -19,7 +19,7 @@ use std::test::Fail;
 
 /// A handler that answers with a number made of what it was asked.
 #[derive(Drop)]
-struct Scripted {
+pub(crate) struct Scripted {
     origin: LowerName,
     proof_kind: NxProofKind,
     is_updated: bool,
@@ -165,7 +165,8 @@ impl ZoneHandler for Scripted {
     }
 }
 
-fn unasked(alloc: Global) -> Result<Scripted, Fail> {
+/// A handler that was not asked yet.
+pub(crate) fn unasked(alloc: Global) -> Result<Scripted, Fail> {
     Ok(Scripted {
         origin: lower(alloc, "example.com.")?,
         proof_kind: NxProofKind::Nsec,
