@@ -3,16 +3,20 @@
 //! The longest network that an address matches decides, as in routing. Between a denied and an allowed network of one
 //! length the denied one wins.
 
-ghost use Rattle.std.specs.Prelude.{◌≡◌, ◌≤◌, ◌<◌, ◌^◌, ◌↔◌, List, Contains, IsTrue, OnOk, OnErr};
+ghost use Rattle.std.specs.Prelude.{◌≡◌, ◌≤◌, ◌<◌, ◌^◌, ◌+◌, ◌-◌, ◌/◌, ◌%◌, ◌++◌, ◌∷◌, [], ◌↔◌, List, Contains, IsTrue, OnOk, OnErr};
 ghost use Rattle.std.specs.Option.{SomeIff};
 ghost use Rattle.hickory_base.specs.Access.{Network, AccessSets, width, address_of, canonical, first_bits, network_of, first_address, Matches, IsLongestMatch, HasFamily, IsAllowed, Inserts, InsertsFirst, SameNetworks, MappedFormIsAllowedAlike, OnlyMembersDecide};
+ghost use Rattle.hickory_base.specs.Prefixes.{LiesIn, IsCommon, IsOfFamily};
+ghost use Rattle.hickory_base.specs.declared.access.Family.TheVariants.{Ipv4, Ipv6};
 
 mod text;
+mod trie;
 
 use std::alloc::{AllocError, Global};
 use std::marker::Model;
 use std::net::{IpAddr, Ipv4Addr, Ipv6Addr};
 pub use text::IpNetTextError;
+use trie::Trie;
 
 /// The 96 bits before the IPv4 address in an IPv4-mapped IPv6 address (RFC 4291, section 2.5.5.2).
 const IPV4_MAPPED_PREFIX: u128 = 0xffff;
@@ -94,6 +98,14 @@ impl Address {
         self.bits.checked_shr(dropped).unwrap_or(0)
     }
 
+    /// Whether the bit at this index is one; which is so of an index behind the last bit where it is of the last bit.
+    fn bit(self, index: u8) -> bool
+        ensures { IsTrue result ↔ (first_bits self (index + 1) % 2 ≡ 1) }
+    {
+        let behind = self.family.width().saturating_sub(index).saturating_sub(1);
+        self.bits >> behind & 1 == 1
+    }
+
     /// The prefix of this length, a number of so many bits.
     fn prefix(self, count: u8) -> u128
         requires count { count ≤ width self.family }
@@ -165,6 +177,54 @@ impl IpNet {
         self.prefix_length
     }
 
+    /// The first bits of the prefix, as a number.
+    fn first(&self, count: u8) -> u128
+        requires { count ≤ self.now.prefix_length }
+        ensures { result ≡ self.now.prefix / 2 ^ (self.now.prefix_length - count) }
+    {
+        let dropped = u32::from(self.prefix_length - count);
+        self.prefix.checked_shr(dropped).unwrap_or(0)
+    }
+
+    /// Whether the bit of the prefix at this index is one.
+    fn bit(&self, index: u8) -> bool
+        requires { index < self.now.prefix_length }
+        ensures { IsTrue result ↔ (self.now.prefix / 2 ^ (self.now.prefix_length - (index + 1)) % 2 ≡ 1) }
+    {
+        self.prefix >> (self.prefix_length - index - 1) & 1 == 1
+    }
+
+    fn same(&self, other: &IpNet) -> bool
+        ensures { IsTrue result ↔ (self.now ≡ other.now) }
+    {
+        self == other
+    }
+
+    /// Whether the other network is this one or a part of it.
+    fn contains(&self, other: &IpNet) -> bool
+        ensures { IsTrue result ↔ LiesIn other.now self.now }
+    {
+        self.family == other.family
+            && self.prefix_length <= other.prefix_length
+            && other.first(self.prefix_length) == self.prefix
+    }
+
+    /// The longest network in which both lie.
+    fn common(&self, other: &IpNet) -> IpNet
+        requires { self.now.family ≡ other.now.family }
+        ensures { IsCommon self.now other.now result }
+    {
+        let mut length = self.prefix_length.min(other.prefix_length);
+        while self.first(length) != other.first(length) {
+            length -= 1;
+        }
+        IpNet {
+            family: self.family,
+            prefix_length: length,
+            prefix: self.first(length),
+        }
+    }
+
     fn matches(&self, address: Address) -> bool
         ensures { IsTrue result ↔ Matches address self.now }
     {
@@ -172,16 +232,20 @@ impl IpNet {
     }
 }
 
-/// A set of networks.
+/// A set of networks: a trie for each family.
 #[derive(Debug, Drop)]
 struct NetworkSet {
-    networks: Vec<IpNet>,
+    alloc: Global,
+    ipv4: Trie,
+    ipv6: Trie,
 }
 
 impl Model for NetworkSet {
     ghost Value = { List Network };
 
-    ghost view = { λ s. s.networks.items };
+    ghost view = { λ s. s.ipv4 ++ s.ipv6 };
+
+    ghost invariant = { λ s. IsOfFamily Ipv4 s.ipv4 × IsOfFamily Ipv6 s.ipv6 };
 }
 
 impl NetworkSet {
@@ -189,7 +253,20 @@ impl NetworkSet {
         ensures { (network : Network) → ¬ (Contains result network) }
     {
         NetworkSet {
-            networks: Vec::new(alloc),
+            alloc,
+            ipv4: Trie::new(),
+            ipv6: Trie::new(),
+        }
+    }
+
+    /// Takes one network in. Where memory is refused the set stays as it is.
+    fn insert_one(&mut self, network: IpNet) -> Result<(), AllocError>
+        ensures ok { OnOk result (Inserts self.old (network ∷ []) self.new) }
+        ensures err { OnErr result (self.new ≡ self.old) }
+    {
+        match network.family {
+            Family::Ipv4 => self.ipv4.insert(self.alloc, network),
+            Family::Ipv6 => self.ipv6.insert(self.alloc, network),
         }
     }
 
@@ -197,26 +274,29 @@ impl NetworkSet {
         ensures ok { OnOk result (Inserts self.old networks.now self.new) }
         ensures err { OnErr result (InsertsFirst self.old networks.now self.new) }
     {
-        self.networks.extend_from_slice(networks)
+        for network in networks {
+            self.insert_one(*network)?;
+        }
+        Ok(())
     }
 
     fn has_family(&self, family: Family) -> bool
         ensures { IsTrue result ↔ HasFamily self.now family }
     {
-        self.networks.iter().any(|network| network.family == family)
+        match family {
+            Family::Ipv4 => !self.ipv4.is_empty(),
+            Family::Ipv6 => !self.ipv6.is_empty(),
+        }
     }
 
     /// The greatest prefix length of the networks that match the address.
     fn longest_match(&self, address: Address) -> Option<u8>
         ensures { IsLongestMatch self.now address result }
     {
-        let mut longest = None;
-        for network in &self.networks {
-            if network.matches(address) {
-                longest = longest.max(Some(network.prefix_length));
-            }
+        match address.family {
+            Family::Ipv4 => self.ipv4.longest_match(address),
+            Family::Ipv6 => self.ipv6.longest_match(address),
         }
-        longest
     }
 }
 

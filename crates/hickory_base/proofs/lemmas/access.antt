@@ -1,4 +1,6 @@
 -- Lemmas of networks, sets of them and the rule between them.
 pub mod NetworkText
-pub mod Networks
+pub mod Prefixes
 pub mod Rule
+pub mod Sets
+pub mod Tries

@@ -1,16 +1,16 @@
-use Rattle.std.proofs.Common.{ap, ◌∙◌}
-use Rattle.hickory_base.specs.Access.{Network}
-use Rattle.hickory_base.proofs.lemmas.access.Networks.{longest_match_past, longest_match_more}
+use Rattle.std.proofs.Common.{◌≡◌}
+use Rattle.hickory_base.specs.declared.access.Family.TheVariants.{Ipv4, Ipv6}
+use Rattle.hickory_base.proofs.lemmas.access.Sets.{longest_left, longest_right, not_both}
 use Rattle.hickory_base.proofs.access.NetworkSet.longest_match.Goals as goal
-use Rattle.hickory_base.proofs.access.NetworkSet.longest_match.Goals.{then-matches, else-matches}
 
-pub loop-network-preserved : goal.loop-network-preserved
-loop-network-preserved c =
-    elim c.if-matches.branch [
-      | then-matches w ↦
-          longest_match_more _ _ _ _ c.loop-network-test.true c.network-item.is _ _ c.loop-network.invariant _
-          (c.matches.ensures.0 w.if-matches.true) (ap (λ (n : Network). n.prefix_length) c.network.view_is) (w.longest-is ∙ w.max-longest.ensures)
-      | else-matches w ↦
-          longest_match_past _ _ _ _ c.loop-network-test.true c.network-item.is _ _ c.loop-network.invariant
-          (λ m. let e = c.matches.ensures.1 m in let f = w.if-matches.false in cc) w.longest-is
-    ]
+pub returns-in-Ipv4 : goal.returns-in-Ipv4
+returns-in-Ipv4 c =
+    let differ : ¬ (Ipv6 ≡ Ipv4) = λ e. absurd (cc) in
+    rw (← c.self.view_is)
+    (longest_left Ipv4 c.self.inside.ipv4 c.self.inside.ipv6 (not_both Ipv4 Ipv6 c.self.inside.ipv6 c.self.invariant.1 differ) c.args.address c.longest_match.result c.in-Ipv4.is c.longest_match.ensures)
+
+pub returns-in-Ipv6 : goal.returns-in-Ipv6
+returns-in-Ipv6 c =
+    let differ : ¬ (Ipv4 ≡ Ipv6) = λ e. absurd (cc) in
+    rw (← c.self.view_is)
+    (longest_right Ipv6 c.self.inside.ipv6 c.self.inside.ipv4 (not_both Ipv6 Ipv4 c.self.inside.ipv4 c.self.invariant.0 differ) c.args.address c.longest_match-in-Ipv6.result c.in-Ipv6.is c.longest_match-in-Ipv6.ensures)
