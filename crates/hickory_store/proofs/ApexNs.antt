@@ -72,9 +72,9 @@ any_front : {X : Type 0} (p : X → Bool) (xs ys : List X) → list_any p xs ≡
 any_front p [] ys h = cc
 any_front p (x ∷ xs) ys h = front_step (p x) (list_any p xs) (list_any p (xs ++ ys)) h (any_front p xs ys)
   where
-  front_step : (a b d : Bool) → (a || b) ≡ true → (b ≡ true → d ≡ true) → (a || d) ≡ true
-  front_step true b d h e = refl
-  front_step false b d h e = e h
+    front_step : (a b d : Bool) → (a || b) ≡ true → (b ≡ true → d ≡ true) → (a || d) ≡ true
+    front_step true b d h e = refl
+    front_step false b d h e = e h
 
 any_last : {X : Type 0} (p : X → Bool) (xs : List X) (y : X) → p y ≡ true → list_any p (xs ++ y ∷ []) ≡ true
 any_last p [] y h = or_of_left (p y) false h
@@ -97,11 +97,11 @@ two_apart t u h k e = grind (arith, nat_tests)
 cleared_apart : (a b d f g : Bool) → a ≡ true → g ≡ true → (b && (d && not (a && (f || g)))) ≡ true → ⊥
 cleared_apart true b d f true h k e = bad b d f e
   where
-  bad : (b d f : Bool) → (b && (d && not (f || true))) ≡ true → ⊥
-  bad true true true h = cc
-  bad true true false h = cc
-  bad true false f h = cc
-  bad false d f h = cc
+    bad : (b d f : Bool) → (b && (d && not (f || true))) ≡ true → ⊥
+    bad true true true h = cc
+    bad true true false h = cc
+    bad true false f h = cc
+    bad false d f h = cc
 cleared_apart false b d f g h k e = cc
 cleared_apart true b d f false h k e = cc
 
@@ -118,18 +118,18 @@ module _ (same_type : OfOneType) where
   pub same_ns : (o : DomainName) (r q : Resource) → is_apex_ns o q ≡ true → name_eq r.name q.name ≡ true → same_data r.rdata q.rdata ≡ true → is_apex_ns o r ≡ true
   same_ns o r q h k e =
       and_both _ _ (name_eq_via o r.name q.name (and_left _ _ h) k)
-          (nat_eq_so (type_of r.rdata) 2 (same_type r.rdata q.rdata e ∙ nat_eq_is (type_of q.rdata) 2 (and_right (name_eq o q.name) _ h)))
+      (nat_eq_so (type_of r.rdata) 2 (same_type r.rdata q.rdata e ∙ nat_eq_is (type_of q.rdata) 2 (and_right (name_eq o q.name) _ h)))
 
   goes_ns : (o : DomainName) (c : ℕ) (r q : Resource) (a b : Bool) → is_apex_ns o q ≡ true → goes_when o c r a b q ≡ true
       → ((a ≡ true) × (is_apex_ns o r ≡ true)) ⊎ ((b ≡ false) × (is_apex_ns o r ≡ true) × (same_record (in_class c r) q ≡ true))
   goes_ns o c r q a b h g =
       elim (case_goes (nat_eq r.dns_class c) a (replaces_rrset r) (in_rrset r q) (same_record r q) (nat_eq r.dns_class 255) (is_cleared o r q) b (same_record (in_class c r) q) g) [
-        inl w ↦ absurd (two_apart (type_of r.rdata) (type_of q.rdata) (and_right (name_eq o q.name) _ h) (and_right (name_eq r.name q.name) _ w.2) w.1)
-      | inr v ↦ elim v [
-          inl w ↦ inl (w.0, same_ns o r q h (and_left _ _ w.1) (and_right (nat_eq r.dns_class q.dns_class) _ (and_right (name_eq r.name q.name) _ w.1)))
-        | inr u ↦ elim u [
-            inl w ↦ absurd (cleared_apart (name_eq o q.name) (name_eq r.name q.name) (is_type 255 r || is_type (type_of r.rdata) q) (is_type 6 q) (is_type 2 q) (and_left _ _ h) (and_right (name_eq o q.name) _ h) w)
-          | inr w ↦ inr (w.0, same_ns o r q h (and_left _ _ w.1) (and_right (nat_eq c q.dns_class) _ (and_right (name_eq r.name q.name) _ w.1)), w.1)
+        | inl w ↦ absurd (two_apart (type_of r.rdata) (type_of q.rdata) (and_right (name_eq o q.name) _ h) (and_right (name_eq r.name q.name) _ w.2) w.1)
+        | inr v ↦ elim v [
+          | inl w ↦ inl (w.0, same_ns o r q h (and_left _ _ w.1) (and_right (nat_eq r.dns_class q.dns_class) _ (and_right (name_eq r.name q.name) _ w.1)))
+          | inr u ↦ elim u [
+            | inl w ↦ absurd (cleared_apart (name_eq o q.name) (name_eq r.name q.name) (is_type 255 r || is_type (type_of r.rdata) q) (is_type 6 q) (is_type 2 q) (and_left _ _ h) (and_right (name_eq o q.name) _ h) w)
+            | inr w ↦ inr (w.0, same_ns o r q h (and_left _ _ w.1) (and_right (nat_eq c q.dns_class) _ (and_right (name_eq r.name q.name) _ w.1)), w.1)
           ]
         ]
       ]
@@ -148,14 +148,14 @@ module _ (same_type : OfOneType) where
   other_stays : (o : DomainName) (c : ℕ) (z : Records) (r : Resource) (b : Bool) → is_apex_ns o r ≡ true → list_any (λ q. in_rrset r q && not (same_record (in_class c r) q)) z ≡ true → list_any (is_apex_ns o) (filter (λ q. not (goes_when o c r false b q)) z) ≡ true
   other_stays o c z r b n e =
       any_kept (λ q. in_rrset r q && not (same_record (in_class c r) q)) (is_apex_ns o) (λ q. not (goes_when o c r false b q)) z
-          (λ q h.
-              let s : in_rrset r q ≡ true = and_left _ _ h in
-              let d : same_record (in_class c r) q ≡ false = not_true _ (and_right (in_rrset r q) _ h) in
-              let m : name_eq o q.name ≡ true = name_eq_via o q.name r.name (and_left _ _ n) (names.symm q.name r.name ∙ and_left _ _ s) in
-              let t : nat_eq (type_of q.rdata) 2 ≡ true = nat_eq_so _ _ (nat_eq_is _ _ (and_right (name_eq r.name q.name) _ s) ∙ nat_eq_is _ _ (and_right (name_eq o r.name) _ n)) in
-              let k : is_apex_ns o q ≡ true = and_both _ _ m t in
-              (k, not_so _ (false_or _ (λ g. elim (goes_ns o c r q false b k g) [ inl w ↦ cc (w.0) | inr w ↦ cc (w.2, d) ]))))
-          e
+      (λ q h.
+      let s : in_rrset r q ≡ true = and_left _ _ h in
+      let d : same_record (in_class c r) q ≡ false = not_true _ (and_right (in_rrset r q) _ h) in
+      let m : name_eq o q.name ≡ true = name_eq_via o q.name r.name (and_left _ _ n) (names.symm q.name r.name ∙ and_left _ _ s) in
+      let t : nat_eq (type_of q.rdata) 2 ≡ true = nat_eq_so _ _ (nat_eq_is _ _ (and_right (name_eq r.name q.name) _ s) ∙ nat_eq_is _ _ (and_right (name_eq o r.name) _ n)) in
+      let k : is_apex_ns o q ≡ true = and_both _ _ m t in
+      (k, not_so _ (false_or _ (λ g. elim (goes_ns o c r q false b k g) [ inl w ↦ cc (w.0) | inr w ↦ cc (w.2, d) ]))))
+      e
 
   turn_cases : (o : DomainName) (c : ℕ) (z : Records) (r : Resource) (n a b : Bool) → n ≡ is_apex_ns o r → a ≡ comes c z r → b ≡ is_spared c z r → list_any (is_apex_ns o) z ≡ true
       → list_any (is_apex_ns o) (filter (λ q. not (goes_when o c r a b q)) z ++ cond a (r ∷ []) []) ≡ true

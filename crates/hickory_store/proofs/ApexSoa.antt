@@ -14,9 +14,9 @@ kept_step : {X : Type 0} (p : X → Bool) (x : X) (more : List X) (k : Bool) (n 
 kept_step p x more true n h e = ap (λ m. cond (p x) 1 0 + m) e
 kept_step p x more false n h e = none (p x) h e
   where
-  none : (b : Bool) → (b ≡ true → false ≡ true) → how_many p more ≡ n → how_many p more ≡ cond b 1 0 + n
-  none true h e = absurd (let f : false ≡ true = h refl in cc)
-  none false h e = omega (arith, e)
+    none : (b : Bool) → (b ≡ true → false ≡ true) → how_many p more ≡ n → how_many p more ≡ cond b 1 0 + n
+    none true h e = absurd (let f : false ≡ true = h refl in cc)
+    none false h e = omega (arith, e)
 
 count_kept : {X : Type 0} (p keep : X → Bool) → ((x : X) → p x ≡ true → keep x ≡ true) → (xs : List X) → how_many p (filter keep xs) ≡ how_many p xs
 count_kept p keep h [] = refl
@@ -50,14 +50,20 @@ module _ (same_type : OfOneType) where
       → ((a ≡ true) × (is_apex_soa o r ≡ true)) ⊎ ((b ≡ false) × (is_type 6 r ≡ true))
   goes_soa o c r q a b h g =
       elim (case_goes (nat_eq r.dns_class c) a (replaces_rrset r) (in_rrset r q) (same_record r q) (nat_eq r.dns_class 255) (is_cleared o r q) b (same_record (in_class c r) q) g) [
-        inl w ↦ inl (w.0, and_both _ _ (name_eq_via o r.name q.name (and_left _ _ h) (and_left _ _ w.2))
-              (nat_eq_so (type_of r.rdata) 6 (sym (nat_eq_is (type_of q.rdata) (type_of r.rdata) (and_right (name_eq r.name q.name) _ w.2)) ∙ nat_eq_is (type_of q.rdata) 6 (and_right (name_eq o q.name) _ h))))
-      | inr v ↦ elim v [
-          inl w ↦ inl (w.0, and_both _ _ (name_eq_via o r.name q.name (and_left _ _ h) (and_left _ _ w.1))
-              (six_of r q (and_right (name_eq o q.name) _ h) (and_right (nat_eq r.dns_class q.dns_class) _ (and_right (name_eq r.name q.name) _ w.1))))
-        | inr u ↦ elim u [
-            inl w ↦ absurd (cleared_apart (name_eq o q.name) (name_eq r.name q.name) (is_type 255 r || is_type (type_of r.rdata) q) (is_type 6 q) (is_type 2 q) (and_left _ _ h) (and_right (name_eq o q.name) _ h) w)
-          | inr w ↦ inr (w.0, six_of r q (and_right (name_eq o q.name) _ h) (and_right (nat_eq c q.dns_class) _ (and_right (name_eq r.name q.name) _ w.1)))
+        | inl w ↦ inl (
+          w.0,
+          and_both _ _ (name_eq_via o r.name q.name (and_left _ _ h) (and_left _ _ w.2))
+              (nat_eq_so (type_of r.rdata) 6 (sym (nat_eq_is (type_of q.rdata) (type_of r.rdata) (and_right (name_eq r.name q.name) _ w.2)) ∙ nat_eq_is (type_of q.rdata) 6 (and_right (name_eq o q.name) _ h))),
+        )
+        | inr v ↦ elim v [
+          | inl w ↦ inl (
+            w.0,
+            and_both _ _ (name_eq_via o r.name q.name (and_left _ _ h) (and_left _ _ w.1))
+                (six_of r q (and_right (name_eq o q.name) _ h) (and_right (nat_eq r.dns_class q.dns_class) _ (and_right (name_eq r.name q.name) _ w.1))),
+          )
+          | inr u ↦ elim u [
+            | inl w ↦ absurd (cleared_apart (name_eq o q.name) (name_eq r.name q.name) (is_type 255 r || is_type (type_of r.rdata) q) (is_type 6 q) (is_type 2 q) (and_left _ _ h) (and_right (name_eq o q.name) _ h) w)
+            | inr w ↦ inr (w.0, six_of r q (and_right (name_eq o q.name) _ h) (and_right (nat_eq c q.dns_class) _ (and_right (name_eq r.name q.name) _ w.1)))
           ]
         ]
       ]
@@ -80,14 +86,14 @@ module _ (same_type : OfOneType) where
   soa_goes : (o : DomainName) (c : ℕ) (r q : Resource) (b : Bool) → is_apex_soa o r ≡ true → nat_eq r.dns_class c ≡ true → is_apex_soa o q ≡ true → goes_when o c r true b q ≡ true
   soa_goes o c r q b n k h =
       all_go (nat_eq r.dns_class c) (replaces_rrset r) (in_rrset r q) (same_record r q) (nat_eq r.dns_class 255) (is_cleared o r q) b (same_record (in_class c r) q) k
-          (or_second (is_type 5 r) (is_type 6 r) (and_right (name_eq o r.name) _ n))
-          (and_both _ _ (name_eq_via r.name q.name o (names.symm r.name o ∙ and_left _ _ n) (names.symm q.name o ∙ and_left _ _ h))
-              (nat_eq_so (type_of q.rdata) (type_of r.rdata) (nat_eq_is (type_of q.rdata) 6 (and_right (name_eq o q.name) _ h) ∙ sym (nat_eq_is (type_of r.rdata) 6 (and_right (name_eq o r.name) _ n)))))
+      (or_second (is_type 5 r) (is_type 6 r) (and_right (name_eq o r.name) _ n))
+      (and_both _ _ (name_eq_via r.name q.name o (names.symm r.name o ∙ and_left _ _ n) (names.symm q.name o ∙ and_left _ _ h))
+      (nat_eq_so (type_of q.rdata) (type_of r.rdata) (nat_eq_is (type_of q.rdata) 6 (and_right (name_eq o q.name) _ h) ∙ sym (nat_eq_is (type_of r.rdata) 6 (and_right (name_eq o r.name) _ n)))))
 
   stay : (o : DomainName) (c : ℕ) (z : Records) (r : Resource) (a b : Bool) → b ≡ is_spared c z r → ((a ≡ true) × (is_apex_soa o r ≡ true) → ⊥) → how_many (is_apex_soa o) (filter (λ q. not (goes_when o c r a b q)) z) ≡ how_many (is_apex_soa o) z
   stay o c z r a b t never =
       count_kept (is_apex_soa o) (λ q. not (goes_when o c r a b q))
-          (λ q h. not_so _ (false_or _ (λ g. elim (goes_soa o c r q a b h g) [ inl w ↦ never w | inr w ↦ six_spared (is_type 6 r) _ w.1 (sym t ∙ w.0) ]))) z
+      (λ q h. not_so _ (false_or _ (λ g. elim (goes_soa o c r q a b h g) [ inl w ↦ never w | inr w ↦ six_spared (is_type 6 r) _ w.1 (sym t ∙ w.0) ]))) z
 
   tail_none : (p : Resource → Bool) (xs : Records) (r : Resource) (a : Bool) → p r ≡ false → how_many p (xs ++ cond a (r ∷ []) []) ≡ how_many p xs
   tail_none p xs r true n = count_last p xs r ∙ ap (λ v. how_many p xs + cond v 1 0) n ∙ omega arith

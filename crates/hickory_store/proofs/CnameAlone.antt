@@ -33,9 +33,9 @@ none_kept p keep (q ∷ z) h = kept_none p q (filter keep z) (keep q) (none_firs
 some_before : (p keep : Resource → Bool) (z : Records) → list_any p (filter keep z) ≡ true → list_any p z ≡ true
 some_before p keep z h = back (list_any p z) refl
   where
-  back : (b : Bool) → list_any p z ≡ b → list_any p z ≡ true
-  back true e = e
-  back false e = absurd (let f : list_any p (filter keep z) ≡ false = none_kept p keep z e in cc)
+    back : (b : Bool) → list_any p z ≡ b → list_any p z ≡ true
+    back true e = e
+    back false e = absurd (let f : list_any p (filter keep z) ≡ false = none_kept p keep z e in cc)
 
 -- names that are the same have the same records
 named_alike : (f : Resource → Bool) (n m : DomainName) → name_eq n m ≡ true → (z : Records) → list_any (λ q. is_at n q && f q) z ≡ list_any (λ q. is_at m q && f q) z
@@ -46,9 +46,9 @@ named_alike f n m e (q ∷ z) =
 last_false : (p : Resource → Bool) (xs : Records) (r : Resource) → p r ≡ false → list_any p (xs ++ r ∷ []) ≡ list_any p xs
 last_false p xs r h = list_any-append p xs (r ∷ []) ∙ ap (λ b. list_any p xs || (b || false)) h ∙ or_false (list_any p xs)
   where
-  or_false : (b : Bool) → (b || false) ≡ b
-  or_false true = refl
-  or_false false = refl
+    or_false : (b : Bool) → (b || false) ≡ b
+    or_false true = refl
+    or_false false = refl
 
 -- what an addition that is not ignored finds
 other_free : (five others cnames more : Bool) → five ≡ true → not (cond five others (cnames || more)) ≡ true → others ≡ false
@@ -81,8 +81,8 @@ module _ (z : Records) (alone : IsCnameAlone z) (r : Resource) (keep : Resource 
       ∙ none_kept (λ q. is_at n q && not (is_type 5 q)) keep z (named_alike (λ q. not (is_type 5 q)) n r.name e z ∙ other_free (is_type 5 r) _ (list_any (λ q. is_at r.name q && is_type 5 q) z) (is_type 6 r && (not (list_any (in_rrset r) z) || list_any (λ q. in_rrset r q && not (is_newer r.rdata q.rdata)) z)) f free)
   added true false e f free h =
       absurd (let none : has_cname (filter keep z ++ r ∷ []) n ≡ false =
-          last_false (λ q. is_at n q && is_type 5 q) (filter keep z) r (and_false (is_at n r) _ f)
-          ∙ none_kept (λ q. is_at n q && is_type 5 q) keep z (named_alike (is_type 5) n r.name e z ∙ cname_free (is_type 5 r) (list_any (λ q. is_at r.name q && not (is_type 5 q)) z) _ (is_type 6 r && (not (list_any (in_rrset r) z) || list_any (λ q. in_rrset r q && not (is_newer r.rdata q.rdata)) z)) f free) in cc)
+      last_false (λ q. is_at n q && is_type 5 q) (filter keep z) r (and_false (is_at n r) _ f)
+      ∙ none_kept (λ q. is_at n q && is_type 5 q) keep z (named_alike (is_type 5) n r.name e z ∙ cname_free (is_type 5 r) (list_any (λ q. is_at r.name q && not (is_type 5 q)) z) _ (is_type 6 r && (not (list_any (in_rrset r) z) || list_any (λ q. in_rrset r q && not (is_newer r.rdata q.rdata)) z)) f free) in cc)
 
 append_none : (xs : Records) → xs ++ [] ≡ xs
 append_none [] = refl

@@ -42,9 +42,9 @@ distinct_last : (xs : Records) (r : Record RData) → AreDistinct xs → AllByRe
 distinct_last [] r h k = (tt, tt)
 distinct_last (x ∷ xs) r h k = (all_last xs h.0 k.0, distinct_last xs r h.1 k.1)
   where
-  all_last : (ys : Records) → AllByRecursion (λ q. ¬ (SameRecord x q)) ys → ¬ (SameRecord x r) → AllByRecursion (λ q. ¬ (SameRecord x q)) (ys ++ r ∷ [])
-  all_last [] a n = (n, tt)
-  all_last (y ∷ ys) a n = (a.0, all_last ys a.1 n)
+    all_last : (ys : Records) → AllByRecursion (λ q. ¬ (SameRecord x q)) ys → ¬ (SameRecord x r) → AllByRecursion (λ q. ¬ (SameRecord x q)) (ys ++ r ∷ [])
+    all_last [] a n = (n, tt)
+    all_last (y ∷ ys) a n = (a.0, all_last ys a.1 n)
 
 all_behind : {X : Type 0} (P : X → Type 0) (xs : List X) (x : X) → AllByRecursion P xs → P x → AllByRecursion P (xs ++ x ∷ [])
 all_behind P [] x h k = (k, tt)
@@ -80,12 +80,12 @@ module _ (identity : (a b : Record RData) → IsTrue (same_record a b) ↔ SameR
     other : (b : Bool) → (r.dns_class == c) ≡ true → (q : Record RData) → not (goes_when o c r true b q) ≡ true → ¬ (SameRecord q r)
     other b k q h s =
         goes_as_same (r.dns_class == c) (replaces_rrset r) (in_rrset r q) (same_record r q) (r.dns_class == 255) _ b _ k
-            (of_rrset r q (same_back q r s)) ((identity r q).1 (same_back q r s)) h
+        (of_rrset r q (same_back q r s)) ((identity r q).1 (same_back q r s)) h
 
     distinct_when : (a b : Bool) → (a ≡ true → (r.dns_class == c) ≡ true) → AreDistinct z → AreDistinct (filter (λ q. not (goes_when o c r a b q)) z ++ cond a (r ∷ []) [])
     distinct_when true b k h =
         distinct_last (filter (λ q. not (goes_when o c r true b q)) z) r (distinct_kept (λ q. not (goes_when o c r true b q)) z h)
-            (all_from _ (λ q. ¬ (SameRecord q r)) (other b (k refl)) (filter (λ q. not (goes_when o c r true b q)) z) (passing (λ q. not (goes_when o c r true b q)) z))
+        (all_from _ (λ q. ¬ (SameRecord q r)) (other b (k refl)) (filter (λ q. not (goes_when o c r true b q)) z) (passing (λ q. not (goes_when o c r true b q)) z))
     distinct_when false b k h = subst AreDistinct (sym (append_none _)) (distinct_kept (λ q. not (goes_when o c r false b q)) z h)
 
     typed_when : (a b : Bool) → (a ≡ true → IsWellTyped r) → AllByRecursion IsWellTyped z → AllByRecursion IsWellTyped (filter (λ q. not (goes_when o c r a b q)) z ++ cond a (r ∷ []) [])
@@ -294,24 +294,24 @@ pub zone_typed : (S : Sets) → IsZone S → AllByRecursion IsWellTyped (zone_re
 zone_typed [] zone = tt
 zone_typed (e ∷ es) zone = both_all e.1 zone.0.typed (zone_typed es zone.1)
   where
-  both_all : (xs : Records) → AllByRecursion IsWellTyped xs → AllByRecursion IsWellTyped (zone_records es) → AllByRecursion IsWellTyped (xs ++ zone_records es)
-  both_all [] h k = k
-  both_all (x ∷ xs) h k = (h.0, both_all xs h.1 k)
+    both_all : (xs : Records) → AllByRecursion IsWellTyped xs → AllByRecursion IsWellTyped (zone_records es) → AllByRecursion IsWellTyped (xs ++ zone_records es)
+    both_all [] h k = k
+    both_all (x ∷ xs) h k = (h.0, both_all xs h.1 k)
 
 both_distinct : (xs ys : Records) → AreDistinct xs → AreDistinct ys → AllByRecursion (λ x. AllByRecursion (λ y. ¬ (SameRecord x y)) ys) xs → AreDistinct (xs ++ ys)
 both_distinct [] ys h k n = k
 both_distinct (x ∷ xs) ys h k n = (all_of xs h.0, both_distinct xs ys h.1 k n.1)
   where
-  all_of : (zs : Records) → AllByRecursion (λ q. ¬ (SameRecord x q)) zs → AllByRecursion (λ q. ¬ (SameRecord x q)) (zs ++ ys)
-  all_of [] a = n.0
-  all_of (z ∷ zs) a = (a.0, all_of zs a.1)
+    all_of : (zs : Records) → AllByRecursion (λ q. ¬ (SameRecord x q)) zs → AllByRecursion (λ q. ¬ (SameRecord x q)) (zs ++ ys)
+    all_of [] a = n.0
+    all_of (z ∷ zs) a = (a.0, all_of zs a.1)
 
 -- records under keys of which one is less are not the same
 under_apart : (k f : RrKey) (x y : Record RData) → key_cmp k f ≡ Less → IsUnder k x → IsUnder f y → ¬ (SameRecord x y)
 under_apart k f x y less u v s =
     let here : is_of k.name k.record_type y ≡ true = hold_both _ _
-            (eq_from_same k.name y.name (record { labels = sym u.name.labels ∙ s.name.labels; marks = sym u.name.marks ∙ s.name.marks }))
-            (eq-eqb k.record_type (type_of y.rdata) (sym u.record_type ∙ same_type x y s)) in
+    (eq_from_same k.name y.name (record { labels = sym u.name.labels ∙ s.name.labels; marks = sym u.name.marks ∙ s.name.marks }))
+    (eq-eqb k.record_type (type_of y.rdata) (sym u.record_type ∙ same_type x y s)) in
     let there : is_of k.name k.record_type y ≡ false = of_under k.name k.record_type f y v ∙ ap is_eq less in
     let both : true ≡ false = sym here ∙ there in cc
 
@@ -329,7 +329,7 @@ unfolding IsStrictlySortedBy
 zone_distinct [] sorted zone = tt
 zone_distinct (e ∷ es) sorted zone =
     both_distinct e.1 (zone_records es) zone.0.distinct (zone_distinct es sorted.1 zone.1)
-        (all_from (IsUnder e.0) (λ x. AllByRecursion (λ y. ¬ (SameRecord x y)) (zone_records es)) (λ x u. apart_sets e.0 x es sorted.0 u zone.1) e.1 zone.0.under)
+    (all_from (IsUnder e.0) (λ x. AllByRecursion (λ y. ¬ (SameRecord x y)) (zone_records es)) (λ x u. apart_sets e.0 x es sorted.0 u zone.1) e.1 zone.0.under)
 
 pub some_part : {X : Type 0} (o : Option X) (v : X) (P : Type 0) (Q : X → Type 0) → o ≡ Some v → MatchOption o P Q → Q v
 some_part o v P Q e h = subst (λ w. MatchOption w P Q) e h

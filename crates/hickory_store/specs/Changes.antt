@@ -28,9 +28,9 @@ is_newer _ _ = false
 abbrev pub is_ignored : List (Record RData) → Record RData → Bool
 is_ignored zone r =
     cond (is_type 5 r)
-        (list_any (λ q. is_at r.name q && not (is_type 5 q)) zone)
-        (list_any (λ q. is_at r.name q && is_type 5 q) zone
-            || (is_type 6 r && (not (list_any (in_rrset r) zone) || list_any (λ q. in_rrset r q && not (is_newer r.rdata q.rdata)) zone)))
+    (list_any (λ q. is_at r.name q && not (is_type 5 q)) zone)
+    (list_any (λ q. is_at r.name q && is_type 5 q) zone
+    || (is_type 6 r && (not (list_any (in_rrset r) zone) || list_any (λ q. in_rrset r q && not (is_newer r.rdata q.rdata)) zone)))
 
 -- CNAME and SOA stand alone: an addition replaces their RRset (section 3.4.2.2).
 abbrev pub replaces_rrset : Record RData → Bool
@@ -67,8 +67,8 @@ is_cleared origin r q =
 abbrev pub goes_when : DomainName → ℕ → Record RData → Bool → Bool → Record RData → Bool
 goes_when origin class r is_coming is_kept q =
     cond (r.dns_class == class)
-        (is_coming && cond (replaces_rrset r) (in_rrset r q) (same_record r q))
-        (cond (r.dns_class == 255) (is_cleared origin r q) (not is_kept && same_record (in_class class r) q))
+    (is_coming && cond (replaces_rrset r) (in_rrset r q) (same_record r q))
+    (cond (r.dns_class == 255) (is_cleared origin r q) (not is_kept && same_record (in_class class r) q))
 
 abbrev pub goes : DomainName → ℕ → List (Record RData) → Record RData → Record RData → Bool
 goes origin class zone r q = goes_when origin class r (comes class zone r) (is_spared class zone r) q

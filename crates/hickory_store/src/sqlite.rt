@@ -12,8 +12,8 @@ mod required_sets;
 mod update_requests;
 mod updating;
 mod verifier;
-mod zone_sets;
 pub mod worked;
+mod zone_sets;
 
 pub use handler::SqliteZoneHandler;
 pub use verifier::{Verifier, VerifyError};

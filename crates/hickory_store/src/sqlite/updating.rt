@@ -56,11 +56,7 @@ fn increment(alloc: Global, origin: &Name, q: &mut Record) -> Result<(), AllocEr
 }
 
 /// Increments the serials of the SOAs of the apex. Where memory is refused, those of a front may have been.
-fn increment_serials(
-    alloc: Global,
-    origin: &Name,
-    records: &mut [Record],
-) -> Result<(), AllocError>
+fn increment_serials(alloc: Global, origin: &Name, records: &mut [Record]) -> Result<(), AllocError>
     ensures { OnOk result (records.new ≡ map (incremented origin.now) records.old) }
 {
     for q in records.iter_mut() {

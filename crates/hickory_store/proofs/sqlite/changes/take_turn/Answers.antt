@@ -9,28 +9,28 @@ pub returns-in_ok-push-clause-zone : goal.returns-in_ok-push-clause-zone
 returns-in_ok-push-clause-zone c =
     c.in_ok-push.ensures.items
     ∙ turn_coming c.args.origin.now c.args.class c.args.records.now.items c.args.r.now c.comes-is_coming.result c.is_spared-is_kept.result
-        (c.comes-is_coming.ensures ∙ ap (λ z. comes c.args.class z c.args.r.now) c.deref.ensures.value)
-        (c.is_spared-is_kept.ensures ∙ ap (λ z. is_spared c.args.class z c.args.r.now) c.deref-2.ensures.value)
-        _ _ c.if-is_coming.true c.take_out.ensures (c.in_ok-copy.ensures.cases (λ e. e))
+    (c.comes-is_coming.ensures ∙ ap (λ z. comes c.args.class z c.args.r.now) c.deref.ensures.value)
+    (c.is_spared-is_kept.ensures ∙ ap (λ z. is_spared c.args.class z c.args.r.now) c.deref-2.ensures.value)
+    _ _ c.if-is_coming.true c.take_out.ensures (c.in_ok-copy.ensures.cases (λ e. e))
 
 pub returns-in_ok-push-clause-changed : goal.returns-in_ok-push-clause-changed
 returns-in_ok-push-clause-changed c =
     changes_coming c.args.origin.now c.args.class c.args.records.now.items c.args.r.now c.comes-is_coming.result c.is_spared-is_kept.result
-        (c.comes-is_coming.ensures ∙ ap (λ z. comes c.args.class z c.args.r.now) c.deref.ensures.value)
-        (c.is_spared-is_kept.ensures ∙ ap (λ z. is_spared c.args.class z c.args.r.now) c.deref-2.ensures.value)
-        c.if-is_coming.true
+    (c.comes-is_coming.ensures ∙ ap (λ z. comes c.args.class z c.args.r.now) c.deref.ensures.value)
+    (c.is_spared-is_kept.ensures ∙ ap (λ z. is_spared c.args.class z c.args.r.now) c.deref-2.ensures.value)
+    c.if-is_coming.true
 
 pub returns-else-is_coming-clause-zone : goal.returns-else-is_coming-clause-zone
 returns-else-is_coming-clause-zone c =
     turn_leaving c.args.origin.now c.args.class c.args.records.now.items c.args.r.now c.comes-is_coming.result c.is_spared-is_kept.result
-        (c.comes-is_coming.ensures ∙ ap (λ z. comes c.args.class z c.args.r.now) c.deref.ensures.value)
-        (c.is_spared-is_kept.ensures ∙ ap (λ z. is_spared c.args.class z c.args.r.now) c.deref-2.ensures.value)
-        _ c.if-is_coming.false c.take_out.ensures
+    (c.comes-is_coming.ensures ∙ ap (λ z. comes c.args.class z c.args.r.now) c.deref.ensures.value)
+    (c.is_spared-is_kept.ensures ∙ ap (λ z. is_spared c.args.class z c.args.r.now) c.deref-2.ensures.value)
+    _ c.if-is_coming.false c.take_out.ensures
 
 pub returns-else-is_coming-clause-changed : goal.returns-else-is_coming-clause-changed
 returns-else-is_coming-clause-changed c =
     changes_leaving c.args.origin.now c.args.class c.args.records.now.items c.args.r.now c.comes-is_coming.result c.is_spared-is_kept.result
-        (c.comes-is_coming.ensures ∙ ap (λ z. comes c.args.class z c.args.r.now) c.deref.ensures.value)
-        (c.is_spared-is_kept.ensures ∙ ap (λ z. is_spared c.args.class z c.args.r.now) c.deref-2.ensures.value)
-        _ c.if-is_coming.false
-        (c.has_going-is_going.ensures ∙ ap (list_any (goes_when c.args.origin.now c.args.class c.args.r.now c.comes-is_coming.result c.is_spared-is_kept.result)) c.deref-3.ensures.value)
+    (c.comes-is_coming.ensures ∙ ap (λ z. comes c.args.class z c.args.r.now) c.deref.ensures.value)
+    (c.is_spared-is_kept.ensures ∙ ap (λ z. is_spared c.args.class z c.args.r.now) c.deref-2.ensures.value)
+    _ c.if-is_coming.false
+    (c.has_going-is_going.ensures ∙ ap (list_any (goes_when c.args.origin.now c.args.class c.args.r.now c.comes-is_coming.result c.is_spared-is_kept.result)) c.deref-3.ensures.value)

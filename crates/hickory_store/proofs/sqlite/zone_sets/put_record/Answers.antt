@@ -16,9 +16,9 @@ new-set-requires c =
     let q = c.args.q in
     let old = sets_of c.args.sets.now in
     let is : c.push.new.self.items ≡ rrset c.requires.0 q.name (type_of q.rdata) ++ q ∷ [] =
-        c.in_ok-push.ensures.items
-        ∙ ap (λ (xs : List (Record RData)). xs ++ q ∷ [])
-            (c.in_ok-records.ensures.records ∙ ap (λ (k : RrKey). records_under k old) c.in_ok-key.ensures ∙ under_is q c.requires.0 old c.requires.1) in
+    c.in_ok-push.ensures.items
+    ∙ ap (λ (xs : List (Record RData)). xs ++ q ∷ [])
+    (c.in_ok-records.ensures.records ∙ ap (λ (k : RrKey). records_under k old) c.in_ok-key.ensures ∙ under_is q c.requires.0 old c.requires.1) in
     subst IsRecordSet (sym is) (record_set_last q c.requires.0)
 
 pub returns : goal.returns
@@ -28,9 +28,9 @@ returns c records holds =
     let taken = sets_of c.take_set.new.sets in
     let new = sets_of c.put_set.new.sets in
     let is : c.in_ok-shared.shared.value ≡ rrset records q.name (type_of q.rdata) ++ q ∷ [] =
-        c.in_ok-shared.ensures.ok ∙ c.new-set.ensures ∙ c.in_ok-push.ensures.items
-        ∙ ap (λ (xs : List (Record RData)). xs ++ q ∷ [])
-            (c.in_ok-records.ensures.records ∙ ap (λ (k : RrKey). records_under k old) c.in_ok-key.ensures ∙ under_is q records old holds) in
+    c.in_ok-shared.ensures.ok ∙ c.new-set.ensures ∙ c.in_ok-push.ensures.items
+    ∙ ap (λ (xs : List (Record RData)). xs ++ q ∷ [])
+    (c.in_ok-records.ensures.records ∙ ap (λ (k : RrKey). records_under k old) c.in_ok-key.ensures ∙ under_is q records old holds) in
     holds_more q records old taken new holds
-        (subst (λ (k : RrKey). PutsSet k None old taken) c.in_ok-key.ensures c.in_ok-records.ensures.others)
-        (subst (λ (xs : List (Record RData)). PutsSet (key_for q) (Some xs) taken new) is (subst (λ (k : RrKey). PutsSet k (Some c.in_ok-shared.shared.value) taken new) c.in_ok-key.ensures c.in_ok-put_set.ensures))
+    (subst (λ (k : RrKey). PutsSet k None old taken) c.in_ok-key.ensures c.in_ok-records.ensures.others)
+    (subst (λ (xs : List (Record RData)). PutsSet (key_for q) (Some xs) taken new) is (subst (λ (k : RrKey). PutsSet k (Some c.in_ok-shared.shared.value) taken new) c.in_ok-key.ensures c.in_ok-put_set.ensures))

@@ -18,8 +18,8 @@ returns-in-None-clause-others c = puts c.args.key.now None c.args.sets.now.entri
 pub returns-in-Some-clause-records : goal.returns-in-Some-clause-records
 returns-in-Some-clause-records c =
     IfOk-weaker c.unshared.result _ (λ records. records.items ≡ records_under c.args.key.now (sets_of c.args.sets.now))
-        (λ records h. h ∙ ap or_none (lookup-is (is_key c.args.key.now.name c.args.key.now.record_type) c.args.sets.now.entries (Some c.in-Some.set) (sym c.in-Some.is ∙ c.remove.ensures.value)))
-        c.unshared.ensures
+    (λ records h. h ∙ ap or_none (lookup-is (is_key c.args.key.now.name c.args.key.now.record_type) c.args.sets.now.entries (Some c.in-Some.set) (sym c.in-Some.is ∙ c.remove.ensures.value)))
+    c.unshared.ensures
 
 pub returns-in-Some-clause-others : goal.returns-in-Some-clause-others
 returns-in-Some-clause-others c = puts c.args.key.now None c.args.sets.now.entries c.remove.new.self.entries (λ k. c.remove.ensures.updates.0 k)

@@ -15,4 +15,4 @@ pub returns-clause-same : goal.returns-clause-same
 returns-clause-same c =
     let sorted = subst (IsStrictlySortedBy key_cmp) (sym (keys-shared c.in_ok-sets.sets.entries)) c.len.ensures.ordered in
     same_of c.identities.ensures.records c.args.records.items (sets_of c.in_ok-sets.sets) sorted
-        (zone_of c.args.records.items c.requires.distinct c.requires.typed (sets_of c.in_ok-sets.sets) sorted c.in_ok-sets.ensures) c.in_ok-sets.ensures
+    (zone_of c.args.records.items c.requires.distinct c.requires.typed (sets_of c.in_ok-sets.sets) sorted c.in_ok-sets.ensures) c.in_ok-sets.ensures
