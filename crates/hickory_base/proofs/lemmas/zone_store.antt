@@ -1,5 +1,6 @@
 -- Lemmas of the sets of a zone under their keys.
 pub mod Boxes
+pub mod DistinctRecords
 pub mod KeyOrder
 pub mod SharedSets
 pub mod ZoneByName

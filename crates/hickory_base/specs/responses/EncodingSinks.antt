@@ -15,6 +15,6 @@ pub record EncodedReplies : Type 0 where
 abbrev pub IsEncodingOf : Protocol → Reply → List ℕ → Type 0
 IsEncodingOf protocol reply bytes = (header : Header) × ReplyEncoded (size_limit protocol reply.edns) reply bytes header
 
--- What is told of a reply is the header of an encoding of it at the transport's limit.
-abbrev pub TellsEncoding : Protocol → Reply → Header → Type 0
-TellsEncoding protocol reply header = (bytes : List ℕ) × ReplyEncoded (size_limit protocol reply.edns) reply bytes header
+-- What is told of a reply that is kept as these bytes is their header.
+abbrev pub TellsEncoding : Protocol → Reply → List ℕ → Header → Type 0
+TellsEncoding protocol reply bytes header = ReplyEncoded (size_limit protocol reply.edns) reply bytes header

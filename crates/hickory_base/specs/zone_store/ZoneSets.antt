@@ -1,12 +1,16 @@
 -- The records of a zone, as sets by name and type (RFC 1034 section 3.6, RFC 2181 section 5).
-use Rattle.std.specs.Prelude.{◌≡◌, ◌<◌, ◌^◌, ℕ, Bool, List, [], ◌∷◌, length, map}
+use Rattle.std.specs.Prelude.{◌≡◌, ◌<◌, ◌^◌, ℕ, Bool, List, [], ◌∷◌, ◌++◌, filter, length, map}
+use Rattle.std.specs.Hash as fed
 use Rattle.std.specs.List.{AllByRecursion, flat_map}
+use Rattle.std.specs.List.Sorted.{IsStrictlySortedBy}
+use Rattle.std.specs.Map.{keys_of}
 use Rattle.std.specs.BTreeMap.{BTreeMap}
 use Rattle.std.specs.declared.alloc.Global.{Global}
 use Rattle.std.specs.declared.cmp.Ordering.{Ordering}
 use Rattle.std.specs.declared.rc.Rc.{Rc}
 use Rattle.std.specs.Ordering.{nat_cmp, ordering_then, is_eq}
 use Rattle.hickory_wire.specs.rr.domain.DomainName.{DomainName}
+use Rattle.hickory_wire.specs.rr.domain.NameHash.{name_hash_input}
 use Rattle.hickory_wire.specs.rr.domain.NameOrder.{SameName, name_cmp, name_eq}
 use Rattle.hickory_wire.specs.rr.RecordData.{type_of}
 use Rattle.hickory_wire.specs.rr.RecordSameness.{SameRecord}
@@ -54,6 +58,19 @@ zone_records sets = flat_map (λ e. e.1) sets
 abbrev pub key_cmp : RrKey → RrKey → Ordering
 key_cmp a b = ordering_then (name_cmp a.name b.name) (nat_cmp a.record_type b.record_type)
 
+-- Two keys are the same: their names are, in any letter case, and their types.
+pub record SameKey (a b : RrKey) : Type 0 where
+  pub name : SameName a.name b.name
+  pub record_type : a.record_type ≡ b.record_type
+
+-- what a key feeds a hasher: what its name does, and its type
+abbrev pub key_hash_input : RrKey → List (List ℕ)
+key_hash_input key = name_hash_input key.name ++ fed.u16 key.record_type
+
+-- the keys of the sets ascend, so that none stands twice
+abbrev pub AreSetsInOrder : List (RrKey × List (Record RData)) → Type 0
+AreSetsInOrder sets = IsStrictlySortedBy key_cmp (keys_of sets)
+
 -- the key has this name and this type
 abbrev pub is_key : DomainName → ℕ → RrKey → Bool
 is_key name record_type key = is_eq (key_cmp (record { name = name; record_type = record_type }) key)
@@ -61,6 +78,10 @@ is_key name record_type key = is_eq (key_cmp (record { name = name; record_type 
 -- the key has this name
 abbrev pub has_name : DomainName → RrKey → Bool
 has_name name key = name_eq name key.name
+
+-- the keys of this name, in their order
+abbrev pub keys_at : DomainName → List (RrKey × List (Record RData)) → List RrKey
+keys_at name sets = filter (has_name name) (keys_of sets)
 
 -- the sets that a map of shared sets holds, in the order of their keys
 abbrev pub shared_sets : List (RrKey × Rc RecordSet Global) → List (RrKey × List (Record RData))

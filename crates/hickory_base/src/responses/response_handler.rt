@@ -33,8 +33,8 @@ impl RecordRef for &Record {
 /// What replies are handed to: a sink.
 ///
 /// A contract sees a sink as the list of its entries, one for each reply that it took, and the number of its failures,
-/// which begins again at 0 after 2^64 - 1. `shows` relates a reply with its entry, and `informs` a reply with the header
-/// that the sink's answer tells. Both may depend on settings of the sink, such as its transport, which no call changes.
+/// which begins again at 0 after 2^64 - 1. `shows` relates a reply with its entry, and `informs` a reply and its entry with
+/// the header that the sink's answer tells. Both may depend on settings of the sink, such as its transport, which no call changes.
 /// A sink over a socket may have relations that always hold.
 pub trait ResponseHandler {
     ghost use Rattle.std.specs.Prelude.{◌≡◌, ◌+◌, ◌%◌, ◌^◌, ◌⊎◌, ℕ, List, IfOk, OnOk, OnErr};
@@ -56,7 +56,7 @@ pub trait ResponseHandler {
 
     ghost shows: { Self.Settings → Reply → Self.Entry → Type 0 };
 
-    ghost informs: { Self.Settings → Reply → Header → Type 0 };
+    ghost informs: { Self.Settings → Reply → Self.Entry → Header → Type 0 };
 
     ghost failures: { Self → ℕ };
 
@@ -82,12 +82,12 @@ pub trait ResponseHandler {
         requires soa { S.can_next response.soa × IsFinite (S.remaining response.soa) }
         requires additionals { D.can_next response.additionals × IsFinite (D.remaining response.additionals) }
         ensures ok { IfOk result (λ info. (reply : Reply) ×
-            AddsEntry (IsReplyOf (GivesBy A.next_gives A.Item.record_of) (GivesBy N.next_gives N.Item.record_of) (GivesBy S.next_gives S.Item.record_of) (GivesBy D.next_gives D.Item.record_of) response.entry)
-            (shows (settings self.old)) (entries self.old) (entries self.new) reply × informs (settings self.old) reply (header_of info)) }
+            IsReplyOf (GivesBy A.next_gives A.Item.record_of) (GivesBy N.next_gives N.Item.record_of) (GivesBy S.next_gives S.Item.record_of) (GivesBy D.next_gives D.Item.record_of) response.entry reply ×
+            AddsEntry (λ entry. shows (settings self.old) reply entry × informs (settings self.old) reply entry (header_of info)) (entries self.old) (entries self.new)) }
         ensures uncounted { OnOk result (failures self.new ≡ failures self.old) }
         ensures err { OnErr result (((reply : Reply) ×
-            AddsEntry (IsReplyOf (GivesBy A.next_gives A.Item.record_of) (GivesBy N.next_gives N.Item.record_of) (GivesBy S.next_gives S.Item.record_of) (GivesBy D.next_gives D.Item.record_of) response.entry)
-            (shows (settings self.old)) (entries self.old) (entries self.new) reply) ⊎ (entries self.new ≡ entries self.old)) }
+            IsReplyOf (GivesBy A.next_gives A.Item.record_of) (GivesBy N.next_gives N.Item.record_of) (GivesBy S.next_gives S.Item.record_of) (GivesBy D.next_gives D.Item.record_of) response.entry reply ×
+            AddsEntry (shows (settings self.old) reply) (entries self.old) (entries self.new)) ⊎ (entries self.new ≡ entries self.old)) }
         ensures counted { OnErr result (failures self.new ≡ (failures self.old + 1) % 2 ^ 64) }
         ensures settled { settings self.new ≡ settings self.old };
 }

@@ -4,7 +4,7 @@ ghost use Rattle.std.specs.Prelude.{◌≡◌, ◌++◌, IfOk, OnOk};
 ghost use Rattle.std.specs.Option.{option_copied};
 ghost use Rattle.std.specs.Map.{lookup};
 ghost use Rattle.hickory_base.specs.zone_store.ZoneAnswers.{OrMemory, any_answer, first_record, found, set_answer, set_or_denial, zone_answer, is_in_use, records_at};
-ghost use Rattle.hickory_base.specs.zone_store.ZoneSets.{is_key, sets_of};
+ghost use Rattle.hickory_base.specs.zone_store.ZoneSets.{is_key, keys_at, sets_of};
 
 use crate::errors::{DnsError, LookupError};
 use crate::zone_store::copies::append_copies;
@@ -53,7 +53,7 @@ pub(crate) fn is_in_use(sets: &BTreeMap<RrKey, Rc<RecordSet>>, first: &RrKey) ->
 }
 
 /// Copies of all records of the key's name. No type is below that of the key.
-fn copies_of_name(
+pub(crate) fn copies_of_name(
     alloc: Global,
     sets: &BTreeMap<RrKey, Rc<RecordSet>>,
     first: &RrKey,
@@ -69,6 +69,25 @@ fn copies_of_name(
         append_copies(&mut all, set.records())?;
     }
     Ok(all)
+}
+
+/// Copies of all keys of the key's name. No type is below that of the key.
+pub(crate) fn keys_of_name(
+    alloc: Global,
+    sets: &BTreeMap<RrKey, Rc<RecordSet>>,
+    first: &RrKey,
+) -> Result<Vec<RrKey>, AllocError>
+    requires { first.now.record_type ≡ 0 }
+    ensures { IfOk result (λ keys. keys.items ≡ keys_at first.now.name (sets_of sets.now)) }
+{
+    let mut keys = Vec::new(alloc);
+    for (key, _) in sets.range(first..) {
+        if first.name != key.name {
+            return Ok(keys);
+        }
+        keys.push(key.clone()?)?;
+    }
+    Ok(keys)
 }
 
 /// These records as an answer without additionals.

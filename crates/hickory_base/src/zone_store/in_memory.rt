@@ -3,18 +3,20 @@
 mod answers;
 mod records;
 
-ghost use Rattle.std.specs.Prelude.{◌≡◌, ◌↔◌, IsTrue};
+ghost use Rattle.std.specs.Prelude.{◌≡◌, ◌↔◌, IsTrue, []};
 ghost use Rattle.std.specs.Option.{option_copied};
 ghost use Rattle.hickory_base.specs.zone_store.ZoneAnswers.{zone_soa, soa_serial};
-ghost use Rattle.hickory_base.specs.zone_store.ZoneSets.{IsZone, sets_of};
+ghost use Rattle.hickory_base.specs.zone_store.ZoneSets.{AreDistinct, AreSetsInOrder, IsZone, sets_of, zone_records};
 
 use crate::zone_store::conditions::is_zone;
 use crate::zone_store::find::first_under;
 use crate::zone_store::handler::{AxfrPolicy, ZoneType};
 use crate::zone_store::record_set::{RecordSet, RrKey};
 use hickory_wire::{DNSClass, LowerName, RData, Record, RecordType};
+use std::alloc::Global;
 use std::collections::BTreeMap;
 use std::marker::Model;
+use std::mem;
 use std::rc::Rc;
 
 /// A zone of class IN that is held in memory: its sets of records by name and type.
@@ -35,11 +37,11 @@ impl Model for InMemoryZoneHandler {
 
     ghost Value = { MemoryZone };
 
-    ghost use Rattle.hickory_base.specs.zone_store.ZoneSets.{IsZone, sets_of};
+    ghost use Rattle.hickory_base.specs.zone_store.ZoneSets.{AreSetsInOrder, IsZone, sets_of};
 
     ghost view = { λ z. record { origin = z.apex.name; zone_type = z.zone_type; axfr_policy = z.axfr_policy; sets = sets_of z.records } };
 
-    ghost invariant = { λ z. (z.apex.record_type ≡ 6) × IsZone (sets_of z.records) };
+    ghost invariant = { λ z. (z.apex.record_type ≡ 6) × IsZone (sets_of z.records) × AreSetsInOrder (sets_of z.records) };
 }
 
 impl InMemoryZoneHandler {
@@ -61,6 +63,8 @@ impl InMemoryZoneHandler {
         requires { IsZone (sets_of records) }
         ensures { result ≡ record { origin = origin; zone_type = zone_type; axfr_policy = axfr_policy; sets = sets_of records } }
     {
+        // That the keys are in order is known of a map whose length was read.
+        let _ = records.len();
         InMemoryZoneHandler {
             apex: RrKey::new(origin, RecordType::SOA),
             zone_type,
@@ -76,10 +80,12 @@ impl InMemoryZoneHandler {
         DNSClass::IN
     }
 
-    /// The sets by name and type, which `accepts` takes.
+    /// The sets by name and type, which `accepts` takes, in the order of their keys. No two records of the zone are the same.
     pub fn records(&self) -> &BTreeMap<RrKey, Rc<RecordSet>>
         ensures sets { sets_of result.now ≡ self.now.sets }
         ensures zone { IsZone self.now.sets }
+        ensures ordered { AreSetsInOrder self.now.sets }
+        ensures distinct { AreDistinct (zone_records self.now.sets) }
     {
         &self.records
     }
@@ -89,7 +95,18 @@ impl InMemoryZoneHandler {
         requires { IsZone (sets_of records) }
         ensures { self.new ≡ record self.old { sets = sets_of records } }
     {
+        // That the keys are in order is known of a map whose length was read.
+        let _ = records.len();
         self.records = records;
+    }
+
+    /// Hands the sets over, and leaves a zone without any. It needs no memory.
+    pub fn take_records(&mut self, alloc: Global) -> BTreeMap<RrKey, Rc<RecordSet>>
+        ensures sets { sets_of result ≡ self.old.sets }
+        ensures zone { IsZone self.old.sets }
+        ensures emptied { self.new ≡ record self.old { sets = [] } }
+    {
+        mem::replace(&mut self.records, BTreeMap::new(alloc))
     }
 
     /// The SOA record at the origin.

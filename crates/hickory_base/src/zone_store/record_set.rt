@@ -28,6 +28,17 @@ impl RrKey {
     }
 }
 
+impl Clone for RrKey {
+    ghost is_clone = { λ key copy. copy ≡ key };
+
+    fn clone(&self) -> Result<RrKey, AllocError> {
+        Ok(RrKey {
+            name: self.name.clone()?,
+            record_type: self.record_type,
+        })
+    }
+}
+
 /// Records of one name and type, at least one (RFC 2181 section 5).
 #[derive(Drop)]
 pub struct RecordSet {

@@ -2,7 +2,7 @@
 use Rattle.std.proofs.Common.{◌≡◌, Bool, true, false, cond, List, [], ◌∷◌, ◌++◌, filter, refl, sym, ap, ◌∙◌, Option, Some}
 use Rattle.std.specs.Option.{option_map}
 use Rattle.std.specs.List.{flat_map, list_any}
-use Rattle.std.specs.Map.{lookup}
+use Rattle.std.specs.Map.{keys_of, lookup}
 use Rattle.std.specs.declared.alloc.Global.{Global}
 use Rattle.std.specs.declared.rc.Rc.{Rc}
 use Rattle.hickory_wire.specs.declared.rr.rdata.RData.{RData}
@@ -37,3 +37,13 @@ module _ (test : RrKey → Bool) where
   pub records-shared : (es : List (RrKey × Rc RecordSet Global)) → flat_map (λ e. e.1) (filter (λ e. test e.0) (shared_sets es)) ≡ flat_map (λ e. e.1.value) (filter (λ e. test e.0) es)
   records-shared [] = refl
   records-shared (e ∷ es) = records_step (test e.0) e _ _ (records-shared es)
+
+  keys_step : (b : Bool) (e : RrKey × Rc RecordSet Global) (ks : List RrKey) (es : List (RrKey × Rc RecordSet Global)) → ks ≡ keys_of es
+      → cond b (e.0 ∷ ks) ks ≡ keys_of (cond b (e ∷ es) es)
+  keys_step true e ks es same = ap (λ rest. e.0 ∷ rest) same
+  keys_step false e ks es same = same
+
+  -- the keys that pass are those of the entries whose keys pass
+  pub keys-of-name : (es : List (RrKey × Rc RecordSet Global)) → filter test (keys_of (shared_sets es)) ≡ keys_of (filter (λ e. test e.0) es)
+  keys-of-name [] = refl
+  keys-of-name (e ∷ es) = keys_step (test e.0) e _ _ (keys-of-name es)

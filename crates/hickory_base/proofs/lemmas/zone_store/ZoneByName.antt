@@ -1,7 +1,7 @@
 -- The records of a zone, read by owner name and type, are what the zone's map has under its keys.
 use Rattle.std.proofs.Common.{◌≡◌, ℕ, Bool, true, false, cond, ◌&&◌, ◌||◌, List, [], ◌∷◌, ◌++◌, filter, length, Some, refl, sym, ap, ◌∙◌, ◌<◌, arith}
 use Rattle.std.specs.Prelude.{nat_lt, ◌==◌}
-use Rattle.std.specs.List.{AllByRecursion, list_any}
+use Rattle.std.specs.List.{AllByRecursion, flat_map, list_any}
 use Rattle.std.specs.List.Sorted.{IsStrictlySortedBy}
 use Rattle.std.specs.Map.{keys_of, lookup}
 use Rattle.std.specs.Ordering.{is_eq, nat_cmp, ordering_then}
@@ -126,3 +126,23 @@ module _ (name : DomainName) where
       list_any-append (is_at name) e.1 (zone_records es)
       ∙ ap (λ b. b || list_any (is_at name) (zone_records es)) (in_set e.0 e.1 zone.0.filled zone.0.under)
       ∙ ap (λ b. has_name name e.0 || b) (name_found es zone.1)
+
+  all_of_name : (key : RrKey) (rs : List (Record RData)) → AllByRecursion (IsUnder key) rs → has_name name key ≡ true → filter (is_at name) rs ≡ rs
+  all_of_name key [] under e = refl
+  all_of_name key (r ∷ rs) under e = rw (name_under name key r under.0 ∙ e) (ap (λ qs. r ∷ qs) (all_of_name key rs under.1 e))
+
+  none_of_name : (key : RrKey) (rs : List (Record RData)) → AllByRecursion (IsUnder key) rs → has_name name key ≡ false → filter (is_at name) rs ≡ []
+  none_of_name key [] under e = refl
+  none_of_name key (r ∷ rs) under e = rw (name_under name key r under.0 ∙ e) (none_of_name key rs under.1 e)
+
+  name_step : (b : Bool) (e : RrKey × List (Record RData)) (rest : List (Record RData)) (es : List (RrKey × List (Record RData))) → AllByRecursion (IsUnder e.0) e.1 → has_name name e.0 ≡ b
+      → rest ≡ flat_map (λ s. s.1) es → filter (is_at name) e.1 ++ rest ≡ flat_map (λ s. s.1) (cond b (e ∷ es) es)
+  name_step true e rest es under is same = ap (λ rs. rs ++ rest) (all_of_name e.0 e.1 under is) ∙ ap (λ rs. e.1 ++ rs) same
+  name_step false e rest es under is same = ap (λ rs. rs ++ rest) (none_of_name e.0 e.1 under is) ∙ same
+
+  -- the records of a name are those under the keys that have it
+  pub records_found : (es : List (RrKey × List (Record RData))) → IsZone es → filter (is_at name) (zone_records es) ≡ flat_map (λ e. e.1) (filter (λ e. has_name name e.0) es)
+  records_found [] zone = refl
+  records_found (e ∷ es) zone =
+      filter-append (is_at name) e.1 (zone_records es)
+      ∙ name_step (has_name name e.0) e (filter (is_at name) (zone_records es)) (filter (λ e. has_name name e.0) es) zone.0.under refl (records_found es zone.1)

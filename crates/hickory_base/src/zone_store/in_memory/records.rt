@@ -1,15 +1,15 @@
 //! The records of a zone that is held in memory: by name and type, and as a whole.
 
-ghost use Rattle.std.specs.Prelude.{◌≡◌, ◌++◌, OnOk, IfOk, Some, Ok, cond, drop};
+ghost use Rattle.std.specs.Prelude.{◌≡◌, ◌++◌, OnOk, IfOk, Some, Ok, cond, drop, filter};
 ghost use Rattle.std.specs.List.{flat_map, list_any};
 ghost use Rattle.std.specs.Option.{option_copied};
 ghost use Rattle.hickory_base.specs.zone_store.ZoneAnswers.{OrMemory, whole_zone, zone_soa};
 ghost use Rattle.hickory_base.specs.zone_store.ZoneRecords.{existing, is_at, rrset};
-ghost use Rattle.hickory_base.specs.zone_store.ZoneSets.{is_key, sets_of, zone_records};
+ghost use Rattle.hickory_base.specs.zone_store.ZoneSets.{is_key, keys_at, sets_of, zone_records};
 
 use crate::errors::LookupError;
 use crate::zone_store::copies::append_copies;
-use crate::zone_store::find::{is_in_use, set_under};
+use crate::zone_store::find::{copies_of_name, is_in_use, keys_of_name, set_under};
 use crate::zone_store::in_memory::InMemoryZoneHandler;
 use crate::zone_store::lookup::ZoneTransfer;
 use crate::zone_store::record_set::{RecordSet, RrKey};
@@ -63,8 +63,6 @@ impl InMemoryZoneHandler {
     pub fn record_set(&self, key: &RrKey) -> Option<&[Record]>
         ensures { option_copied result ≡ existing (rrset (zone_records self.now.sets) key.now.name key.now.record_type) }
     {
-        // That the keys are in order is known of a map whose length was read.
-        let _ = self.records.len();
         set_under(&self.records, key)
     }
 
@@ -74,6 +72,23 @@ impl InMemoryZoneHandler {
     {
         let first = RrKey::new(name, RecordType::new(0));
         is_in_use(&self.records, &first)
+    }
+
+    /// Copies of the records of a name, whatever their type, in the order of the sets. It takes time by what it copies and
+    /// the depth of the zone's map.
+    pub fn records_of_name(&self, alloc: Global, name: LowerName) -> Result<Vec<Record>, AllocError>
+        ensures { IfOk result (λ all. all.items ≡ filter (is_at name) (zone_records self.now.sets)) }
+    {
+        let first = RrKey::new(name, RecordType::new(0));
+        copies_of_name(alloc, &self.records, &first)
+    }
+
+    /// Copies of the keys of a name's sets, in their order. It takes time by what it copies and the depth of the zone's map.
+    pub fn keys_of_name(&self, alloc: Global, name: LowerName) -> Result<Vec<RrKey>, AllocError>
+        ensures { IfOk result (λ keys. keys.items ≡ keys_at name self.now.sets) }
+    {
+        let first = RrKey::new(name, RecordType::new(0));
+        keys_of_name(alloc, &self.records, &first)
     }
 
     /// The SOA record, all other records in the order of the sets, and the SOA record again.
