@@ -68,7 +68,7 @@ pub any_kept : {X : Type 0} (p q keep : X → Bool) (xs : List X) → ((x : X) �
 any_kept p q keep [] h e = e
 any_kept p q keep (x ∷ xs) h e = any_kept_step q x (filter keep xs) (p x) (list_any p xs) (keep x) (h x) e (any_kept p q keep xs h)
 
-any_front : {X : Type 0} (p : X → Bool) (xs ys : List X) → list_any p xs ≡ true → list_any p (xs ++ ys) ≡ true
+pub any_front : {X : Type 0} (p : X → Bool) (xs ys : List X) → list_any p xs ≡ true → list_any p (xs ++ ys) ≡ true
 any_front p [] ys h = cc
 any_front p (x ∷ xs) ys h = front_step (p x) (list_any p xs) (list_any p (xs ++ ys)) h (any_front p xs ys)
   where
@@ -76,7 +76,7 @@ any_front p (x ∷ xs) ys h = front_step (p x) (list_any p xs) (list_any p (xs +
     front_step true b d h e = refl
     front_step false b d h e = e h
 
-any_last : {X : Type 0} (p : X → Bool) (xs : List X) (y : X) → p y ≡ true → list_any p (xs ++ y ∷ []) ≡ true
+pub any_last : {X : Type 0} (p : X → Bool) (xs : List X) (y : X) → p y ≡ true → list_any p (xs ++ y ∷ []) ≡ true
 any_last p [] y h = or_of_left (p y) false h
 any_last p (x ∷ xs) y h = or_of_right (p x) (list_any p (xs ++ y ∷ [])) (any_last p xs y h)
 

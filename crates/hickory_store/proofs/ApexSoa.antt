@@ -46,7 +46,7 @@ module _ (same_type : OfOneType) where
   six_of : (r q : Resource) → is_type 6 q ≡ true → same_data r.rdata q.rdata ≡ true → is_type 6 r ≡ true
   six_of r q h e = nat_eq_so (type_of r.rdata) 6 (same_type r.rdata q.rdata e ∙ nat_eq_is (type_of q.rdata) 6 h)
 
-  goes_soa : (o : DomainName) (c : ℕ) (r q : Resource) (a b : Bool) → is_apex_soa o q ≡ true → goes_when o c r a b q ≡ true
+  pub goes_soa : (o : DomainName) (c : ℕ) (r q : Resource) (a b : Bool) → is_apex_soa o q ≡ true → goes_when o c r a b q ≡ true
       → ((a ≡ true) × (is_apex_soa o r ≡ true)) ⊎ ((b ≡ false) × (is_type 6 r ≡ true))
   goes_soa o c r q a b h g =
       elim (case_goes (nat_eq r.dns_class c) a (replaces_rrset r) (in_rrset r q) (same_record r q) (nat_eq r.dns_class 255) (is_cleared o r q) b (same_record (in_class c r) q) g) [
@@ -68,7 +68,7 @@ module _ (same_type : OfOneType) where
         ]
       ]
 
-  six_spared : (t x : Bool) → t ≡ true → (t || x) ≡ false → ⊥
+  pub six_spared : (t x : Bool) → t ≡ true → (t || x) ≡ false → ⊥
   six_spared true x h e = cc
   six_spared false x h e = cc
 
@@ -83,7 +83,7 @@ module _ (same_type : OfOneType) where
   or_second true b h = refl
   or_second false b h = h
 
-  soa_goes : (o : DomainName) (c : ℕ) (r q : Resource) (b : Bool) → is_apex_soa o r ≡ true → nat_eq r.dns_class c ≡ true → is_apex_soa o q ≡ true → goes_when o c r true b q ≡ true
+  pub soa_goes : (o : DomainName) (c : ℕ) (r q : Resource) (b : Bool) → is_apex_soa o r ≡ true → nat_eq r.dns_class c ≡ true → is_apex_soa o q ≡ true → goes_when o c r true b q ≡ true
   soa_goes o c r q b n k h =
       all_go (nat_eq r.dns_class c) (replaces_rrset r) (in_rrset r q) (same_record r q) (nat_eq r.dns_class 255) (is_cleared o r q) b (same_record (in_class c r) q) k
       (or_second (is_type 5 r) (is_type 6 r) (and_right (name_eq o r.name) _ n))

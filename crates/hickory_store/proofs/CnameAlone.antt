@@ -10,7 +10,7 @@ use Rattle.hickory_store.specs.Changes.{comes, goes_when, in_rrset, is_ignored, 
 use Rattle.hickory_store.specs.UpdateLaws.{CnameStaysAlone, IsCnameAlone, has_cname, has_other}
 use Rattle.hickory_store.proofs.ApexNs.{Records, Resource, and_left, and_right, names, not_true}
 
-or_none : (a b : Bool) → a ≡ false → b ≡ false → (a || b) ≡ false
+pub or_none : (a b : Bool) → a ≡ false → b ≡ false → (a || b) ≡ false
 or_none true b h k = cc
 or_none false b h k = k
 
@@ -26,7 +26,7 @@ kept_none : (p : Resource → Bool) (q : Resource) (more : Records) (b : Bool) �
 kept_none p q more true h k = or_none (p q) (list_any p more) h k
 kept_none p q more false h k = k
 
-none_kept : (p keep : Resource → Bool) (z : Records) → list_any p z ≡ false → list_any p (filter keep z) ≡ false
+pub none_kept : (p keep : Resource → Bool) (z : Records) → list_any p z ≡ false → list_any p (filter keep z) ≡ false
 none_kept p keep [] h = refl
 none_kept p keep (q ∷ z) h = kept_none p q (filter keep z) (keep q) (none_first (p q) _ h) (none_kept p keep z (none_rest (p q) _ h))
 
@@ -38,7 +38,7 @@ some_before p keep z h = back (list_any p z) refl
     back false e = absurd (let f : list_any p (filter keep z) ≡ false = none_kept p keep z e in cc)
 
 -- names that are the same have the same records
-named_alike : (f : Resource → Bool) (n m : DomainName) → name_eq n m ≡ true → (z : Records) → list_any (λ q. is_at n q && f q) z ≡ list_any (λ q. is_at m q && f q) z
+pub named_alike : (f : Resource → Bool) (n m : DomainName) → name_eq n m ≡ true → (z : Records) → list_any (λ q. is_at n q && f q) z ≡ list_any (λ q. is_at m q && f q) z
 named_alike f n m e [] = refl
 named_alike f n m e (q ∷ z) =
     ap (λ b. (b && f q) || list_any (λ q. is_at n q && f q) z) (names.congr n m q.name e) ∙ ap (λ b. (is_at m q && f q) || b) (named_alike f n m e z)
@@ -51,7 +51,7 @@ last_false p xs r h = list_any-append p xs (r ∷ []) ∙ ap (λ b. list_any p x
     or_false false = refl
 
 -- what an addition that is not ignored finds
-other_free : (five others cnames more : Bool) → five ≡ true → not (cond five others (cnames || more)) ≡ true → others ≡ false
+pub other_free : (five others cnames more : Bool) → five ≡ true → not (cond five others (cnames || more)) ≡ true → others ≡ false
 other_free true others cnames more e h = not_true others h
 other_free false others cnames more e h = cc
 
@@ -59,11 +59,11 @@ cname_free : (five others cnames more : Bool) → five ≡ false → not (cond f
 cname_free true others cnames more e h = cc
 cname_free false others cnames more e h = none_first cnames more (not_true (cnames || more) h)
 
-and_false : (a b : Bool) → b ≡ false → (a && b) ≡ false
+pub and_false : (a b : Bool) → b ≡ false → (a && b) ≡ false
 and_false true b h = h
 and_false false b h = refl
 
-first_false : (a b : Bool) → a ≡ false → (a && b) ≡ false
+pub first_false : (a b : Bool) → a ≡ false → (a && b) ≡ false
 first_false true b h = cc
 first_false false b h = refl
 

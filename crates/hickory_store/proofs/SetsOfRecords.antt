@@ -8,6 +8,7 @@ use Rattle.std.specs.Option.{option_map}
 use Rattle.std.specs.Ordering.{is_eq}
 use Rattle.std.specs.Cmp.{IsEquivalence, eq_by_cmp_equiv}
 use Rattle.std.specs.declared.alloc.Global.{Global}
+use Rattle.std.specs.declared.cmp.Ordering.{Ordering}
 use Rattle.std.specs.declared.cmp.Ordering.TheVariants.{Less}
 use Rattle.std.specs.declared.rc.Rc.{Rc}
 use Rattle.std.proofs.lemmas.Bool.{eq-eqb, eqb-true}
@@ -39,7 +40,7 @@ Records = List (Record RData)
 abbrev pub Sets : Type 0
 Sets = List (RrKey × Records)
 
-key_alike : IsEquivalence (λ (a b : RrKey). is_eq (key_cmp a b))
+pub key_alike : IsEquivalence (λ (a b : RrKey). is_eq (key_cmp a b))
 key_alike = eq_by_cmp_equiv key_total
 
 -- ---- one record more
@@ -159,27 +160,29 @@ record_set_last q rs = set_with_last q.name (type_of q.rdata) (rrset rs q.name (
 
 -- ---- the sets make a zone
 
-after_less : (k e : RrKey) → key_cmp k e ≡ Less → is_eq (key_cmp e k) ≡ false
-after_less k e h = key_alike.symm e k ∙ ap is_eq h
+after_less : {K : Type 0} (order : K → K → Ordering) (alike : IsEquivalence (λ (a b : K). is_eq (order a b))) (k e : K) → order k e ≡ Less → is_eq (order e k) ≡ false
+after_less order alike k e h = alike.symm e k ∙ ap is_eq h
 
-skipped : (b : Bool) (f : RrKey × Records) (o : Option Records) (v : Records) → b ≡ false → o ≡ Some v → cond b (Some f.1) o ≡ Some v
-skipped true f o v e h = absurd (cc)
-skipped false f o v e h = h
+module _ {X : Type 0} where
+  skipped : (b : Bool) (v w : X) (o : Option X) → b ≡ false → o ≡ Some w → cond b (Some v) o ≡ Some w
+  skipped true v w o e h = absurd (cc)
+  skipped false v w o e h = h
 
-found_behind : (f : RrKey × Records) (es xs : Sets) → AllByRecursion (λ k. key_cmp f.0 k ≡ Less) (keys_of xs)
-    → AllByRecursion (λ e. lookup (is_key e.0.name e.0.record_type) es ≡ Some e.1) xs → AllByRecursion (λ e. lookup (is_key e.0.name e.0.record_type) (f ∷ es) ≡ Some e.1) xs
-found_behind f es [] above h = tt
-found_behind f es (x ∷ xs) above h = (skipped _ f _ x.1 (after_less f.0 x.0 above.0) h.0, found_behind f es xs above.1 h.1)
+  found_here : (b : Bool) (v : X) (o : Option X) → b ≡ true → cond b (Some v) o ≡ Some v
+  found_here true v o e = refl
+  found_here false v o e = absurd (cc)
 
-found_here : (b : Bool) (f : RrKey × Records) (o : Option Records) → b ≡ true → cond b (Some f.1) o ≡ Some f.1
-found_here true f o e = refl
-found_here false f o e = absurd (cc)
+module _ {K X : Type 0} (order : K → K → Ordering) (alike : IsEquivalence (λ (a b : K). is_eq (order a b))) where
+  found_behind : (f : K × X) (es xs : List (K × X)) → AllByRecursion (λ k. order f.0 k ≡ Less) (keys_of xs)
+      → AllByRecursion (λ e. lookup (λ k. is_eq (order e.0 k)) es ≡ Some e.1) xs → AllByRecursion (λ e. lookup (λ k. is_eq (order e.0 k)) (f ∷ es) ≡ Some e.1) xs
+  found_behind f es [] above h = tt
+  found_behind f es (x ∷ xs) above h = (skipped _ f.1 x.1 _ (after_less order alike f.0 x.0 above.0) h.0, found_behind f es xs above.1 h.1)
 
--- each set is found under its key
-found_each : (es : Sets) → IsStrictlySortedBy key_cmp (keys_of es) → AllByRecursion (λ e. lookup (is_key e.0.name e.0.record_type) es ≡ Some e.1) es
-unfolding IsStrictlySortedBy
-found_each [] sorted = tt
-found_each (f ∷ es) sorted = (found_here _ f _ (key_alike.refl f.0), found_behind f es es sorted.0 (found_each es sorted.1))
+  -- each value is found under its key
+  pub found_each : (es : List (K × X)) → IsStrictlySortedBy order (keys_of es) → AllByRecursion (λ e. lookup (λ k. is_eq (order e.0 k)) es ≡ Some e.1) es
+  unfolding IsStrictlySortedBy
+  found_each [] sorted = tt
+  found_each (f ∷ es) sorted = (found_here _ f.1 _ (alike.refl f.0), found_behind f es es sorted.0 (found_each es sorted.1))
 
 filled : (xs ys : Records) → existing xs ≡ Some ys → 0 < length xs
 filled [] ys e = absurd (cc)
@@ -226,7 +229,7 @@ module _ (rs : Records) (distinct : AreDistinct rs) (typed : AllByRecursion IsWe
   zone_sets S (e ∷ es) h f = (zone_set e.0 e.1 (sym (h e.0.name e.0.record_type) ∙ f.0), zone_sets S es h f.1)
 
   pub zone_of : (S : Sets) → IsStrictlySortedBy key_cmp (keys_of S) → HoldsSets rs S → IsZone S
-  zone_of S sorted h = zone_sets S S h (found_each S sorted)
+  zone_of S sorted h = zone_sets S S h (found_each key_cmp key_alike S sorted)
 
 -- ---- the zone is that of the records
 

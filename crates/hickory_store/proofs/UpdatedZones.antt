@@ -54,10 +54,10 @@ all_from : {X : Type 0} (P Q : X → Type 0) → ((x : X) → P x → Q x) → (
 all_from P Q f [] h = tt
 all_from P Q f (x ∷ xs) h = (f x h.0, all_from P Q f xs h.1)
 
-same_back : (a b : Record RData) → SameRecord a b → SameRecord b a
+pub same_back : (a b : Record RData) → SameRecord a b → SameRecord b a
 same_back a b s = record { name = record { labels = sym s.name.labels; marks = sym s.name.marks }; class = sym s.class; rdata = sym s.rdata }
 
-same_type : (a b : Record RData) → SameRecord a b → type_of a.rdata ≡ type_of b.rdata
+pub same_type : (a b : Record RData) → SameRecord a b → type_of a.rdata ≡ type_of b.rdata
 same_type a b s = sym (type-lower a.rdata) ∙ ap type_of s.rdata ∙ type-lower b.rdata
 
 first_true : (a b : Bool) → (a && b) ≡ true → a ≡ true
@@ -131,7 +131,7 @@ typed_data (rdata.NULL x) h e = h e
 typed_data (rdata.Update0 x) h e = h e
 typed_data (rdata.Unknown x y) h e = h e
 
-next_type : (d : RData) → type_of (next_data d) ≡ type_of d
+pub next_type : (d : RData) → type_of (next_data d) ≡ type_of d
 next_type (rdata.SOA s) = refl
 next_type (rdata.A x) = refl
 next_type (rdata.AAAA x) = refl

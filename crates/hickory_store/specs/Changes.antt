@@ -52,7 +52,8 @@ comes class zone r = (r.dns_class == class) && (not (is_ignored zone r) && not (
 abbrev pub in_class : ℕ → Record RData → Record RData
 in_class class r = record r { dns_class = class }
 
--- r, of class NONE, deletes nothing: it is an SOA, or the one NS, 2, of its name (section 3.4.2.4)
+-- r, of class NONE, deletes nothing: it is an SOA (section 3.4.2.4), or the sole NS, 2, of its name. The pseudocode of section 3.4.2.7
+-- spares a sole NS at any name; the text of section 3.4.2.4 says it of the apex alone.
 abbrev pub is_spared : ℕ → List (Record RData) → Record RData → Bool
 is_spared class zone r =
     is_type 6 r || (is_type 2 r && not (list_any (λ q. in_rrset r q && not (same_record (in_class class r) q)) zone))

@@ -6,12 +6,15 @@ pub mod Entries
 pub mod Identity
 pub mod LendingZone
 pub mod ListLines
+pub mod NameUpdates
 pub mod Permission
 pub mod Prerequisites
 pub mod Prescan
 pub mod Readers
 pub mod Refusals
+pub mod Replays
 pub mod Serials
+pub mod SetChanges
 pub mod SetsByRecord
 pub mod TransferAnswers
 pub mod UpdatableZone

@@ -1,5 +1,5 @@
--- What an update of a zone answers and leaves, whole or not at all (RFC 2136 sections 3.2 to 3.6).
-use Rattle.std.specs.Prelude.{◌≡◌, ◌≢◌, ℕ, ◌&&◌, Bool, true, false, cond, List, [], ◌∷◌, map, Option, Some, None, Result, Ok, Err}
+-- What an update of a zone answers and leaves (RFC 2136 sections 3.2 to 3.6), whole or not at all (section 3.7).
+use Rattle.std.specs.Prelude.{◌≡◌, ◌≢◌, ℕ, ◌&&◌, Bool, true, false, cond, List, [], ◌∷◌, map, IfOk, Option, Some, None, Result, Ok, Err}
 use Rattle.std.specs.List.{list_any}
 use Rattle.hickory_wire.specs.rr.domain.DomainName.{DomainName}
 use Rattle.hickory_wire.specs.declared.rr.rdata.RData.{RData}
@@ -42,8 +42,9 @@ Outcome = Result (List (Record RData) × Bool) ℕ
 abbrev pub with_next_serial : DomainName → List (Record RData) → Outcome
 with_next_serial origin records = cond (list_any (is_apex_soa origin) records) (Ok (map (incremented origin) records, true)) (Err 2)
 
--- The update section is done to the zone. Where the update increments the serial and nothing changed, the zone stays (section 3.6).
--- An update that does not, as one that is replayed, says of no change that it was one.
+-- The update section is done to the zone. An update that increments the serial does so once, wherever a record changed the zone, also
+-- where one was a newer SOA (section 3.6 asks for it only where none was); where none changed it, the zone stays as it is. An update
+-- that does not increment, as one that is replayed, leaves what its records leave, and answers false.
 abbrev pub applied : DomainName → ℕ → List (Record RData) → List (Record RData) → Bool → Outcome
 applied origin class zone updates true = cond (any_change origin class zone updates) (with_next_serial origin (fold origin class zone updates)) (Ok (zone, false))
 applied origin class zone updates false = Ok (fold origin class zone updates, false)
@@ -81,22 +82,24 @@ abbrev pub told_context : Option TSigResponseContext → Result Bool UpdateFault
 told_context context (Err Memory) = None
 told_context context answer = context
 
--- The answer to a request, what goes with it, and the handler after it.
+-- The answer to a request, what goes with it, and the handler after it. Where the answer is false, nothing is touched.
 abbrev pub AnswersBy : {V : Type 0} → Permission → UpdatableZone V → UpdateMessage → Result Bool UpdateFault → Option TSigResponseContext → UpdatableZone V → Type 0
 AnswersBy permission old message answer context new =
     Updates (message_outcome permission.refusal old.zone message) answer old.zone new.zone
     × (context ≡ told_context permission.context answer)
     × (new ≡ record old { zone = new.zone })
+    × IfOk answer (λ changed. changed ≡ false → new ≡ old)
 
 abbrev pub AnswersUpdate : {V : Type 0} → Ghosts V → UpdatableZone V → ReceivedRequest → ℕ → Result Bool UpdateFault → Option TSigResponseContext → UpdatableZone V → Type 0
 AnswersUpdate by old request now answer context new =
     AnswersBy (update_permission by old.verifier old.allow_update request now) old (update_of request.message) answer context new
 
--- Requests, each at its moment, are answered one after another, but for want of memory.
+-- A request, at its moment, is answered, and not by want of memory.
+abbrev pub UpdatesOne : {V : Type 0} → Ghosts V → ReceivedRequest × ℕ → UpdatableZone V → UpdatableZone V → Type 0
+UpdatesOne by request old new =
+    (answer : Result Bool UpdateFault) × (context : Option TSigResponseContext) × (answer ≢ Err Memory) × AnswersUpdate by old request.0 request.1 answer context new
+
+-- So are several, one after another.
 abbrev pub UpdatesAll : {V : Type 0} → Ghosts V → List (ReceivedRequest × ℕ) → UpdatableZone V → UpdatableZone V → Type 0
 UpdatesAll by [] old new = new ≡ old
-UpdatesAll {V} by (request ∷ requests) old new =
-    (answer : Result Bool UpdateFault) × (context : Option TSigResponseContext) × (between : UpdatableZone V)
-    × (answer ≢ Err Memory)
-    × AnswersUpdate by old request.0 request.1 answer context between
-    × UpdatesAll by requests between new
+UpdatesAll {V} by (request ∷ requests) old new = (between : UpdatableZone V) × UpdatesOne by request old between × UpdatesAll by requests between new

@@ -1,12 +1,22 @@
 -- Laws of updates: what every zone keeps, whatever the updates.
-use Rattle.std.specs.Prelude.{◌≡◌, ℕ, ◌+◌, ◌&&◌, Bool, true, false, not, cond, List, [], ◌∷◌}
-use Rattle.std.specs.List.{list_any}
+use Rattle.std.specs.Prelude.{◌≡◌, ℕ, ◌+◌, ◌&&◌, Bool, true, false, not, cond, List, [], ◌∷◌, map, Option, Result, Ok}
+use Rattle.std.specs.List.{flat_map, list_any}
 use Rattle.hickory_wire.specs.rr.domain.DomainName.{DomainName}
 use Rattle.hickory_wire.specs.declared.rr.rdata.RData.{RData}
+use Rattle.hickory_wire.specs.declared.rr.rdata.RData.TheVariants as rdata
 use Rattle.hickory_wire.specs.declared.rr.record.Record.{Record}
+use Rattle.hickory_wire.specs.declared.rr.tsig.TSigResponseContext.{TSigResponseContext}
+use Rattle.hickory_base.specs.requests.Requests.{ReceivedRequest}
+use Rattle.hickory_base.specs.zone_store.ZoneAnswers.{MemoryZone}
 use Rattle.hickory_base.specs.zone_store.ZoneRecords.{is_at}
-use Rattle.hickory_store.specs.Changes.{fold, is_type}
-use Rattle.hickory_store.specs.UpdateAnswers.{is_apex_soa}
+use Rattle.hickory_base.specs.zone_store.ZoneSets.{zone_records}
+use Rattle.hickory_base.specs.declared.errors.UpdateFault.{UpdateFault}
+use Rattle.hickory_store.specs.Changes.{any_change, fold, is_type}
+use Rattle.hickory_store.specs.Identity.{SameZone, same_record}
+use Rattle.hickory_store.specs.Serials.{next_serial}
+use Rattle.hickory_store.specs.UpdatableZone.{UpdatableZone}
+use Rattle.hickory_store.specs.UpdateAnswers.{AnswersUpdate, UpdatesAll, applied, is_apex_soa}
+use Rattle.hickory_store.specs.declared.sqlite.verifier.Verifier.{Ghosts}
 
 -- how many pass a test
 abbrev pub how_many : {X : Type 0} → (X → Bool) → List X → ℕ
@@ -39,3 +49,49 @@ IsCnameAlone zone = (name : DomainName) → has_cname zone name ≡ true → has
 -- CNAMEs that are alone stay alone (RFC 2136 section 3.4.2.2).
 abbrev pub CnameStaysAlone : Type 0
 CnameStaysAlone = (origin : DomainName) (class : ℕ) (updates zone : List (Record RData)) → IsCnameAlone zone → IsCnameAlone (fold origin class zone updates)
+
+-- The SOA is that of the apex, and the apex has no other.
+abbrev pub IsOneSoa : DomainName → List (Record RData) → Record RData → Type 0
+IsOneSoa origin zone soa =
+    (is_apex_soa origin soa ≡ true) × (list_any (same_record soa) zone ≡ true) × (list_any (λ q. is_apex_soa origin q && not (same_record soa q)) zone ≡ false)
+
+abbrev pub HasOneSoa : DomainName → List (Record RData) → Type 0
+HasOneSoa origin zone = (soa : Record RData) × IsOneSoa origin zone soa
+
+-- the apex has an NS
+abbrev pub HasNs : DomainName → List (Record RData) → Type 0
+HasNs origin zone = list_any (is_apex_ns origin) zone ≡ true
+
+abbrev pub CnamesAlone : DomainName → List (Record RData) → Type 0
+CnamesAlone origin zone = IsCnameAlone zone
+
+-- the records of the zone are so
+abbrev pub HoldsIn : (DomainName → List (Record RData) → Type 0) → MemoryZone → Type 0
+HoldsIn Holds zone = Holds zone.origin (zone_records zone.sets)
+
+-- What is so of a zone is so of it once a request was answered, with whatever answer, and once several were.
+abbrev pub Keeps : {V : Type 0} → Ghosts V → (DomainName → List (Record RData) → Type 0) → Type 0
+Keeps {V} by Holds =
+    ((request : ReceivedRequest) (now : ℕ) (answer : Result Bool UpdateFault) (context : Option TSigResponseContext) (old new : UpdatableZone V)
+    → AnswersUpdate by old request now answer context new → HoldsIn Holds old.zone → HoldsIn Holds new.zone)
+    × ((requests : List (ReceivedRequest × ℕ)) (old new : UpdatableZone V) → UpdatesAll by requests old new → HoldsIn Holds old.zone → HoldsIn Holds new.zone)
+
+-- Lists of records that stand for one zone before an update stand for one after it.
+abbrev pub FoldRespects : Type 0
+FoldRespects = (origin : DomainName) (class : ℕ) (updates zone other : List (Record RData)) → SameZone zone other → SameZone (fold origin class zone updates) (fold origin class other updates)
+
+abbrev pub serials_in : RData → List ℕ
+serials_in (rdata.SOA soa) = soa.serial ∷ []
+serials_in other = []
+
+-- the serials of the SOAs of the apex
+abbrev pub apex_serials : DomainName → List (Record RData) → List ℕ
+apex_serials origin zone = flat_map (λ q. cond (is_apex_soa origin q) (serials_in q.rdata) []) zone
+
+-- Where the apex has one SOA, the serial after an update that increments it is that which its records left, with one added modulo 2^32
+-- exactly where one of them changed the zone; and such an update is not refused.
+abbrev pub SerialSteps : Type 0
+SerialSteps =
+    (origin : DomainName) (class : ℕ) (updates zone : List (Record RData)) → how_many (is_apex_soa origin) zone ≡ 1
+    → (after : List (Record RData)) × (applied origin class zone updates true ≡ Ok (after, any_change origin class zone updates))
+    × (apex_serials origin after ≡ map (λ serial. cond (any_change origin class zone updates) (next_serial serial) serial) (apex_serials origin (fold origin class zone updates)))

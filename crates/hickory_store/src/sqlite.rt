@@ -2,6 +2,7 @@
 
 mod access;
 mod answers;
+mod changed_sets;
 mod changes;
 mod handler;
 pub mod laws;
@@ -9,6 +10,8 @@ mod names;
 mod prerequisites;
 mod prescan;
 mod required_sets;
+mod set_changes;
+mod touched;
 mod update_requests;
 mod updating;
 mod verifier;

@@ -225,7 +225,7 @@ fn take_out(
 
 /// Does what one record of an update section says, and tells whether the zone changed. Where memory is refused, records may
 /// have been taken out.
-fn take_turn(
+pub(crate) fn take_turn(
     origin: &Name,
     class: DNSClass,
     records: &mut Vec<Record>,

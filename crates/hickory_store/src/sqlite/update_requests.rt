@@ -1,8 +1,8 @@
 //! Updates as requests ask for them: who may, what is required, what may be said, and then what is done.
 
-ghost use Rattle.std.specs.Prelude.{◌≡◌, None};
+ghost use Rattle.std.specs.Prelude.{◌≡◌, ◌<◌, IfErr, IfOk, MatchResult, None, false, length, take};
 ghost use Rattle.hickory_base.specs.requests.Updates.{update_of};
-ghost use Rattle.hickory_store.specs.UpdateAnswers.{AnswersUpdate, Updates, message_outcome, told_context};
+ghost use Rattle.hickory_store.specs.UpdateAnswers.{AnswersUpdate, Updates, UpdatesAll, UpdatesOne, message_outcome, told_context};
 
 use crate::sqlite::handler::SqliteZoneHandler;
 use crate::sqlite::verifier::Verifier;
@@ -11,7 +11,7 @@ use hickory_base::message_request::MessageRequest;
 use hickory_base::server::Request;
 use hickory_base::update_request::UpdateRequest;
 use hickory_wire::TSigResponseContext;
-use std::alloc::Global;
+use std::alloc::{AllocError, Global};
 
 /// What goes with an answer for the signer of the reply: nothing where memory was refused.
 fn told_context(
@@ -31,6 +31,7 @@ impl<V: Verifier> SqliteZoneHandler<V> {
     fn update_by(&mut self, alloc: Global, message: &MessageRequest) -> Result<bool, UpdateFault>
         ensures zone { Updates (message_outcome None self.old.zone (update_of message.now)) result self.old.zone self.new.zone }
         ensures others { self.new ≡ record self.old { zone = self.new.zone } }
+        ensures untouched { IfOk result (λ changed. changed ≡ false → self.new ≡ self.old) }
     {
         match self.verify_prerequisites(alloc, message.prerequisites()) {
             Err(fault) => Err(fault),
@@ -59,5 +60,33 @@ impl<V: Verifier> SqliteZoneHandler<V> {
                 (answer, told)
             }
         }
+    }
+
+    /// Makes the update that a request asks for. An error is want of memory, after which the handler is as it was.
+    fn update_one(&mut self, alloc: Global, request: &Request, now: u64) -> Result<(), AllocError>
+        ensures { MatchResult result (λ _. UpdatesOne V.Verifier (request.now, now) self.old self.new) (λ _. self.new ≡ self.old) }
+    {
+        let (answer, _) = self.update_by_request(alloc, request, now);
+        match answer {
+            Err(UpdateFault::Memory) => Err(AllocError),
+            _ => Ok(()),
+        }
+    }
+
+    /// Makes the updates that requests ask for, each at its moment in seconds since 1970, one after another. A request that
+    /// is refused with a code leaves the zone as it was, and the next has its turn.
+    ///
+    /// Where memory is refused, the error is how many requests had their turn before: what they made is done, and the request
+    /// that wanted the memory and those behind it made nothing.
+    pub fn update_all(&mut self, alloc: Global, requests: &[(Request, u64)]) -> Result<(), usize>
+        ensures all { IfOk result (λ _. UpdatesAll V.Verifier requests.now self.old self.new) }
+        ensures some { IfErr result (λ n. (n < length requests.now) × UpdatesAll V.Verifier (take n requests.now) self.old self.new) }
+    {
+        for (n, (request, now)) in requests.iter().enumerate() {
+            let Ok(()) = self.update_one(alloc, request, *now) else {
+                return Err(n);
+            };
+        }
+        Ok(())
     }
 }

@@ -1,6 +1,6 @@
 //! Dynamic updates of a zone, whole or not at all.
 
-ghost use Rattle.std.specs.Prelude.{◌≡◌, ◌<◌, ◌^◌, IfOk, MatchOption, MatchResult, None, Ok, OnOk, false, map};
+ghost use Rattle.std.specs.Prelude.{◌≡◌, ◌<◌, ◌^◌, IfOk, MatchOption, MatchResult, None, Ok, OnOk, false, map, true};
 ghost use Rattle.std.specs.List.{AllByRecursion, list_any};
 ghost use Rattle.hickory_base.specs.zone_store.ZoneSets.{zone_records};
 ghost use Rattle.hickory_store.specs.Prescan.{prescan_refusal};
@@ -117,12 +117,13 @@ fn read_serials(records: &[Record])
 }
 
 impl<V: Verifier> SqliteZoneHandler<V> {
-    /// Does what the records of an update section say to the zone, one after another (RFC 2136 section 3.4.2), and tells
-    /// whether the zone changed. The records are some that `pre_scan` accepts. Whatever the error, the zone is as it was.
+    /// Does what the records of an update section say to the zone, one after another (RFC 2136 section 3.4.2). The records
+    /// are some that `pre_scan` accepts. Whatever the error, the zone is as it was.
     ///
-    /// Where `increments_serial` is set and some record changed the zone, the serial of its SOA is incremented; without an
-    /// SOA that is ServFail. Where it is not set, as in a replay of updates that were made before, the serial is what the
-    /// records leave, and the answer is false.
+    /// Where `increments_serial` is set and some record changed the zone, the serial of its SOA is incremented and the
+    /// answer is true; without an SOA that is ServFail. Where no record changed the zone, nothing of it is touched and the
+    /// answer is false. Where `increments_serial` is not set, as in a replay of updates that were made before, the serial is
+    /// what the records leave, and the answer is false whether they changed the zone or not.
     pub fn update_records(
         &mut self,
         alloc: Global,
@@ -132,6 +133,7 @@ impl<V: Verifier> SqliteZoneHandler<V> {
         requires { prescan_refusal self.old.zone.origin 1 updates.now ≡ None }
         ensures zone { Updates (applied self.old.zone.origin 1 (zone_records self.old.zone.sets) updates.now increments_serial) result self.old.zone self.new.zone }
         ensures others { self.new ≡ record self.old { zone = self.new.zone } }
+        ensures untouched { IfOk result (λ changed. increments_serial ≡ true → changed ≡ false → self.new ≡ self.old) }
     {
         identities();
         read_serials(updates);

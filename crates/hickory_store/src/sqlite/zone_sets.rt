@@ -18,7 +18,7 @@ use std::collections::BTreeMap;
 use std::rc::Rc;
 
 /// Sets by name and type, as a zone has them.
-type Sets = BTreeMap<RrKey, Rc<RecordSet>>;
+pub(crate) type Sets = BTreeMap<RrKey, Rc<RecordSet>>;
 
 /// The key that a record is under.
 fn key_of(alloc: Global, q: &Record) -> Result<RrKey, AllocError>
@@ -64,7 +64,7 @@ fn put_record(alloc: Global, sets: &mut Sets, q: Record) -> Result<(), AllocErro
 }
 
 /// The records as sets, each in its order.
-fn sets_of_records(alloc: Global, records: Vec<Record>) -> Result<Sets, AllocError>
+pub(crate) fn sets_of_records(alloc: Global, records: Vec<Record>) -> Result<Sets, AllocError>
     ensures { IfOk result (λ sets. HoldsSets records.items (sets_of sets)) }
 {
     let mut sets = BTreeMap::new(alloc);

@@ -1,17 +1,8 @@
 -- SOA and NS stay, since data that are the same are of one type.
-use Rattle.std.proofs.Common.{◌∙◌, sym, ap}
-use Rattle.std.specs.Prelude.{◌↔◌, IsTrue}
-use Rattle.hickory_wire.specs.rr.RecordData.{type_of}
-use Rattle.hickory_wire.specs.rr.RecordSameness.{SameData}
-use Rattle.hickory_wire.specs.declared.rr.rdata.RData.{RData}
-use Rattle.hickory_store.specs.Identity.{same_data}
-use Rattle.hickory_store.proofs.ApexNs.{OfOneType, ns_stays}
+use Rattle.hickory_store.proofs.ApexNs.{ns_stays}
 use Rattle.hickory_store.proofs.ApexSoa.{soa_stays}
-use Rattle.hickory_store.proofs.RecordByRecord.{type-lower}
+use Rattle.hickory_store.proofs.DataTypes.{one_type}
 use Rattle.hickory_store.proofs.sqlite.laws.apex_stays.Goals as goal
-
-one_type : ((a b : RData) → IsTrue (same_data a b) ↔ SameData a b) → OfOneType
-one_type same d e h = sym (type-lower d) ∙ ap type_of ((same d e).0 h) ∙ type-lower e
 
 pub returns-clause-soa : goal.returns-clause-soa
 returns-clause-soa c = soa_stays (one_type c.record_comparisons.ensures.rdata)

@@ -1,0 +1,10 @@
+use Rattle.std.proofs.Common.{◌≡◌, length}
+use Rattle.hickory_store.specs.SetChanges.{at, take_all}
+use Rattle.hickory_base.specs.declared.zone_store.record_set.RrKey.{RrKey}
+use Rattle.hickory_store.proofs.sqlite.set_changes.remove_all.Given as goal
+
+abbrev pub invariant-loop-left : goal.invariant-loop-left
+invariant-loop-left l = (q : RrKey) → take_all l.left (at l.sets) q ≡ take_all l.fn.gone (at l.fn.sets) q
+
+abbrev pub decreases-loop-left : goal.decreases-loop-left
+decreases-loop-left l = length l.left

@@ -1,0 +1,15 @@
+-- What is left of the updates does to the records of now what all of them do to the records before.
+use Rattle.std.proofs.Common.{◌≡◌, ◌||◌, List, drop}
+use Rattle.hickory_wire.specs.declared.rr.rdata.RData.{RData}
+use Rattle.hickory_wire.specs.declared.rr.record.Record.{Record}
+use Rattle.hickory_base.specs.zone_store.ZoneSets.{zone_records}
+use Rattle.hickory_store.specs.Changes.{any_change, fold}
+use Rattle.hickory_store.specs.NameUpdates.{AreNow}
+use Rattle.hickory_store.proofs.sqlite.touched.touch_all.Given as goal
+
+abbrev pub invariant-loop-r : goal.invariant-loop-r
+invariant-loop-r l =
+    (records : List (Record RData)) → AreNow (zone_records l.zone.sets) l.fn.touched records
+    → (now : List (Record RData)) × AreNow (zone_records l.zone.sets) l.touched now
+    × (fold l.zone.origin 1 now (drop l.r-index l.updates) ≡ fold l.zone.origin 1 records l.updates)
+    × ((l.changed || any_change l.zone.origin 1 now (drop l.r-index l.updates)) ≡ any_change l.zone.origin 1 records l.updates)
