@@ -1,6 +1,7 @@
 -- Each reply belongs to its request.
 use Rattle.std.proofs.Common.{◌≡◌, ℕ, Bool, true, false, cond, List, Option, Some, None, Result, Ok, Err, refl, sym, subst, ◌∙◌}
 use Rattle.std.specs.Prelude.{is_some}
+use Rattle.hickory_wire.specs.rr.domain.DomainName.{DomainName}
 use Rattle.hickory_wire.specs.op.EdnsFields.{EdnsFields}
 use Rattle.hickory_wire.specs.serialize.writing.Reply.{Reply}
 use Rattle.hickory_wire.specs.declared.op.header.Metadata.{Metadata}
@@ -22,6 +23,7 @@ use Rattle.hickory_catalog.specs.Requests.{BelongsTo}
 use Rattle.hickory_catalog.specs.Server.{Server}
 use Rattle.hickory_catalog.specs.Signing.{SignedReply, Signer, failed, plain, signed}
 use Rattle.hickory_catalog.specs.Transfers.{transfer_contents}
+use Rattle.hickory_catalog.specs.Updates.{UpdateReply, answered, no_apex, no_handler, unnamed}
 
 -- what a reply says that has the identifier of this request, and no TC
 record FitsRequest (request : Metadata) (contents : Contents) : Type 0 where
@@ -87,6 +89,14 @@ module _ {H : Type 0} (server : Server H) (request : ReceivedRequest) (edns : Op
   query_belongs (other_count _ is) = error_belongs request edns reply 1 is
   query_belongs (no_zone _ _ is) = error_belongs request edns reply 5 is
   query_belongs (zone _ _ r) = zone_belongs _ _ r
+
+-- so does the reply to an update
+pub update_belongs : {H : Type 0} (server : Server H) (request : ReceivedRequest) (edns : Option EdnsFields) (now : ℕ) (reply : Reply) (zones : List (DomainName × List H))
+    → UpdateReply server request edns now reply zones → BelongsTo request edns reply
+update_belongs server request edns now reply zones (unnamed _ is _) = error_belongs request edns reply 1 is
+update_belongs server request edns now reply zones (no_apex _ _ is _) = error_belongs request edns reply 9 is
+update_belongs server request edns now reply zones (no_handler _ _ is _) = error_belongs request edns reply 2 is
+update_belongs server request edns now reply zones (answered _ _ _ s) = signed_belongs request edns server.signer _ reply (record { id = refl; untruncated = refl }) s
 
 module _ (identifier : Option (List ℕ)) (request : ReceivedRequest) (reply : Reply) where
   -- from the reply's EDNS to that of the request

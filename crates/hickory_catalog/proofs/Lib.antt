@@ -1,10 +1,15 @@
 pub mod Asking
 pub mod Belonging
 pub mod Consulting
+pub mod DecodedReplies
+pub mod ForwardedReplies
 pub mod Lookups
 pub mod Nearest
 pub mod OneAnswer
+pub mod OneReply
 pub mod Places
 pub mod QueryReplies
+pub mod RepliesFit
 pub mod SentReplies
 pub mod Transferring
+pub mod Updating

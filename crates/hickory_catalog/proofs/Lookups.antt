@@ -56,7 +56,7 @@ module _ {V : Type 0} (name : DomainName) where
   has_found : (zones : List (DomainName × V)) (v : V) → Found zones name v → HasZone zones name
   has_found zones v f = (f.among.0, (f.apex, v), f.among.1, f.among.2, f.same)
 
-  none_has : (zones : List (DomainName × V)) → HasNone zones name → HasZone zones name → ⊥
+  pub none_has : (zones : List (DomainName × V)) → HasNone zones name → HasZone zones name → ⊥
   none_has zones none has = none has.0 has.1 has.2 (subst (λ (z : DomainName × V). SameName z.0 name) (sym has.3) has.4)
 
   has_by : (o : Option V) (zones : List (DomainName × V)) → lookup (is_at (name_cmp name)) zones ≡ o → IsTrue (is_some o) ↔ HasZone zones name

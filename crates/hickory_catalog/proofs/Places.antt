@@ -1,9 +1,9 @@
 -- A name's place in the order of zones, and what looking up, putting in and taking away do there.
-use Rattle.std.proofs.Common.{◌≡◌, false, List, [], ◌∷◌, ◌++◌, map, Option, Some, None, option_map, Result, Ok, IfOk, refl, sym, ap, ◌∙◌}
+use Rattle.std.proofs.Common.{◌≡◌, false, List, [], ◌∷◌, ◌++◌, map, Option, Some, None, option_map, Result, Ok, IfOk, refl, sym, ap, subst, ◌∙◌}
 use Rattle.std.specs.Option.{option_to_list}
 use Rattle.std.specs.List.{All, AllByRecursion}
 use Rattle.std.specs.List.Sorted.{IsStrictlySortedBy}
-use Rattle.std.specs.Map.{keys_of, lookup, remove_entry}
+use Rattle.std.specs.Map.{keys_of, lookup, remove_entry, set_value}
 use Rattle.std.specs.BTreeMap.{insert_entry, is_at}
 use Rattle.std.specs.Ordering.{is_eq, ordering_reverse}
 use Rattle.std.specs.declared.cmp.Ordering.{Ordering}
@@ -38,6 +38,7 @@ record Place {X : Type 0} (zones : List (DomainName × X)) (name : DomainName) :
   pub looked_up : lookup (is_at (name_cmp name)) zones ≡ found
   pub put : (x : X) → insert_entry name_cmp zones name x ≡ zones_around lesser apex (Some x) greater
   pub taken : remove_entry (is_at (name_cmp name)) zones ≡ zones_around lesser apex None greater
+  pub written : (x was : X) → found ≡ Some was → set_value (is_at (name_cmp name)) zones x ≡ zones_around lesser apex (Some x) greater
 
 module _ {X : Type 0} (name : DomainName) where
   abbrev Above : DomainName × X → Type 0
@@ -76,6 +77,7 @@ module _ {X : Type 0} (name : DomainName) where
     looked_up = refl;
     put = λ x. refl;
     taken = refl;
+    written = λ x was is. absurd cc;
   }
 
   before_less : (zone : DomainName × X) (zones : List (DomainName × X)) → name_cmp name zone.0 ≡ Less → AllByRecursion Above zones → Place (zone ∷ zones) name
@@ -93,6 +95,7 @@ module _ {X : Type 0} (name : DomainName) where
         looked_up = none_found (zone ∷ zones) all;
         put = λ x. rw e refl;
         taken = none_taken (zone ∷ zones) all;
+        written = λ x was is. absurd cc;
       }
 
   at_equal : (zone : DomainName × X) (zones : List (DomainName × X)) → name_cmp name zone.0 ≡ Equal → AllByRecursion Above zones → Place (zone ∷ zones) name
@@ -109,6 +112,7 @@ module _ {X : Type 0} (name : DomainName) where
         looked_up = rw e refl;
         put = λ x. rw e refl;
         taken = rw e refl;
+        written = λ x was is. rw e refl;
       }
 
   behind_greater : (zone : DomainName × X) (zones : List (DomainName × X)) → name_cmp name zone.0 ≡ Greater → Place zones name → Place (zone ∷ zones) name
@@ -125,6 +129,7 @@ module _ {X : Type 0} (name : DomainName) where
         looked_up = rw e p.looked_up;
         put = λ x. rw e (ap (λ rest. zone ∷ rest) (p.put x));
         taken = rw e (ap (λ rest. zone ∷ rest) p.taken);
+        written = λ x was is. rw e (ap (λ rest. zone ∷ rest) (p.written x was is));
       }
 
   place_by : (o : Ordering) (zone : DomainName × X) (zones : List (DomainName × X)) → name_cmp name zone.0 ≡ o → AllByRecursion (λ q. name_cmp zone.0 q ≡ Less) (keys_of zones) → Place zones name → Place (zone ∷ zones) name
@@ -180,3 +185,15 @@ module _ {X V : Type 0} (f : X → V) where
       → found ≡ lookup (is_at (name_cmp name)) zones → AreInOrder zones → new ≡ remove_entry (is_at (name_cmp name)) zones
       → ChangesAt old name (option_map f found) None (shown new)
   taken_at found name zones new old view_is found_is sorted is = rw (← view_is, found_is) (taken_changes name zones new sorted is)
+
+  pub written_at : (was x : X) (name : DomainName) (zones new : List (DomainName × X)) (old : List (DomainName × V)) → shown zones ≡ old
+      → Some was ≡ lookup (is_at (name_cmp name)) zones → AreInOrder zones → new ≡ set_value (is_at (name_cmp name)) zones x
+      → ChangesAt old name (Some (f was)) (Some (f x)) (shown new)
+  written_at was x name zones new old view_is found_is sorted is =
+      let p : Place zones name = place name zones sorted in
+      rw (← view_is) (subst (λ (o : Option X). ChangesAt (shown zones) name (option_map f o) (Some (f x)) (shown new)) (sym found_is)
+      (changed name zones new p (Some x) (is ∙ p.written x was (sym p.looked_up ∙ sym found_is))))
+
+-- where the same is kept for the name, nothing differs
+pub same_after : {V : Type 0} {old new : List (DomainName × V)} {name : DomainName} {was is : V} → ChangesAt old name (Some was) (Some is) new → is ≡ was → new ≡ old
+same_after c e = c.after ∙ ap (λ v. zones_around c.lesser c.apex (Some v) c.greater) e ∙ sym c.before

@@ -21,7 +21,7 @@ use Rattle.hickory_wire.specs.declared.rr.tsig.TSIG.{TSIG}
 use Rattle.hickory_base.specs.responses.Responses.{GivesBy, IsReplyOf, ReplyBase}
 use Rattle.hickory_base.specs.responses.Sinks.{AddsEntry}
 use Rattle.hickory_base.specs.declared.responses.message_response.MessageResponse.{MessageResponse}
-use Rattle.hickory_catalog.specs.Sending.{AddsReply, IsFailed, IsTaken, failure_header}
+use Rattle.hickory_catalog.specs.Sending.{IsFailed, IsTaken, failure_header}
 
 -- the iterator of a slice gives the slice
 pub given_by_slice : {records xs : List (Record RData)} {it : _} → GivesBy iter_steps (λ (x : Bor (Record RData)). x.now) it records → iter_rest it ≡ xs → records ≡ xs
@@ -67,25 +67,21 @@ reply_of_parts r is m q e s answers authorities soa additionals =
     reply_by_parts r _ _ _ _ _ _ _ _ _ (is.metadata ∙ m) (is.question ∙ ap (λ z. z.bytes) q) (is.question_count ∙ ap (λ z. length z.queries) q) (is.edns ∙ e) answers authorities soa additionals (is.signature ∙ s)
 
 module _ {Entry : Type 0} {P : Reply → Type 0} {shows : Reply → Entry → Type 0} {old new : List Entry} where
-  -- the entry is one of the reply
-  adds_reply : {reply r : Reply} → ((r : Reply) → P r → r ≡ reply) → AddsEntry P shows old new r → AddsReply shows old new reply
-  adds_reply {r = r} so a = (a.entry, subst (λ (x : Reply). shows x a.entry) (so r a.is_handed) a.is_shown, a.grew)
-
-  added_or_not : {reply : Reply} → ((r : Reply) → P r → r ≡ reply) → ((r : Reply) × AddsEntry P shows old new r) ⊎ (new ≡ old) → AddsReply shows old new reply ⊎ (new ≡ old)
-  added_or_not so (inl (r, added)) = inl (adds_reply so added)
+  added_or_not : {reply : Reply} → ((r : Reply) → P r → r ≡ reply) → ((r : Reply) × P r × AddsEntry (shows r) old new) ⊎ (new ≡ old) → AddsEntry (shows reply) old new ⊎ (new ≡ old)
+  added_or_not so (inl (r, is, added)) = inl (subst (λ (x : Reply). AddsEntry (shows x) old new) (so r is) added)
   added_or_not so (inr same) = inr same
 
   module _ {failures failures' : ℕ} {told : Header} where
     -- the sink took the reply
-    pub sent_after_ok : {informs : Reply → Header → Type 0} {request : Metadata} (reply : Reply) → ((r : Reply) → P r → r ≡ reply)
-        → (r : Reply) × AddsEntry P shows old new r × informs r told → failures' ≡ failures
+    pub sent_after_ok : {informs : Reply → Entry → Header → Type 0} {request : Metadata} (reply : Reply) → ((r : Reply) → P r → r ≡ reply)
+        → (r : Reply) × P r × AddsEntry (λ entry. shows r entry × informs r entry told) old new → failures' ≡ failures
         → IsTaken shows informs old new failures failures' reply told ⊎ IsFailed shows request old new failures failures' reply told
-    sent_after_ok {informs = informs} reply so (r, added, informed) uncounted =
-        inl (record { uncounted = uncounted; added = adds_reply so added; informed = subst (λ (x : Reply). informs x told) (so r added.is_handed) informed })
+    sent_after_ok {informs = informs} reply so (r, is, added) uncounted =
+        inl (record { uncounted = uncounted; added = subst (λ (x : Reply). AddsEntry (λ entry. shows x entry × informs x entry told) old new) (so r is) added })
 
     -- the sink failed
-    pub sent_after_err : {informs : Reply → Header → Type 0} {request : Metadata} (reply : Reply) → ((r : Reply) → P r → r ≡ reply)
-        → ((r : Reply) × AddsEntry P shows old new r) ⊎ (new ≡ old) → failures' ≡ (failures + 1) % 2 ^ 64 → told ≡ failure_header request
+    pub sent_after_err : {informs : Reply → Entry → Header → Type 0} {request : Metadata} (reply : Reply) → ((r : Reply) → P r → r ≡ reply)
+        → ((r : Reply) × P r × AddsEntry (shows r) old new) ⊎ (new ≡ old) → failures' ≡ (failures + 1) % 2 ^ 64 → told ≡ failure_header request
         → IsTaken shows informs old new failures failures' reply told ⊎ IsFailed shows request old new failures failures' reply told
     sent_after_err reply so added counted informed = inr (record { counted = counted; added = added_or_not so added; informed = informed })
 

@@ -1,6 +1,7 @@
 -- Replies of a server that holds the zone, or a copy of it.
 use Rattle.std.specs.Prelude.{◌≡◌, ◌==◌, ◌&&◌, ◌||◌, not, ℕ, Bool, true, false, cond, List, [], ◌∷◌, ◌++◌, Option, Some, None, Result, Ok, Err}
 use Rattle.std.specs.Bool.{MatchBool}
+use Rattle.std.specs.Option.{unwrap_or}
 use Rattle.hickory_wire.specs.op.Metadata.{response_to}
 use Rattle.hickory_wire.specs.rr.RecordData.{type_of}
 use Rattle.hickory_wire.specs.declared.op.header.Metadata.{Metadata}
@@ -64,10 +65,7 @@ referral_section query_type records = cond (is_referral query_type records) reco
 
 -- what stands in the additional section: what the zone gave with its records
 abbrev pub additional_section : AuthLookup → List (Record RData)
-additional_section found = or_none (additionals_of found) where
-  or_none : Option (List (Record RData)) → List (Record RData)
-  or_none None = []
-  or_none (Some records) = records
+additional_section found = unwrap_or (additionals_of found) []
 
 -- What a reply says with what was found, and with what else the handler gave for the authority section. AA is set with a referral too, as in
 -- the Rust crate, where RFC 1034 section 6.2.6 has it clear.

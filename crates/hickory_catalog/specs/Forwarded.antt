@@ -1,6 +1,7 @@
 -- Replies of a server that asked elsewhere.
 use Rattle.std.specs.Prelude.{◌==◌, nat_eq, ◌&&◌, ◌||◌, not, ℕ, Bool, true, false, cond, List, [], ◌∷◌, ◌++◌, filter, Option, Some, None, option_to_list, Result, Ok, Err}
 use Rattle.std.specs.List.{list_all, list_any}
+use Rattle.std.specs.Option.{unwrap_or}
 use Rattle.hickory_wire.specs.rr.domain.DomainName.{DomainName}
 use Rattle.hickory_wire.specs.op.Metadata.{response_to}
 use Rattle.hickory_wire.specs.rr.domain.NameOrder.{name_eq}
@@ -19,8 +20,22 @@ use Rattle.hickory_base.specs.declared.errors.LookupError.TheVariants.{Net}
 use Rattle.hickory_base.specs.declared.requests.message_request.MessageRequest.{MessageRequest}
 use Rattle.hickory_base.specs.declared.zone_store.lookup.AuthLookup.{AuthLookup}
 use Rattle.hickory_base.specs.declared.zone_store.lookup.AuthLookup.TheVariants.{Resolved}
-use Rattle.hickory_catalog.specs.declared.forwarded.Findings.{Findings}
+use Rattle.hickory_catalog.specs.declared.forwarded.Findings.{Findings as KeptFindings}
 use Rattle.hickory_catalog.specs.Replies.{Contents, bare_contents}
+
+-- What a server that asked elsewhere was told, as far as it is passed on: a response code, the records of the sections, the SOA of a
+-- negative answer (RFC 2308 sections 2.1 and 2.2), and whether the proof is known to be wrong, whatever the records say.
+pub record Findings : Type 0 where
+  pub code : ℕ
+  pub answers : List (Record RData)
+  pub authorities : List (Record RData)
+  pub soa : Option (Record RData)
+  pub additionals : List (Record RData)
+  pub is_bogus : Bool
+
+-- the same by what the program keeps of it
+abbrev pub seen_findings : KeptFindings → Findings
+seen_findings kept = record { code = kept.code; answers = kept.answers; authorities = kept.authorities; soa = kept.soa; additionals = kept.additionals; is_bogus = kept.is_bogus }
 
 -- a response code alone
 abbrev pub code_alone : ℕ → Bool → Findings
@@ -29,10 +44,6 @@ code_alone code is_bogus = record { code = code; answers = []; authorities = [];
 abbrev pub records_found : AuthLookup → Findings
 records_found (Resolved found) = record (code_alone 0 false) { answers = found.answers; authorities = found.authorities; additionals = found.additionals }
 records_found other = record (code_alone 0 false) { answers = answers_of other }
-
-abbrev pub or_empty : Option (List (Record RData)) → List (Record RData)
-or_empty None = []
-or_empty (Some records) = records
 
 -- a record of the name, in any letter case
 abbrev pub is_named : DomainName → Record RData → Bool
@@ -47,11 +58,11 @@ is_no_soa r = not (type_of r.rdata == 6)
 
 -- the code of a negative answer: a record of the name shows that the name exists, so that it is NoError and not NXDomain, which is 3
 abbrev pub forwarded_code : DomainName → LookupError → ℕ
-forwarded_code name e = cond (has_name name (or_empty (authorities_of e))) 0 (cond (is_nx_domain e) 3 0)
+forwarded_code name e = cond (has_name name (unwrap_or (authorities_of e) [])) 0 (cond (is_nx_domain e) 3 0)
 
 -- A negative answer (RFC 2308 sections 2.1 and 2.2): its authorities without SOA records, and the SOA that belongs to it.
 abbrev pub nothing_found : DomainName → LookupError → Findings
-nothing_found name e = record (code_alone (forwarded_code name e) false) { authorities = filter is_no_soa (or_empty (authorities_of e)); soa = soa_of e }
+nothing_found name e = record (code_alone (forwarded_code name e) false) { authorities = filter is_no_soa (unwrap_or (authorities_of e) []); soa = soa_of e }
 
 abbrev pub is_dnssec_bogus : LookupError → Bool
 is_dnssec_bogus (Net DnssecBogus) = true

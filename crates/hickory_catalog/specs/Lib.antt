@@ -1,7 +1,11 @@
 pub mod Authoritative
+pub mod AuthoritativeLaws
+pub mod DecodedReplies
 pub mod Denying
 pub mod Find
 pub mod Forwarded
+pub mod ForwardedLaws
+pub mod OneReply
 pub mod Queries
 pub mod Replies
 pub mod ReplyEdns
@@ -11,4 +15,5 @@ pub mod Server
 pub mod Signing
 pub mod Transcripts
 pub mod Transfers
+pub mod Updates
 pub mod Zones

@@ -1,5 +1,6 @@
 -- Which reply a request gets.
-use Rattle.std.specs.Prelude.{◌≡◌, ◌==◌, ℕ, Bool, true, false, cond, List, [], ◌∷◌, Option, Some, None, is_some}
+use Rattle.std.specs.Prelude.{◌≡◌, ◌==◌, ◌||◌, ℕ, Bool, true, false, cond, List, [], ◌∷◌, Option, Some, None, is_some}
+use Rattle.std.specs.Bool.{MatchBool}
 use Rattle.hickory_wire.specs.rr.domain.DomainName.{DomainName}
 use Rattle.hickory_wire.specs.op.EdnsFields.{EdnsFields}
 use Rattle.hickory_wire.specs.serialize.writing.Reply.{Reply}
@@ -7,21 +8,24 @@ use Rattle.hickory_wire.specs.declared.op.header.MessageType.{MessageType}
 use Rattle.hickory_wire.specs.declared.op.header.MessageType.TheVariants as message_type
 use Rattle.hickory_base.specs.requests.Questions.{edns_version}
 use Rattle.hickory_base.specs.requests.Requests.{ReceivedRequest}
+use Rattle.hickory_base.specs.declared.errors.CatalogError.{CatalogError}
+use Rattle.hickory_base.specs.declared.errors.CatalogError.TheVariants.{Memory}
 use Rattle.hickory_base.specs.declared.requests.message_request.MessageRequest.{MessageRequest}
 use Rattle.hickory_catalog.specs.Queries.{QueryAnswered}
 use Rattle.hickory_catalog.specs.Replies.{error_reply}
 use Rattle.hickory_catalog.specs.ReplyEdns.{reply_edns}
 use Rattle.hickory_catalog.specs.Server.{Server}
+use Rattle.hickory_catalog.specs.Updates.{UpdateAnswered, UpdateLeaves}
 
 -- QR is clear (RFC 1035 section 4.1.1)
 abbrev pub is_request : MessageType → Bool
 is_request message_type.Query = true
 is_request message_type.Response = false
 
--- A message with QR set is answered FormErr, which is 1, as in the Rust crate; opcode Query, which is 0, is served; any other is NotImp,
--- which is 4, Update too for now (codes: RFC 1035 section 4.1.1).
+-- A message with QR set is answered FormErr, which is 1, as in the Rust crate; opcodes Query, which is 0, and Update, which is 5 (RFC 2136
+-- section 1.3), are served; any other is NotImp, which is 4 (codes: RFC 1035 section 4.1.1).
 abbrev pub header_fault : MessageRequest → Option ℕ
-header_fault request = cond (is_request request.metadata.message_type) (cond (request.metadata.op_code == 0) None (Some 4)) (Some 1)
+header_fault request = cond (is_request request.metadata.message_type) (cond (request.metadata.op_code == 0 || request.metadata.op_code == 5) None (Some 4)) (Some 1)
 
 -- Why a request is not looked into: the response code that says so, of what is wrong first. Only version 0 of EDNS is known: BADVERS,
 -- which is 16 (RFC 6891 section 6.1.3).
@@ -36,9 +40,17 @@ pub data RequestAnswered {H : Type 0} (server : Server H) (request : ReceivedReq
       → zones ≡ server.zones
       → RequestAnswered server request now replies zones
   -- It is a query.
-  asks : request_fault request.message ≡ None
+  asks : request_fault request.message ≡ None → (request.message.metadata.op_code == 5) ≡ false
       → QueryAnswered server request (reply_edns server.identifier request.message.edns) now replies zones
       → RequestAnswered server request now replies zones
+  -- It is a dynamic update.
+  updates : request_fault request.message ≡ None → (request.message.metadata.op_code == 5) ≡ true
+      → UpdateAnswered server request (reply_edns server.identifier request.message.edns) now replies zones
+      → RequestAnswered server request now replies zones
+
+-- The zones after a request where memory was refused and no reply was sent: they are as before, but where an update had been made.
+abbrev pub RequestLeaves : {H : Type 0} → Server H → ReceivedRequest → ℕ → CatalogError → List (DomainName × List H) → Type 0
+RequestLeaves server request now e zones = MatchBool (request.message.metadata.op_code == 5) (UpdateLeaves server request now e zones) ((e ≡ Memory) × (zones ≡ server.zones))
 
 -- A reply has the identifier of its request (RFC 1035 section 4.1.1), and an OPT record just where there is EDNS for it (RFC 6891
 -- sections 6.1.1 and 7). TC is set only where it is cut when it is written.

@@ -1,14 +1,12 @@
 -- How one reply reaches a sink, and what the caller is told.
-use Rattle.std.specs.Prelude.{◌≡◌, ◌+◌, ◌%◌, ◌^◌, ◌⊎◌, ℕ, List, [], ◌∷◌, ◌++◌}
+use Rattle.std.specs.Prelude.{◌≡◌, ◌+◌, ◌%◌, ◌^◌, ◌⊎◌, ℕ, List}
 use Rattle.hickory_wire.specs.op.Metadata.{bare_metadata}
 use Rattle.hickory_wire.specs.serialize.writing.Reply.{Reply}
 use Rattle.hickory_wire.specs.declared.op.header.Header.{Header}
 use Rattle.hickory_wire.specs.declared.op.header.MessageType.TheVariants.{Response}
 use Rattle.hickory_wire.specs.declared.op.header.Metadata.{Metadata}
-
--- the sink has one more entry, and it is one of the reply
-abbrev pub AddsReply : {Entry : Type 0} → (Reply → Entry → Type 0) → List Entry → List Entry → Reply → Type 0
-AddsReply {Entry} shows old new reply = (entry : Entry) × shows reply entry × (new ≡ old ++ entry ∷ [])
+use Rattle.hickory_base.specs.declared.responses.response_handler.ResponseHandler.{Ghosts}
+use Rattle.hickory_base.specs.responses.Sinks.{AddsEntry}
 
 -- What is told where the sink failed: the request's id and opcode, ServFail (2), no flag but QR and nothing in any section
 -- (RFC 1035 section 4.1.1).
@@ -18,21 +16,26 @@ failure_header request = record {
   counts = record { queries = 0; answers = 0; authorities = 0; additionals = 0 };
 }
 
--- The sink took the reply and counted no failure. What is told is what the sink tells of the reply.
-pub record IsTaken {Entry : Type 0} (shows : Reply → Entry → Type 0) (informs : Reply → Header → Type 0) (old new : List Entry) (failures failures' : ℕ)
+-- The sink took the reply and counted no failure. It has one more entry, of this reply, and what is told is what it tells of that very entry.
+pub record IsTaken {Entry : Type 0} (shows : Reply → Entry → Type 0) (informs : Reply → Entry → Header → Type 0) (old new : List Entry) (failures failures' : ℕ)
     (reply : Reply) (told : Header) : Type 0 where
   pub uncounted : failures' ≡ failures
-  pub added : AddsReply shows old new reply
-  pub informed : informs reply told
+  pub added : AddsEntry (λ entry. shows reply entry × informs reply entry told) old new
 
 -- The sink counted one failure, and has the reply or not; no other reply follows. What is told is ServFail.
 pub record IsFailed {Entry : Type 0} (shows : Reply → Entry → Type 0) (request : Metadata) (old new : List Entry) (failures failures' : ℕ)
     (reply : Reply) (told : Header) : Type 0 where
   pub counted : failures' ≡ (failures + 1) % 2 ^ 64
-  pub added : AddsReply shows old new reply ⊎ (new ≡ old)
+  pub added : AddsEntry (shows reply) old new ⊎ (new ≡ old)
   pub informed : told ≡ failure_header request
 
--- The reply to a request of this metadata was handed over, once. The sink's settings, of which it depends what it shows and tells, are as before.
-abbrev pub IsSent : {Entry Settings : Type 0} → (Settings → Reply → Entry → Type 0) → (Settings → Reply → Header → Type 0) → Metadata → Settings → Settings → List Entry → List Entry → ℕ → ℕ → Reply → Header → Type 0
-IsSent shows informs request settings settings' old new failures failures' reply told = (settings' ≡ settings)
-    × (IsTaken (shows settings) (informs settings) old new failures failures' reply told ⊎ IsFailed (shows settings) request old new failures failures' reply told)
+-- The sink is as before: nothing was handed over.
+abbrev pub IsUntouched : {S Entry Settings : Type 0} → Ghosts S Entry Settings → S → S → Type 0
+IsUntouched sink old new = (sink.settings new ≡ sink.settings old) × (sink.entries new ≡ sink.entries old) × (sink.failures new ≡ sink.failures old)
+
+-- The reply to a request of this metadata was handed over, once, and this is told of it. The sink's settings, of which it depends what it shows
+-- and tells, are as before.
+abbrev pub Sends : {S Entry Settings : Type 0} → Ghosts S Entry Settings → Metadata → S → S → Reply → Header → Type 0
+Sends sink request old new reply told = (sink.settings new ≡ sink.settings old)
+    × (IsTaken (sink.shows (sink.settings old)) (sink.informs (sink.settings old)) (sink.entries old) (sink.entries new) (sink.failures old) (sink.failures new) reply told
+    ⊎ IsFailed (sink.shows (sink.settings old)) request (sink.entries old) (sink.entries new) (sink.failures old) (sink.failures new) reply told)

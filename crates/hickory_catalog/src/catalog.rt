@@ -6,9 +6,10 @@ ghost use Rattle.hickory_wire.specs.serialize.writing.Reply.{Reply};
 ghost use Rattle.hickory_base.specs.responses.Responses.{header_of};
 ghost use Rattle.hickory_catalog.specs.Find.{Finds};
 ghost use Rattle.hickory_catalog.specs.Queries.{QueryAnswered};
-ghost use Rattle.hickory_catalog.specs.Requests.{BelongsTo, RequestAnswered};
-ghost use Rattle.hickory_catalog.specs.Sending.{IsSent};
+ghost use Rattle.hickory_catalog.specs.Requests.{BelongsTo, RequestAnswered, RequestLeaves};
+ghost use Rattle.hickory_catalog.specs.Sending.{IsUntouched, Sends};
 ghost use Rattle.hickory_catalog.specs.Server.{server_of};
+ghost use Rattle.hickory_catalog.specs.Updates.{UpdateAnswered, UpdateLeaves};
 ghost use Rattle.hickory_catalog.specs.Zones.{AreInOrder, ChangesAt, HasZone};
 
 use crate::edns::{cloned, reply_edns};
@@ -16,11 +17,12 @@ use crate::queries::answer_query;
 use crate::requests::request_fault;
 use crate::sending::send_error;
 use crate::signer::ReplySigner;
+use crate::updates::answer_update;
 use crate::zones::Zones;
 use hickory_base::errors::CatalogError;
 use hickory_base::server::{Request, RequestHandler, ResponseHandler, ResponseInfo};
 use hickory_base::zone_store::ZoneHandler;
-use hickory_wire::{Edns, LowerName, NSIDPayload};
+use hickory_wire::{Edns, LowerName, NSIDPayload, OpCode};
 use std::alloc::{AllocError, Global};
 
 /// The zones that a server answers for, each with the chain of its handlers, what identifies the server, and what signs
@@ -31,7 +33,7 @@ use std::alloc::{AllocError, Global};
 /// `nsid` as bytes.
 #[derive(Drop)]
 pub struct Catalog<S: ReplySigner, H: ZoneHandler = Box<dyn ZoneHandler>> {
-    zones: Zones<H>,
+    pub(crate) zones: Zones<H>,
     nsid: Option<NSIDPayload>,
     pub(crate) signer: S,
 }
@@ -81,11 +83,11 @@ impl<S: ReplySigner, H: ZoneHandler> Catalog<S, H> {
 
     /// The chain of handlers of the zone that answers for a name: for a fully qualified name the fully qualified zone
     /// nearest above it or at it (RFC 1034 section 4.3.2, step 2), and for another name the zone of that very name.
-    pub fn find(&self, alloc: Global, name: &LowerName) -> Result<Option<&Vec<H>>, AllocError>
+    pub fn find(&self, name: &LowerName) -> Result<Option<&Vec<H>>, AllocError>
         ensures found { IfOk result (λ found. Finds self.now.zones name.now (option_map (λ chain. chain.now.items) found)) }
         ensures ordered { AreInOrder self.now.zones }
     {
-        self.zones.find(alloc, name)
+        self.zones.find(name)
     }
 
     /// Sets what identifies the server (RFC 5001), or that nothing does. It takes no memory.
@@ -133,12 +135,44 @@ impl<S: ReplySigner, H: ZoneHandler> Catalog<S, H> {
     ) -> Result<ResponseInfo, CatalogError>
         ensures replied { IfOk result (λ info. (reply : Reply) ×
             QueryAnswered (server_of H.ZoneHandler S.signature_for self.now) request.now (option_copied edns.entry) now (reply ∷ []) self.now.zones × BelongsTo request.now (option_copied edns.entry) reply ×
-            IsSent R.shows R.informs request.now.message.metadata (R.settings sink.old) (R.settings sink.new) (R.entries sink.old) (R.entries sink.new) (R.failures sink.old) (R.failures sink.new) reply (header_of info)) }
-        ensures refused { IfErr result (λ e. (e ≡ CatalogError.Memory) ×
-            (R.settings sink.new ≡ R.settings sink.old) × (R.entries sink.new ≡ R.entries sink.old) × (R.failures sink.new ≡ R.failures sink.old)) }
+            Sends R.ResponseHandler request.now.message.metadata sink.old sink.new reply (header_of info)) }
+        ensures refused { IfErr result (λ e. (e ≡ CatalogError.Memory) × IsUntouched R.ResponseHandler sink.old sink.new) }
     {
         let mut edns = cloned(edns)?;
         answer_query(self, alloc, request, &mut edns, now, sink)
+    }
+
+    /// Answers a dynamic update (RFC 2136) by the first handler of its zone, and hands the sink one reply, with this EDNS.
+    /// `now` is in seconds since 1970. QR, opcode and EDNS version of the request are not looked at. The reply's OPT record
+    /// has the high bits of its response code (RFC 6891 section 6.1.3).
+    ///
+    /// Where there is not just one question of type SOA the reply is FormErr, where its name is not itself the apex of a
+    /// zone NotAuth (RFC 2136 section 3.1), and where the zone has no handlers ServFail. The class of the zone is not looked
+    /// at. Else the first handler of the zone decides alone: a secondary one is answered NotImp, an external one NotAuth, and
+    /// a primary one makes the update or says why not. Nothing is forwarded (section 6). The reply has the id of the request
+    /// and opcode Update, no other flag than QR, the code and no records (section 3.8). It is signed as those of `lookup`
+    /// are.
+    ///
+    /// Where the sink fails the answer tells of ServFail, and an update that was made stands. `Memory` says that nothing
+    /// changed and no reply was handed over, `MemoryAfterUpdate` that the handler made the update, which stands, and no
+    /// reply was handed over.
+    pub fn update<R: ResponseHandler>(
+        &mut self,
+        alloc: Global,
+        request: &Request,
+        edns: Option<&Edns>,
+        now: u64,
+        sink: &mut R,
+    ) -> Result<ResponseInfo, CatalogError>
+        ensures replied { IfOk result (λ info. (reply : Reply) ×
+            UpdateAnswered (server_of H.ZoneHandler S.signature_for self.old) request.now (option_copied edns.entry) now (reply ∷ []) self.new.zones × BelongsTo request.now (option_copied edns.entry) reply ×
+            Sends R.ResponseHandler request.now.message.metadata sink.old sink.new reply (header_of info)) }
+        ensures refused { IfErr result (λ e. UpdateLeaves (server_of H.ZoneHandler S.signature_for self.old) request.now now e self.new.zones ×
+            IsUntouched R.ResponseHandler sink.old sink.new) }
+        ensures others { self.new ≡ record self.old { zones = self.new.zones } }
+    {
+        let mut copy = cloned(edns)?;
+        answer_update(self, alloc, request, &mut copy, now, sink)
     }
 }
 
@@ -147,11 +181,13 @@ impl<S: ReplySigner, H: ZoneHandler> RequestHandler for Catalog<S, H> {
     /// that was asked for but at least 512 bytes, and the server's identifier where it is set and the request asks for it
     /// (RFC 6891 section 6, RFC 5001).
     ///
-    /// An EDNS version but 0 is answered BADVERS, a message with QR set FormErr, an opcode but Query NotImp; what is wrong
-    /// first decides. Any other request is answered as `lookup` does with that EDNS.
+    /// An EDNS version but 0 is answered BADVERS, a message with QR set FormErr, an opcode but Query and Update NotImp; what
+    /// is wrong first decides. A query is answered as `lookup` does with that EDNS, and an update as `update` does. Only an
+    /// update changes a zone.
     ///
     /// The reply has the request's id, and an OPT record just where the request has one. TC is set only where it is cut when
-    /// it is written.
+    /// it is written. `Memory` says that nothing changed and no reply was handed over, `MemoryAfterUpdate` that an update was
+    /// made, which stands, and no reply was handed over.
     fn handle_request<R: ResponseHandler>(
         &mut self,
         alloc: Global,
@@ -161,16 +197,20 @@ impl<S: ReplySigner, H: ZoneHandler> RequestHandler for Catalog<S, H> {
     ) -> Result<ResponseInfo, CatalogError>
         ensures replied { IfOk result (λ info. (reply : Reply) ×
             RequestAnswered (server_of H.ZoneHandler S.signature_for self.old) request.now now (reply ∷ []) self.new.zones × BelongsTo request.now request.now.message.edns reply ×
-            IsSent R.shows R.informs request.now.message.metadata (R.settings sink.old) (R.settings sink.new) (R.entries sink.old) (R.entries sink.new) (R.failures sink.old) (R.failures sink.new) reply (header_of info)) }
-        ensures refused { IfErr result (λ e. (e ≡ CatalogError.Memory) ×
-            (R.settings sink.new ≡ R.settings sink.old) × (R.entries sink.new ≡ R.entries sink.old) × (R.failures sink.new ≡ R.failures sink.old)) }
-        ensures unchanged { self.new ≡ self.old }
+            Sends R.ResponseHandler request.now.message.metadata sink.old sink.new reply (header_of info)) }
+        ensures refused { IfErr result (λ e. RequestLeaves (server_of H.ZoneHandler S.signature_for self.old) request.now now e self.new.zones ×
+            IsUntouched R.ResponseHandler sink.old sink.new) }
+        ensures others { self.new ≡ record self.old { zones = self.new.zones } }
     {
         let message = request.message();
         let mut edns = reply_edns(alloc, self.nsid(), message.edns.as_ref())?;
-        match request_fault(message) {
-            Some(code) => Ok(send_error(sink, alloc, message, &mut edns, code)),
-            None => answer_query(self, alloc, request, &mut edns, now, sink),
+        if let Some(code) = request_fault(message) {
+            return Ok(send_error(sink, alloc, message, &mut edns, code));
+        }
+        if message.metadata.op_code.value() == OpCode::UPDATE.value() {
+            answer_update(self, alloc, request, &mut edns, now, sink)
+        } else {
+            answer_query(self, alloc, request, &mut edns, now, sink)
         }
     }
 }

@@ -3,7 +3,7 @@
 ghost use Rattle.std.specs.Prelude.{◌≡◌, filter, option_to_list};
 ghost use Rattle.std.specs.List.{list_all, list_any};
 ghost use Rattle.hickory_base.specs.zone_store.Lookups.{asks_for_dnssec};
-ghost use Rattle.hickory_catalog.specs.Forwarded.{code_alone, findings_contents, findings_of, forwarded_code, forwarded_contents, forwarded_metadata, has_name, is_authentic, is_bogus, is_bogus_proof, is_dnssec_bogus, is_dnssec_type, is_named, is_no_soa, is_passed_on, is_secure, is_secure_proof, nothing_found, passed_on, records_found, validated, without_bogus};
+ghost use Rattle.hickory_catalog.specs.Forwarded.{code_alone, findings_contents, findings_of, forwarded_code, forwarded_contents, forwarded_metadata, has_name, is_authentic, is_bogus, is_bogus_proof, is_dnssec_bogus, is_dnssec_type, is_named, is_no_soa, is_passed_on, is_secure, is_secure_proof, nothing_found, passed_on, records_found, seen_findings, validated, without_bogus};
 ghost use Rattle.hickory_catalog.specs.Replies.{contents_of};
 
 use crate::contents::ReplyContents;
@@ -34,7 +34,7 @@ pub(crate) struct Findings {
 
 /// A response code alone.
 fn code_alone(alloc: Global, code: ResponseCode, is_bogus: bool) -> Findings
-    ensures { result ≡ code_alone code is_bogus }
+    ensures { seen_findings result ≡ code_alone code is_bogus }
 {
     Findings {
         code,
@@ -48,7 +48,7 @@ fn code_alone(alloc: Global, code: ResponseCode, is_bogus: bool) -> Findings
 
 /// What there is to pass on of records that were found.
 fn records_found(alloc: Global, found: AuthLookup) -> Findings
-    ensures { result ≡ records_found found }
+    ensures { seen_findings result ≡ records_found found }
 {
     match found {
         AuthLookup::Empty => code_alone(alloc, ResponseCode::NO_ERROR, false),
@@ -111,7 +111,7 @@ fn forwarded_code(name: &Name, e: &LookupError) -> ResponseCode
 
 /// What there is to pass on of a negative answer.
 fn nothing_found(alloc: Global, name: &Name, e: LookupError) -> Findings
-    ensures { result ≡ nothing_found name.now e }
+    ensures { seen_findings result ≡ nothing_found name.now e }
 {
     let mut findings = code_alone(alloc, forwarded_code(name, &e), false);
     match e {
@@ -139,7 +139,7 @@ fn is_dnssec_bogus(e: &LookupError) -> bool
 
 /// What there is to pass on for an answer.
 fn findings_of(alloc: Global, name: &Name, outcome: Result<AuthLookup, LookupError>) -> Findings
-    ensures { result ≡ findings_of name.now outcome }
+    ensures { seen_findings result ≡ findings_of name.now outcome }
 {
     match outcome {
         Ok(found) => records_found(alloc, found),
@@ -183,7 +183,7 @@ fn all_are_secure(records: &[Record]) -> bool
 
 /// Whether what there is to pass on is known to be wrong.
 fn is_bogus(found: &Findings) -> bool
-    ensures { result ≡ is_bogus found.now }
+    ensures { result ≡ is_bogus (seen_findings found.now) }
 {
     found.is_bogus
         || match &found.soa {
@@ -196,7 +196,7 @@ fn is_bogus(found: &Findings) -> bool
 
 /// Whether there are records, and all are proved.
 fn is_secure(found: &Findings) -> bool
-    ensures { result ≡ is_secure found.now }
+    ensures { result ≡ is_secure (seen_findings found.now) }
 {
     if is_bogus(found) {
         return false;
@@ -214,7 +214,7 @@ fn is_secure(found: &Findings) -> bool
 
 /// What is passed on of a bogus answer.
 fn without_bogus(alloc: Global, found: Findings) -> Findings
-    ensures { result ≡ without_bogus found }
+    ensures { seen_findings result ≡ without_bogus (seen_findings found) }
 {
     let mut found = found;
     found.code = ResponseCode::SERV_FAIL;
@@ -228,7 +228,7 @@ fn without_bogus(alloc: Global, found: Findings) -> Findings
 
 /// What is passed on, for a handler that validates or not.
 fn validated(alloc: Global, validates: bool, request: &Metadata, found: Findings) -> Findings
-    ensures { result ≡ validated validates request.now found }
+    ensures { seen_findings result ≡ validated validates request.now (seen_findings found) }
 {
     if validates && is_bogus(&found) && !request.checking_disabled {
         without_bogus(alloc, found)
@@ -246,7 +246,7 @@ fn asks_for_dnssec(request: &MessageRequest) -> bool
 
 /// Whether the reply has AD.
 fn is_authentic(validates: bool, request: &MessageRequest, found: &Findings) -> bool
-    ensures { result ≡ is_authentic validates request.now found.now }
+    ensures { result ≡ is_authentic validates request.now (seen_findings found.now) }
 {
     validates && is_secure(found) && (request.metadata.authentic_data || asks_for_dnssec(request))
 }
@@ -316,7 +316,7 @@ fn findings_contents(
     authentic: bool,
     found: Findings,
 ) -> ReplyContents
-    ensures { contents_of result ≡ findings_contents request.now query.now authentic found }
+    ensures { contents_of result ≡ findings_contents request.now query.now authentic (seen_findings found) }
 {
     ReplyContents {
         metadata: forwarded_metadata(&request.metadata, authentic, found.code),

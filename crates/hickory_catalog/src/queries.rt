@@ -5,7 +5,7 @@ ghost use Rattle.hickory_wire.specs.serialize.writing.Reply.{Reply};
 ghost use Rattle.hickory_base.specs.responses.Responses.{header_of};
 ghost use Rattle.hickory_catalog.specs.Queries.{HandlerReply, QueryReply, ZoneReply, is_out_of_memory};
 ghost use Rattle.hickory_catalog.specs.Replies.{Contents, contents_of};
-ghost use Rattle.hickory_catalog.specs.Sending.{IsSent};
+ghost use Rattle.hickory_catalog.specs.Sending.{IsUntouched, Sends};
 ghost use Rattle.hickory_catalog.specs.Server.{server_of};
 ghost use Rattle.hickory_catalog.specs.Signing.{SignedReply};
 ghost use Rattle.hickory_catalog.specs.Transfers.{transfer_contents};
@@ -78,9 +78,8 @@ fn answer_outcome<H: ZoneHandler, S: ReplySigner, R: ResponseHandler>(
     ensures replied { IfOk result (λ info. (contents : Contents) × (reply : Reply) × (is_out_of_memory outcome.old ≡ false) ×
         HandlerReply H.ZoneHandler handler.now (H.zone_type_of handler.now) request.now query.now outcome.old contents ×
         SignedReply (S.signature_for signer.now) request.now.message edns.old contents context.now reply ×
-        IsSent R.shows R.informs request.now.message.metadata (R.settings sink.old) (R.settings sink.new) (R.entries sink.old) (R.entries sink.new) (R.failures sink.old) (R.failures sink.new) reply (header_of info)) }
-    ensures refused { IfErr result (λ e. (e ≡ CatalogError.Memory) ×
-        (R.settings sink.new ≡ R.settings sink.old) × (R.entries sink.new ≡ R.entries sink.old) × (R.failures sink.new ≡ R.failures sink.old)) }
+        Sends R.ResponseHandler request.now.message.metadata sink.old sink.new reply (header_of info)) }
+    ensures refused { IfErr result (λ e. (e ≡ CatalogError.Memory) × IsUntouched R.ResponseHandler sink.old sink.new) }
 {
     let contents = handler_contents(handler, alloc, request, query, outcome)?;
     let told = send_signed(
@@ -108,9 +107,8 @@ fn answer_transferred<S: ReplySigner, R: ResponseHandler>(
 ) -> Result<ResponseInfo, CatalogError>
     ensures replied { IfOk result (λ info. (reply : Reply) × (is_out_of_memory outcome ≡ false) ×
         SignedReply (S.signature_for signer.now) request.now.message edns.old (transfer_contents request.now.message.metadata outcome) context.now reply ×
-        IsSent R.shows R.informs request.now.message.metadata (R.settings sink.old) (R.settings sink.new) (R.entries sink.old) (R.entries sink.new) (R.failures sink.old) (R.failures sink.new) reply (header_of info)) }
-    ensures refused { IfErr result (λ e. (e ≡ CatalogError.Memory) ×
-        (R.settings sink.new ≡ R.settings sink.old) × (R.entries sink.new ≡ R.entries sink.old) × (R.failures sink.new ≡ R.failures sink.old)) }
+        Sends R.ResponseHandler request.now.message.metadata sink.old sink.new reply (header_of info)) }
+    ensures refused { IfErr result (λ e. (e ≡ CatalogError.Memory) × IsUntouched R.ResponseHandler sink.old sink.new) }
 {
     if is_out_of_memory(&outcome) {
         drop(outcome);
@@ -144,9 +142,8 @@ fn answer_transfer<S: ReplySigner, H: ZoneHandler, R: ResponseHandler>(
     requires { (query.now.query_type == 252) ≡ true }
     ensures replied { IfOk result (λ info. (reply : Reply) ×
         ZoneReply (server_of H.ZoneHandler S.signature_for catalog.now) chain.now request.now edns.old now query.now reply ×
-        IsSent R.shows R.informs request.now.message.metadata (R.settings sink.old) (R.settings sink.new) (R.entries sink.old) (R.entries sink.new) (R.failures sink.old) (R.failures sink.new) reply (header_of info)) }
-    ensures refused { IfErr result (λ e. (e ≡ CatalogError.Memory) ×
-        (R.settings sink.new ≡ R.settings sink.old) × (R.entries sink.new ≡ R.entries sink.old) × (R.failures sink.new ≡ R.failures sink.old)) }
+        Sends R.ResponseHandler request.now.message.metadata sink.old sink.new reply (header_of info)) }
+    ensures refused { IfErr result (λ e. (e ≡ CatalogError.Memory) × IsUntouched R.ResponseHandler sink.old sink.new) }
 {
     match ask_for_transfer(chain, alloc, request, now) {
         None => {
@@ -183,9 +180,8 @@ fn answer_lookup<S: ReplySigner, H: ZoneHandler, R: ResponseHandler>(
     requires { (query.now.query_type == 252) ≡ false }
     ensures replied { IfOk result (λ info. (reply : Reply) ×
         ZoneReply (server_of H.ZoneHandler S.signature_for catalog.now) chain.now request.now edns.old now query.now reply ×
-        IsSent R.shows R.informs request.now.message.metadata (R.settings sink.old) (R.settings sink.new) (R.entries sink.old) (R.entries sink.new) (R.failures sink.old) (R.failures sink.new) reply (header_of info)) }
-    ensures refused { IfErr result (λ e. (e ≡ CatalogError.Memory) ×
-        (R.settings sink.new ≡ R.settings sink.old) × (R.entries sink.new ≡ R.entries sink.old) × (R.failures sink.new ≡ R.failures sink.old)) }
+        Sends R.ResponseHandler request.now.message.metadata sink.old sink.new reply (header_of info)) }
+    ensures refused { IfErr result (λ e. (e ≡ CatalogError.Memory) × IsUntouched R.ResponseHandler sink.old sink.new) }
 {
     let info = RequestInfo::new(request.src(), request.protocol(), request.metadata(), query);
     let options = LookupOptions::from_edns(edns.as_ref());
@@ -224,16 +220,15 @@ pub(crate) fn answer_query<S: ReplySigner, H: ZoneHandler, R: ResponseHandler>(
 ) -> Result<ResponseInfo, CatalogError>
     ensures replied { IfOk result (λ info. (reply : Reply) ×
         QueryReply (server_of H.ZoneHandler S.signature_for catalog.now) request.now edns.old now reply ×
-        IsSent R.shows R.informs request.now.message.metadata (R.settings sink.old) (R.settings sink.new) (R.entries sink.old) (R.entries sink.new) (R.failures sink.old) (R.failures sink.new) reply (header_of info)) }
-    ensures refused { IfErr result (λ e. (e ≡ CatalogError.Memory) ×
-        (R.settings sink.new ≡ R.settings sink.old) × (R.entries sink.new ≡ R.entries sink.old) × (R.failures sink.new ≡ R.failures sink.old)) }
+        Sends R.ResponseHandler request.now.message.metadata sink.old sink.new reply (header_of info)) }
+    ensures refused { IfErr result (λ e. (e ≡ CatalogError.Memory) × IsUntouched R.ResponseHandler sink.old sink.new) }
 {
     let message = request.message();
     let info = match request.request_info() {
         Ok(info) => info,
         Err(_) => return Ok(send_error(sink, alloc, message, edns, ResponseCode::FORM_ERR)),
     };
-    match catalog.find(alloc, info.query.name())? {
+    match catalog.find(info.query.name())? {
         None => Ok(send_error(sink, alloc, message, edns, ResponseCode::REFUSED)),
         Some(chain) => {
             let chain = chain.as_slice();

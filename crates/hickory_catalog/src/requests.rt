@@ -13,7 +13,8 @@ fn header_fault(request: &MessageRequest) -> Option<ResponseCode>
     match request.metadata.message_type {
         MessageType::Response => Some(ResponseCode::FORM_ERR),
         MessageType::Query => {
-            if request.metadata.op_code.value() == OpCode::QUERY.value() {
+            let op_code = request.metadata.op_code.value();
+            if op_code == OpCode::QUERY.value() || op_code == OpCode::UPDATE.value() {
                 None
             } else {
                 Some(ResponseCode::NOT_IMP)

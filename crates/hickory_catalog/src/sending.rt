@@ -6,7 +6,7 @@ ghost use Rattle.std.specs.Option.{option_copied};
 ghost use Rattle.hickory_wire.specs.serialize.writing.Reply.{Reply};
 ghost use Rattle.hickory_base.specs.responses.Responses.{GivesBy, IsReplyOf, header_of};
 ghost use Rattle.hickory_catalog.specs.Replies.{contents_of, error_reply, plain_reply};
-ghost use Rattle.hickory_catalog.specs.Sending.{IsSent, failure_header};
+ghost use Rattle.hickory_catalog.specs.Sending.{Sends, failure_header};
 
 use crate::contents::{ReplyContents, response};
 use crate::edns::set_high_code;
@@ -58,7 +58,7 @@ where
     requires additionals { D.can_next response.additionals × IsFinite (D.remaining response.additionals) }
     // The reply that is sent is the one that the response determines.
     ensures { (reply : Reply) → ((r : Reply) → IsReplyOf (GivesBy A.next_gives A.Item.record_of) (GivesBy N.next_gives N.Item.record_of) (GivesBy S.next_gives S.Item.record_of) (GivesBy D.next_gives D.Item.record_of) response.entry r → r ≡ reply)
-        → IsSent R.shows R.informs request.now (R.settings sink.old) (R.settings sink.new) (R.entries sink.old) (R.entries sink.new) (R.failures sink.old) (R.failures sink.new) reply (header_of result) }
+        → Sends R.ResponseHandler request.now sink.old sink.new reply (header_of result) }
 {
     match sink.send_response(alloc, response) {
         Ok(info) => info,
@@ -75,7 +75,7 @@ pub(crate) fn send_contents<R: ResponseHandler>(
     contents: &ReplyContents,
     signature: Option<Boxed<Record<TSIG>>>,
 ) -> ResponseInfo
-    ensures { IsSent R.shows R.informs request.now.metadata (R.settings sink.old) (R.settings sink.new) (R.entries sink.old) (R.entries sink.new) (R.failures sink.old) (R.failures sink.new)
+    ensures { Sends R.ResponseHandler request.now.metadata sink.old sink.new
         (record (plain_reply request.now (option_copied edns.entry) (contents_of contents.now)) { signature = signature }) (header_of result) }
 {
     let mut response = response(request, edns, contents);
@@ -91,7 +91,7 @@ pub(crate) fn send_error<R: ResponseHandler>(
     edns: &mut Option<Edns>,
     code: ResponseCode,
 ) -> ResponseInfo
-    ensures { IsSent R.shows R.informs request.now.metadata (R.settings sink.old) (R.settings sink.new) (R.entries sink.old) (R.entries sink.new) (R.failures sink.old) (R.failures sink.new) (error_reply request.now edns.old code) (header_of result) }
+    ensures { Sends R.ResponseHandler request.now.metadata sink.old sink.new (error_reply request.now edns.old code) (header_of result) }
 {
     set_high_code(code, edns);
     let contents = ReplyContents::error(alloc, &request.metadata, code);

@@ -8,7 +8,7 @@ ghost use Rattle.hickory_wire.specs.serialize.writing.ReplyParts.{Refused};
 ghost use Rattle.hickory_wire.specs.serialize.writing.Writing.{Fronts, Written};
 ghost use Rattle.hickory_base.specs.responses.Responses.{header_of};
 ghost use Rattle.hickory_catalog.specs.Replies.{contents_of, plain_reply};
-ghost use Rattle.hickory_catalog.specs.Sending.{IsSent};
+ghost use Rattle.hickory_catalog.specs.Sending.{IsUntouched, Sends};
 ghost use Rattle.hickory_catalog.specs.Signing.{IsSignatureOf, SignedReply};
 
 use crate::contents::{ReplyContents, response};
@@ -92,9 +92,8 @@ pub(crate) fn send_signed<S: ReplySigner, R: ResponseHandler>(
 ) -> Result<ResponseInfo, CatalogError>
     ensures replied { IfOk result (λ info. (reply : Reply) ×
         SignedReply (S.signature_for signer.now) request.now edns.old (contents_of contents.now) context.now reply ×
-        IsSent R.shows R.informs request.now.metadata (R.settings sink.old) (R.settings sink.new) (R.entries sink.old) (R.entries sink.new) (R.failures sink.old) (R.failures sink.new) reply (header_of info)) }
-    ensures refused { IfErr result (λ e. (e ≡ CatalogError.Memory) ×
-        (R.settings sink.new ≡ R.settings sink.old) × (R.entries sink.new ≡ R.entries sink.old) × (R.failures sink.new ≡ R.failures sink.old)) }
+        Sends R.ResponseHandler request.now.metadata sink.old sink.new reply (header_of info)) }
+    ensures refused { IfErr result (λ e. (e ≡ CatalogError.Memory) × IsUntouched R.ResponseHandler sink.old sink.new) }
 {
     set_high_code(contents.metadata.response_code, edns);
     let Some(context) = context else {

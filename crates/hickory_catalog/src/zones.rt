@@ -2,8 +2,12 @@
 
 ghost use Rattle.std.specs.Prelude.{◌≡◌, ◌↔◌, [], IfOk, IfErr, OnErr, IsTrue, Some, None, option_map};
 ghost use Rattle.hickory_catalog.specs.Zones.{AreInOrder, HasZone, ChangesAt};
+ghost use Rattle.hickory_catalog.specs.Updates.{ZoneUpdated};
 ghost use Rattle.hickory_catalog.specs.Find.{Finds, OneAnswers, CaseDoesNotMatter};
 
+use crate::updates::{ZoneUpdate, update_chain};
+use hickory_base::server::Request;
+use hickory_base::zone_store::ZoneHandler;
 use hickory_wire::LowerName;
 use std::alloc::{AllocError, AllocFailed, Global};
 use std::collections::BTreeMap;
@@ -75,7 +79,7 @@ impl<H: Drop> Zones<H> {
 
     /// The chain of handlers of the zone that answers for a name: for a fully qualified name the fully qualified zone
     /// nearest above it or at it (RFC 1034, section 4.3.2, step 2), and for another name the zone of that very name.
-    pub fn find(&self, alloc: Global, name: &LowerName) -> Result<Option<&Vec<H>>, AllocError>
+    pub fn find(&self, name: &LowerName) -> Result<Option<&Vec<H>>, AllocError>
         ensures found { IfOk result (λ found. Finds self.now name.now (option_map (λ chain. chain.now.items) found)) }
         ensures ordered { AreInOrder self.now }
     {
@@ -93,6 +97,27 @@ impl<H: Drop> Zones<H> {
             }
         }
         Ok(None)
+    }
+}
+
+impl<H: ZoneHandler> Zones<H> {
+    /// Asks the first handler of the zone of just this apex for an update.
+    pub(crate) fn update(
+        &mut self,
+        alloc: Global,
+        name: &LowerName,
+        request: &Request,
+        now: u64,
+    ) -> ZoneUpdate
+        ensures { ZoneUpdated H.ZoneHandler request.now now name.now self.old result self.new }
+    {
+        let Some(chain) = self.chains.get_mut(name) else {
+            return ZoneUpdate::NoZone;
+        };
+        match update_chain(chain, alloc, request, now) {
+            None => ZoneUpdate::NoHandler,
+            Some((answer, context)) => ZoneUpdate::Answered(answer, context),
+        }
     }
 }
 

@@ -1,0 +1,223 @@
+-- A query has one reply where each call of a handler has one answer.
+use Rattle.std.proofs.Common.{◌≡◌, ℕ, suc, Bool, true, false, List, ◌∷◌, Option, Some, None, Result, Ok, Err, refl, sym, ap, subst, ◌∙◌}
+use Rattle.std.specs.Bool.{MatchBool}
+use Rattle.std.specs.Prelude.{◌==◌, slice_get}
+use Rattle.std.specs.List.{remove}
+use Rattle.std.specs.Option.{option_or}
+use Rattle.hickory_wire.specs.op.EdnsFields.{EdnsFields}
+use Rattle.hickory_wire.specs.rr.domain.NameOrder.{lower_name}
+use Rattle.hickory_wire.specs.serialize.writing.Reply.{Reply}
+use Rattle.hickory_wire.specs.declared.op.query.Query.{Query}
+use Rattle.hickory_wire.specs.declared.rr.record.Record.{Record}
+use Rattle.hickory_wire.specs.declared.rr.tsig.TSIG.{TSIG}
+use Rattle.hickory_wire.specs.declared.rr.tsig.TSigResponseContext.{TSigResponseContext}
+use Rattle.hickory_base.specs.zone_store.Lookups.{Flow, answers_of, result_of}
+use Rattle.hickory_base.specs.requests.Requests.{ReceivedRequest, RequestInformation, information}
+use Rattle.hickory_base.specs.declared.errors.LookupError.{LookupError}
+use Rattle.hickory_base.specs.declared.zone_store.handler.NxProofKind.{NxProofKind}
+use Rattle.hickory_base.specs.declared.zone_store.handler.NxProofKind.TheVariants.{Nsec, Nsec3}
+use Rattle.hickory_base.specs.declared.zone_store.handler.ZoneHandler.{Ghosts}
+use Rattle.hickory_base.specs.declared.zone_store.handler.ZoneType.{ZoneType}
+use Rattle.hickory_base.specs.declared.zone_store.handler.ZoneType.TheVariants.{Primary, Secondary, External}
+use Rattle.hickory_base.specs.declared.zone_store.lookup.AuthLookup.{AuthLookup}
+use Rattle.hickory_base.specs.declared.zone_store.lookup.LookupControlFlow.TheVariants.{Continue, Break, Skip}
+use Rattle.hickory_base.specs.declared.zone_store.lookup.LookupOptions.{LookupOptions}
+use Rattle.hickory_base.specs.declared.zone_store.lookup.ZoneTransfer.{ZoneTransfer}
+use Rattle.hickory_catalog.specs.Authoritative.{AuthoritativeReply, BesideAnswer, authoritative_metadata, denies, finds, negative_contents, positive_contents, refuses}
+use Rattle.hickory_catalog.specs.Denying.{DenialGiven, DenialOfNegative, is_wildcard_match, needs_denial}
+use Rattle.hickory_catalog.specs.Find.{Finds}
+use Rattle.hickory_catalog.specs.OneReply.{AnswersOnce, Given, SignsOnce, TransferGiven, transfer_wants_memory}
+use Rattle.hickory_catalog.specs.Queries.{HandlerReply, QueryReply, ZoneReply, consult_options, is_out_of_memory, lookup, no_zone, other_count, transfer, unanswered, untransferred, zone}
+use Rattle.hickory_catalog.specs.Replies.{Contents, bare_contents}
+use Rattle.hickory_catalog.specs.Server.{Server}
+use Rattle.hickory_catalog.specs.Signing.{IsSigned, SignedReply, Signer, failed, plain, signed}
+use Rattle.hickory_catalog.specs.Transcripts.{Asked, ChainAnswers, Consulted, Follows, IsAnswer, all_consulted, consulted, options_of, out_of_memory, wants_memory}
+use Rattle.hickory_catalog.specs.Transcripts as transcripts
+use Rattle.hickory_catalog.specs.Transfers.{TransferAsked, transfer_contents}
+use Rattle.hickory_catalog.specs.Transfers as transfers
+use Rattle.hickory_catalog.specs.Zones.{AreInOrder}
+use Rattle.hickory_catalog.proofs.OneAnswer.{one_answer}
+
+-- the reply with its signature
+signed_once : (signer : Signer) → SignsOnce signer → (failure unsigned one other : Reply) (context : Option TSigResponseContext)
+    → IsSigned signer failure unsigned one context → IsSigned signer failure unsigned other context → one ≡ other
+signed_once signer signs failure unsigned one other _ (plain e) (plain f) = e ∙ sym f
+signed_once signer signs failure unsigned one other (Some context) (signed s e) (signed t f) =
+    let same = signs context unsigned _ _ s t in e ∙ ap (λ (o : Option (Record TSIG)). record unsigned { signature = o }) same ∙ sym f
+signed_once signer signs failure unsigned one other (Some context) (signed s e) (failed t f) = absurd (let same = signs context unsigned _ _ s t in cc)
+signed_once signer signs failure unsigned one other (Some context) (failed s e) (signed t f) = absurd (let same = signs context unsigned _ _ s t in cc)
+signed_once signer signs failure unsigned one other (Some context) (failed s e) (failed t f) = e ∙ sym f
+
+-- an answer that is there tells of no memory where its result does
+free_result : (final : Flow) (result : Result AuthLookup LookupError) → result_of final ≡ Some result → is_out_of_memory result ≡ false → wants_memory final ≡ false
+free_result (Continue (Ok found)) result e free = refl
+free_result (Continue (Err e')) result e free = let same : Err e' ≡ result = cc in subst (λ (r : Result AuthLookup LookupError). is_out_of_memory r ≡ false) (sym same) free
+free_result (Break (Ok found)) result e free = refl
+free_result (Break (Err e')) result e free = let same : Err e' ≡ result = cc in subst (λ (r : Result AuthLookup LookupError). is_out_of_memory r ≡ false) (sym same) free
+free_result Skip result e free = refl
+
+free_none : (final : Flow) → result_of final ≡ None → wants_memory final ≡ false
+free_none (Continue result) e = absurd cc
+free_none (Break result) e = absurd cc
+free_none Skip e = refl
+
+module _ {H : Type 0} (handler : Ghosts H) (once : AnswersOnce handler) (request : ReceivedRequest) where
+  transfer_once : (now : ℕ) (chain : List H) (one other : TransferGiven) → transfer_wants_memory one ≡ false → transfer_wants_memory other ≡ false
+      → TransferAsked handler request now chain one → TransferAsked handler request now chain other → one ≡ other
+  transfer_once now _ _ _ f g transfers.nobody transfers.nobody = refl
+  transfer_once now (h ∷ hs) one other f g (transfers.passed a r) (transfers.passed b s) = transfer_once now hs one other f g r s
+  transfer_once now (h ∷ hs) _ _ f g (transfers.passed a r) (transfers.answered b) = absurd (let same = once.transfer h request (options_of request) now _ _ refl g a b in cc)
+  transfer_once now (h ∷ hs) _ _ f g (transfers.answered a) (transfers.passed b s) = absurd (let same = once.transfer h request (options_of request) now _ _ f refl a b in cc)
+  transfer_once now (h ∷ hs) _ _ f g (transfers.answered a) (transfers.answered b) = once.transfer h request (options_of request) now _ _ f g a b
+
+  asked_once : (options : LookupOptions) (chain : List H) (p q : ℕ) (one other : Flow) (c d : Option TSigResponseContext) → wants_memory one ≡ false → wants_memory other ≡ false
+      → Asked handler request options chain p one c → Asked handler request options chain q other d → (p ≡ q) × (one ≡ other) × (c ≡ d)
+  asked_once options _ _ _ _ _ _ _ f g transcripts.nobody transcripts.nobody = (refl, refl, refl)
+  asked_once options (h ∷ hs) _ _ one other c d f g (transcripts.skipped a r) (transcripts.skipped b s) =
+      let rest = asked_once options hs _ _ one other c d f g r s in (ap suc rest.0, rest.1, rest.2)
+  asked_once options (h ∷ hs) _ _ one other c d f g (transcripts.skipped {dropped = x} a r) (transcripts.answered is b) =
+      absurd (let same = once.search h request options (Skip, x) (other, d) refl g a b in subst IsAnswer (sym (ap (λ (y : Given). y.0) same)) is)
+  asked_once options (h ∷ hs) _ _ one other c d f g (transcripts.answered is a) (transcripts.skipped {dropped = x} b s) =
+      absurd (let same = once.search h request options (one, c) (Skip, x) f refl a b in subst IsAnswer (ap (λ (y : Given). y.0) same) is)
+  asked_once options (h ∷ hs) _ _ one other c d f g (transcripts.answered i a) (transcripts.answered j b) =
+      let same = once.search h request options (one, c) (other, d) f g a b in (refl, ap (λ (y : Given). y.0) same, ap (λ (y : Given). y.1) same)
+
+  module _ (info : RequestInformation) (options : LookupOptions) where
+    free_before : {hs : List H} {first final : Flow} {c d : Option TSigResponseContext} → Consulted handler info options hs first c final d → wants_memory final ≡ false → wants_memory first ≡ false
+    free_before all_consulted free = free
+    free_before (out_of_memory wants) free = free
+    free_before (consulted not_wanted gives rest) free = not_wanted
+
+    consulted_once : (hs : List H) (first one other : Flow) (c d e : Option TSigResponseContext) → wants_memory one ≡ false → wants_memory other ≡ false
+        → Consulted handler info options hs first c one d → Consulted handler info options hs first c other e → (one ≡ other) × (d ≡ e)
+    consulted_once _ _ _ _ _ _ _ f g all_consulted all_consulted = (refl, refl)
+    consulted_once _ _ _ _ _ _ _ f g all_consulted (out_of_memory w) = (refl, refl)
+    consulted_once _ _ _ _ _ _ _ f g (out_of_memory w) s = absurd cc
+    consulted_once (h ∷ hs) first one other c d e f g (consulted w a r) (out_of_memory v) = absurd cc
+    consulted_once (h ∷ hs) first one other c d e f g (consulted {given = x} {fresh = m} w a r) (consulted {given = y} {fresh = n} v b s) =
+        let same = once.consult h (lower_name info.query.name) info.query.query_type (Some info) options first (x, m) (y, n) (free_before r f) (free_before s g) a b in
+        consulted_once hs x one other (option_or m c) d e f g r
+        (subst (λ (z : Given). Consulted handler info options hs z.0 (option_or z.1 c) other e) (sym same) s)
+
+    free_followed : (others : List H) (answer final : Flow) (c d : Option TSigResponseContext) → Follows handler info options others answer c final d → wants_memory final ≡ false → wants_memory answer ≡ false
+    free_followed others (Continue result) final c d r free = free_before r free
+    free_followed others (Break result) final c d r free = subst (λ (x : Flow). wants_memory x ≡ false) r.0 free
+    free_followed others Skip final c d r free = refl
+
+    followed_once : (others : List H) (answer one other : Flow) (c d e : Option TSigResponseContext) → wants_memory one ≡ false → wants_memory other ≡ false
+        → Follows handler info options others answer c one d → Follows handler info options others answer c other e → (one ≡ other) × (d ≡ e)
+    followed_once others (Continue result) one other c d e f g r s = consulted_once others (Continue result) one other c d e f g r s
+    followed_once others (Break result) one other c d e f g r s = (r.0 ∙ sym s.0, r.1 ∙ sym s.1)
+    followed_once others Skip one other c d e f g r s = (r.0 ∙ sym s.0, r.1 ∙ sym s.1)
+
+    chain_once : (chain : List H) (p q : ℕ) (one other : Flow) (d e : Option TSigResponseContext) → wants_memory one ≡ false → wants_memory other ≡ false
+        → ChainAnswers handler request info options chain p one d → ChainAnswers handler request info options chain q other e → (p ≡ q) × (one ≡ other) × (d ≡ e)
+    chain_once chain p q one other d e f g r s =
+        let first = asked_once (options_of request) chain p q r.answer s.answer r.context s.context
+        (free_followed (remove chain p) r.answer one r.context d r.followed f) (free_followed (remove chain q) s.answer other s.context e s.followed g) r.asked s.asked in
+        let place = subst (λ (n : ℕ). Follows handler info options (remove chain n) s.answer s.context other e) (sym first.0) s.followed in
+        let answer = subst (λ (x : Flow). Follows handler info options (remove chain p) x s.context other e) (sym first.1) place in
+        let context = subst (λ (x : Option TSigResponseContext). Follows handler info options (remove chain p) r.answer x other e) (sym first.2) answer in
+        let rest = followed_once (remove chain p) r.answer one other r.context d e f g r.followed context in
+        (first.0, rest.0, rest.1)
+
+  module _ (h : H) (query : Query) where
+    denial_once : (wildcard : Bool) (options : LookupOptions) (kind : Option NxProofKind) (one other : Flow) → wants_memory one ≡ false → wants_memory other ≡ false
+        → DenialGiven handler h query wildcard options kind one → DenialGiven handler h query wildcard options kind other → one ≡ other
+    denial_once wildcard options None one other f g a b = a ∙ sym b
+    denial_once wildcard options (Some Nsec) one other f g a b = once.nsec h (lower_name query.name) options one other f g a b
+    denial_once wildcard options (Some (Nsec3 algorithm salt iterations opt_out)) one other f g a b = once.nsec3 h _ options one other f g a b
+
+    negative_once : (options : LookupOptions) (one other : Flow) → wants_memory one ≡ false → wants_memory other ≡ false
+        → DenialOfNegative handler h query options one → DenialOfNegative handler h query options other → one ≡ other
+    negative_once options one other f g a b = asked options.dnssec_ok a b where
+      asked : (yes : Bool) → MatchBool yes (DenialGiven handler h query false options (handler.nx_proof_kind_of h) one) (one ≡ Skip)
+          → MatchBool yes (DenialGiven handler h query false options (handler.nx_proof_kind_of h) other) (other ≡ Skip) → one ≡ other
+      asked true a b = denial_once false options (handler.nx_proof_kind_of h) one other f g a b
+      asked false a b = a ∙ sym b
+
+    beside_once : (options : LookupOptions) (found : AuthLookup) (one other : Flow) → wants_memory one ≡ false → wants_memory other ≡ false
+        → BesideAnswer handler h query options found one → BesideAnswer handler h query options found other → one ≡ other
+    beside_once options found one other f g a b = asked (query.query_type == 6) (needs_denial (handler.nx_proof_kind_of h) (is_wildcard_match (answers_of found))) a b where
+      asked : (soa needs : Bool)
+          → MatchBool soa (handler.lookup_gives h (handler.origin_of h) 2 None options one) (MatchBool needs (DenialGiven handler h query (is_wildcard_match (answers_of found)) options (handler.nx_proof_kind_of h) one) (one ≡ Skip))
+          → MatchBool soa (handler.lookup_gives h (handler.origin_of h) 2 None options other) (MatchBool needs (DenialGiven handler h query (is_wildcard_match (answers_of found)) options (handler.nx_proof_kind_of h) other) (other ≡ Skip))
+          → one ≡ other
+      asked true needs a b = once.lookup h (handler.origin_of h) 2 None options one other f g a b
+      asked false true a b = denial_once (is_wildcard_match (answers_of found)) options (handler.nx_proof_kind_of h) one other f g a b
+      asked false false a b = a ∙ sym b
+
+    authoritative_once : (result : Result AuthLookup LookupError) (one other : Contents) → AuthoritativeReply handler h request query one result → AuthoritativeReply handler h request query other result → one ≡ other
+    authoritative_once (Err e) one other (refuses {code = m} a is) (refuses {code = n} b are) =
+        let same : m ≡ n = cc in is ∙ ap (λ (code : ℕ). bare_contents (authoritative_metadata request.message.metadata code)) same ∙ sym are
+    authoritative_once (Err e) one other (refuses a is) (denies d s none _ _ _ _ are) = absurd cc
+    authoritative_once (Err e) one other (denies d s none _ _ _ _ is) (refuses b are) = absurd cc
+    authoritative_once (Err e) one other (denies d s _ dg df sg sf is) (denies x y _ xg xf yg yf are) =
+        let denial : d ≡ x = negative_once (options_of request) d x df xf dg xg in
+        let soa : s ≡ y = once.lookup h (handler.origin_of h) 6 None (options_of request) s y sf yf sg yg in
+        is ∙ ap (λ (z : Flow). negative_contents request.message.metadata e z s) denial ∙ ap (λ (z : Flow). negative_contents request.message.metadata e x z) soa ∙ sym are
+    authoritative_once (Ok found) one other (finds b bg bf is) (finds c cg cf are) =
+        let beside : b ≡ c = beside_once (options_of request) found b c bf cf bg cg in
+        is ∙ ap (λ (z : Flow). positive_contents request.message.metadata query.query_type found z) beside ∙ sym are
+
+    handler_once : (zone_type : ZoneType) (result : Result AuthLookup LookupError) (one other : Contents) → HandlerReply handler h zone_type request query result one → HandlerReply handler h zone_type request query result other → one ≡ other
+    handler_once Primary result one other r s = authoritative_once result one other r s
+    handler_once Secondary result one other r s = authoritative_once result one other r s
+    handler_once External result one other r s = r ∙ sym s
+
+module _ {H : Type 0} (server : Server H) (once : AnswersOnce server.handler) (signs : SignsOnce server.signer) (request : ReceivedRequest) (edns : Option EdnsFields) (now : ℕ) (one other : Reply) where
+  zone_once : (chain : List H) (query : Query) → ZoneReply server chain request edns now query one → ZoneReply server chain request edns now query other → one ≡ other
+  zone_once chain query (untransferred t a is) (untransferred u b are) = is ∙ sym are
+  zone_once chain query (untransferred t a is) (transfer u b g s) = absurd (let same = transfer_once server.handler once request now chain _ _ refl g a b in cc)
+  zone_once chain query (untransferred t a is) (unanswered u b n are) = absurd cc
+  zone_once chain query (untransferred t a is) (lookup x u b n at g r s) = absurd cc
+  zone_once chain query (transfer t a f s) (untransferred u b is) = absurd (let same = transfer_once server.handler once request now chain _ _ f refl a b in cc)
+  zone_once chain query (transfer {result = m} {context = c} t a f s) (transfer {result = n} {context = d} u b g v) =
+      let same = transfer_once server.handler once request now chain (Some (m, c)) (Some (n, d)) f g a b in
+      let both : (m, c) ≡ (n, d) = cc in
+      signed_once server.signer signs _ _ one other c s
+      (subst (λ (z : Result ZoneTransfer LookupError × Option TSigResponseContext). SignedReply server.signer request.message edns (transfer_contents request.message.metadata z.0) z.1 other) (sym both) v)
+  zone_once chain query (transfer t a f s) (unanswered u b n are) = absurd cc
+  zone_once chain query (transfer t a f s) (lookup x u b n at g r v) = absurd cc
+  zone_once chain query (unanswered t a n is) (untransferred u b are) = absurd cc
+  zone_once chain query (unanswered t a n is) (transfer u b g s) = absurd cc
+  zone_once chain query (unanswered t a n is) (unanswered u b m are) = is ∙ sym are
+  zone_once chain query (unanswered {place = p} {final = x} {context = c} t a n is) (lookup {place = q} {final = y} {result = m} {context = d} z u b some at g r s) =
+      absurd (let all = chain_once server.handler once request (information request query) (consult_options edns) chain p q x y c d (free_none x n) (free_result y m some g) a b in
+      let e : result_of x ≡ result_of y = ap result_of all.1 in cc)
+  zone_once chain query (lookup z t a some at f r s) (untransferred u b are) = absurd cc
+  zone_once chain query (lookup z t a some at f r s) (transfer u b g v) = absurd cc
+  zone_once chain query (lookup {place = p} {final = x} {result = m} {context = c} z t a some at f r s) (unanswered {place = q} {final = y} {context = d} u b n are) =
+      absurd (let all = chain_once server.handler once request (information request query) (consult_options edns) chain p q x y c d (free_result x m some f) (free_none y n) a b in
+      let e : result_of x ≡ result_of y = ap result_of all.1 in cc)
+  zone_once chain query (lookup {place = p} {h = h} {final = x} {result = m} {context = c} z t a some at f r s) (lookup {place = q} {h = k} {final = y} {result = n} {context = d} w u b there within g v y') =
+      let all = chain_once server.handler once request (information request query) (consult_options edns) chain p q x y c d (free_result x m some f) (free_result y n there g) a b in
+      let results : result_of x ≡ result_of y = ap result_of all.1 in
+      let result : m ≡ n = cc in
+      let places : slice_get chain p ≡ slice_get chain q = ap (slice_get chain) all.0 in
+      let handlers : h ≡ k = cc in
+      let by_handler = subst (λ (i : H). HandlerReply server.handler i (server.handler.zone_type_of i) request query n w) (sym handlers) v in
+      let by_result = subst (λ (i : Result AuthLookup LookupError). HandlerReply server.handler h (server.handler.zone_type_of h) request query i w) (sym result) by_handler in
+      let contents : z ≡ w = handler_once server.handler once request h query (server.handler.zone_type_of h) m z w r by_result in
+      let by_contents = subst (λ (i : Contents). SignedReply server.signer request.message edns i d other) (sym contents) y' in
+      signed_once server.signer signs _ _ one other c s (subst (λ (i : Option TSigResponseContext). SignedReply server.signer request.message edns z i other) (sym all.2) by_contents)
+
+  pub query_once : AreInOrder server.zones → QueryReply server request edns now one → QueryReply server request edns now other → one ≡ other
+  query_once sorted (other_count a is) (other_count b are) = is ∙ sym are
+  query_once sorted (other_count a is) (no_zone b f are) = absurd cc
+  query_once sorted (other_count a is) (zone b f r) = absurd cc
+  query_once sorted (no_zone a f is) (other_count b are) = absurd cc
+  query_once sorted (no_zone a f is) (no_zone b g are) = is ∙ sym are
+  query_once sorted (no_zone {query = q} a f is) (zone {query = n} {chain = chain} b g r) =
+      let queries : q ≡ n = cc in
+      absurd (let found = one_answer server.zones (lower_name q.name) None (Some chain) sorted f (subst (λ (x : Query). Finds server.zones (lower_name x.name) (Some chain)) (sym queries) g) in cc)
+  query_once sorted (zone a f r) (other_count b are) = absurd cc
+  query_once sorted (zone {query = q} {chain = chain} a f r) (no_zone {query = n} b g are) =
+      let queries : q ≡ n = cc in
+      absurd (let found = one_answer server.zones (lower_name q.name) (Some chain) None sorted f (subst (λ (x : Query). Finds server.zones (lower_name x.name) None) (sym queries) g) in cc)
+  query_once sorted (zone {query = q} {chain = chain} a f r) (zone {query = n} {chain = rest} b g s) =
+      let queries : q ≡ n = cc in
+      let found = one_answer server.zones (lower_name q.name) (Some chain) (Some rest) sorted f (subst (λ (x : Query). Finds server.zones (lower_name x.name) (Some rest)) (sym queries) g) in
+      let chains : chain ≡ rest = cc in
+      let by_query = subst (λ (x : Query). ZoneReply server rest request edns now x other) (sym queries) s in
+      zone_once chain q r (subst (λ (x : List H). ZoneReply server x request edns now q other) (sym chains) by_query)

@@ -1,0 +1,119 @@
+-- Each reply to a query is a reply to its request.
+use Rattle.std.proofs.Common.{◌≡◌, ℕ, ◌<◌, ◌^◌, ◌||◌, nat_eq, Bool, true, false, cond, List, [], ◌∷◌, Option, Result, Ok, Err, refl, sym, ap, subst, ◌∙◌, arith}
+use Rattle.std.specs.Prelude.{◌==◌}
+use Rattle.std.specs.List.{AllByRecursion}
+use Rattle.std.proofs.lemmas.Bool.Decides.{nat_tests}
+use Rattle.hickory_wire.specs.op.EdnsFields.{EdnsFields}
+use Rattle.hickory_wire.specs.serialize.writing.Reply.{Reply}
+use Rattle.hickory_wire.specs.declared.op.header.Metadata.{Metadata}
+use Rattle.hickory_wire.specs.declared.op.query.Query.{Query}
+use Rattle.hickory_wire.specs.declared.rr.tsig.TSigResponseContext.{TSigResponseContext}
+use Rattle.hickory_base.specs.Failures.{is_nx_domain}
+use Rattle.hickory_base.specs.requests.Requests.{ReceivedRequest}
+use Rattle.hickory_base.specs.declared.errors.LookupError.{LookupError}
+use Rattle.hickory_base.specs.declared.errors.LookupError.TheVariants.{ResponseCode}
+use Rattle.hickory_base.specs.declared.requests.message_request.MessageRequest.{MessageRequest}
+use Rattle.hickory_base.specs.declared.zone_store.handler.ZoneHandler.{Ghosts}
+use Rattle.hickory_base.specs.declared.zone_store.handler.ZoneType.{ZoneType}
+use Rattle.hickory_base.specs.declared.zone_store.handler.ZoneType.TheVariants.{Primary, Secondary, External}
+use Rattle.hickory_base.specs.declared.zone_store.lookup.AuthLookup.{AuthLookup}
+use Rattle.hickory_base.specs.declared.zone_store.lookup.ZoneTransfer.{ZoneTransfer}
+use Rattle.hickory_catalog.specs.Authoritative.{AuthoritativeReply, refuses, denies, finds}
+use Rattle.hickory_catalog.specs.AuthoritativeLaws.{AuthoritativeCodes}
+use Rattle.hickory_catalog.specs.DecodedReplies.{IsReplyHeader, RepliesTo}
+use Rattle.hickory_catalog.specs.Forwarded.{findings_contents, findings_of, forwarded_contents, forwarded_metadata, is_authentic, validated}
+use Rattle.hickory_catalog.specs.ForwardedLaws.{ForwardedCodes, is_one_of}
+use Rattle.hickory_catalog.specs.Queries.{HandlerReply, QueryReply, ZoneReply, lookup, no_zone, other_count, transfer, unanswered, untransferred, zone}
+use Rattle.hickory_catalog.specs.Replies.{Contents, bare_contents, error_reply, unsigned_reply}
+use Rattle.hickory_catalog.specs.Server.{Server}
+use Rattle.hickory_catalog.specs.Signing.{SignedReply, Signer, failed, plain, signed}
+use Rattle.hickory_catalog.specs.Transfers.{transfer_contents, transfer_fault}
+
+-- codes of twelve bits
+small_code : (codes : List ℕ) (code : ℕ) → AllByRecursion (λ c. c < 2 ^ 12) codes → is_one_of codes code ≡ true → code < 2 ^ 12
+small_code [] code all h = absurd cc
+small_code (c ∷ cs) code all h = case (nat_eq code c) refl h (small_code cs code all.1) where
+  case : (b : Bool) → nat_eq code c ≡ b → (b || is_one_of cs code) ≡ true → (is_one_of cs code ≡ true → code < 2 ^ 12) → code < 2 ^ 12
+  case true e k rest = let first : c < 2 ^ 12 = all.0 in let same : code ≡ c = grind (arith, nat_tests) in omega arith
+  case false e k rest = rest k
+
+negative_small : (b : Bool) → cond b 3 0 < 2 ^ 12
+negative_small true = omega arith
+negative_small false = omega arith
+
+transfer_small : (e : LookupError) → transfer_fault e < 2 ^ 12
+transfer_small (ResponseCode code) = refused (code == 5) (code == 9) refl refl where
+  refused : (a b : Bool) → (code == 5) ≡ a → (code == 9) ≡ b → transfer_fault (ResponseCode code) < 2 ^ 12
+  refused true b e f = let same : code ≡ 5 = grind (arith, nat_tests) in let small : code < 2 ^ 12 = omega arith in rw e small
+  refused false true e f = let same : code ≡ 9 = grind (arith, nat_tests) in let small : code < 2 ^ 12 = omega arith in rw (e, f) small
+  refused false false e f = rw (e, f) (negative_small (code == 3))
+transfer_small other = negative_small (is_nx_domain other)
+
+fits_by : {request : Metadata} {contents made : Contents} → contents ≡ made → IsReplyHeader request made.metadata → IsReplyHeader request contents.metadata
+fits_by {request} e f = subst (λ (x : Contents). IsReplyHeader request x.metadata) (sym e) f
+
+module _ (request : MessageRequest) (edns : Option EdnsFields) where
+  unsigned_fits : (contents : Contents) → IsReplyHeader request.metadata contents.metadata → RepliesTo request edns (unsigned_reply request edns contents)
+  unsigned_fits contents h = record { header = h; question = refl; question_count = refl; edns_is = refl; one_list = refl }
+
+  pub error_fits : (code : ℕ) → code < 2 ^ 12 → RepliesTo request edns (error_reply request edns code)
+  error_fits code small = unsigned_fits _ (record { id = refl; op_code = refl; response_code = small; untruncated = refl })
+
+  error_is : (reply : Reply) (code : ℕ) → code < 2 ^ 12 → reply ≡ error_reply request edns code → RepliesTo request edns reply
+  error_is reply code small is = subst (RepliesTo request edns) (sym is) (error_fits code small)
+
+  pub signed_fits : (signer : Signer) (contents : Contents) (context : Option TSigResponseContext) (reply : Reply)
+      → SignedReply signer request edns contents context reply → IsReplyHeader request.metadata contents.metadata → RepliesTo request edns reply
+  signed_fits signer contents _ reply (plain is) h = subst (RepliesTo request edns) (sym is) (unsigned_fits contents h)
+  signed_fits signer contents _ reply (signed _ is) h =
+      subst (RepliesTo request edns) (sym is) (record { header = h; question = refl; question_count = refl; edns_is = refl; one_list = refl })
+  signed_fits signer contents _ reply (failed _ is) h = error_is reply 2 (omega arith) is
+
+transfer_fits : (request : Metadata) (result : Result ZoneTransfer LookupError) → IsReplyHeader request (transfer_contents request result).metadata
+transfer_fits request (Ok given) = record { id = refl; op_code = refl; response_code = omega arith; untruncated = refl }
+transfer_fits request (Err e) = record { id = refl; op_code = refl; response_code = transfer_small e; untruncated = refl }
+
+module _ (request : ReceivedRequest) (query : Query) (contents : Contents) where
+  abbrev made_of : Bool → Result AuthLookup LookupError → Bool → Contents
+  made_of validates result b = cond b
+      (findings_contents request.message query (is_authentic validates request.message (findings_of query.name result)) (validated validates request.message.metadata (findings_of query.name result)))
+      (bare_contents (forwarded_metadata request.message.metadata false 5))
+
+  made_fits : (validates : Bool) (result : Result AuthLookup LookupError) (b : Bool) → (made_of validates result b).metadata.response_code < 2 ^ 12 → IsReplyHeader request.message.metadata (made_of validates result b).metadata
+  made_fits validates result true small = record { id = refl; op_code = refl; response_code = small; untruncated = refl }
+  made_fits validates result false small = record { id = refl; op_code = refl; response_code = small; untruncated = refl }
+
+  forwarded_fits : ForwardedCodes → (validates : Bool) (result : Result AuthLookup LookupError) → contents ≡ forwarded_contents request.message query validates result → IsReplyHeader request.message.metadata contents.metadata
+  forwarded_fits codes validates result is =
+      fits_by is (made_fits validates result request.message.metadata.recursion_desired
+      (small_code (0 ∷ 2 ∷ 3 ∷ 5 ∷ []) _ (omega arith, (omega arith, (omega arith, (omega arith, tt)))) (codes request.message query validates result).0))
+
+  module _ {H : Type 0} (handler : Ghosts H) (codes : AuthoritativeCodes handler) (h : H) where
+    coded : (result : Result AuthLookup LookupError) → AuthoritativeReply handler h request query contents result → contents.metadata.response_code < 2 ^ 12
+    coded result r = small_code (0 ∷ 3 ∷ 5 ∷ 9 ∷ []) contents.metadata.response_code (omega arith, (omega arith, (omega arith, (omega arith, tt)))) (codes h request query contents result r).0
+
+    known : (made : Contents) → contents ≡ made → contents.metadata.response_code < 2 ^ 12 → made.metadata.id ≡ request.message.metadata.id
+        → made.metadata.op_code ≡ request.message.metadata.op_code → made.metadata.truncation ≡ false → IsReplyHeader request.message.metadata contents.metadata
+    known made is small i o t = record { id = ap (λ (x : Contents). x.metadata.id) is ∙ i; op_code = ap (λ (x : Contents). x.metadata.op_code) is ∙ o; response_code = small; untruncated = ap (λ (x : Contents). x.metadata.truncation) is ∙ t }
+
+    authoritative_fits : (result : Result AuthLookup LookupError) → AuthoritativeReply handler h request query contents result → contents.metadata.response_code < 2 ^ 12 → IsReplyHeader request.message.metadata contents.metadata
+    authoritative_fits _ (refuses _ is) small = known _ is small refl refl refl
+    authoritative_fits _ (denies _ _ _ _ _ _ _ is) small = known _ is small refl refl refl
+    authoritative_fits _ (finds _ _ _ is) small = known _ is small refl refl refl
+
+    handler_fits : ForwardedCodes → (zone_type : ZoneType) (result : Result AuthLookup LookupError) → HandlerReply handler h zone_type request query result contents → IsReplyHeader request.message.metadata contents.metadata
+    handler_fits forwarded Primary result r = authoritative_fits result r (coded result r)
+    handler_fits forwarded Secondary result r = authoritative_fits result r (coded result r)
+    handler_fits forwarded External result is = forwarded_fits forwarded (handler.validates_dnssec h) result is
+
+module _ {H : Type 0} (server : Server H) (forwarded : ForwardedCodes) (codes : AuthoritativeCodes server.handler) (request : ReceivedRequest) (edns : Option EdnsFields) (now : ℕ) (reply : Reply) where
+  zone_fits : (chain : List H) (query : Query) → ZoneReply server chain request edns now query reply → RepliesTo request.message edns reply
+  zone_fits chain query (untransferred _ _ is) = error_is request.message edns reply 2 (omega arith) is
+  zone_fits chain query (transfer _ _ _ s) = signed_fits request.message edns server.signer _ _ reply s (transfer_fits _ _)
+  zone_fits chain query (unanswered _ _ _ is) = error_is request.message edns reply 2 (omega arith) is
+  zone_fits chain query (lookup contents _ _ _ _ _ r s) = signed_fits request.message edns server.signer contents _ reply s (handler_fits request query contents server.handler codes _ forwarded _ _ r)
+
+  pub query_fits : QueryReply server request edns now reply → RepliesTo request.message edns reply
+  query_fits (other_count _ is) = error_is request.message edns reply 1 (omega arith) is
+  query_fits (no_zone _ _ is) = error_is request.message edns reply 5 (omega arith) is
+  query_fits (zone _ _ r) = zone_fits _ _ r

@@ -1,0 +1,7 @@
+use Rattle.hickory_catalog.specs.Server.{server_of}
+use Rattle.hickory_catalog.proofs.OneReply.{query_once}
+use Rattle.hickory_catalog.proofs.laws.one_reply.Goals as goal
+
+pub returns : goal.returns
+returns g c = λ catalog once signs sorted request edns now one other r s.
+    query_once (server_of g.H.ZoneHandler g.S.ReplySigner.signature_for catalog) once signs request edns now one other sorted r s

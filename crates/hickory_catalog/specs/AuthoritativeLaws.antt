@@ -1,0 +1,51 @@
+-- Laws of the replies of a server that holds the zone: what anybody can see of such a reply.
+use Rattle.std.specs.Prelude.{◌≡◌, ◌⊎◌, true, false, [], ◌∷◌, None, Result, Err}
+use Rattle.hickory_wire.specs.declared.op.header.Metadata.{Metadata}
+use Rattle.hickory_wire.specs.declared.op.query.Query.{Query}
+use Rattle.hickory_base.specs.zone_store.Lookups.{Flow, asks_for_dnssec}
+use Rattle.hickory_base.specs.requests.Requests.{ReceivedRequest}
+use Rattle.hickory_base.specs.declared.errors.LookupError.{LookupError}
+use Rattle.hickory_base.specs.declared.zone_store.handler.ZoneHandler.{Ghosts}
+use Rattle.hickory_base.specs.declared.zone_store.lookup.AuthLookup.{AuthLookup}
+use Rattle.hickory_catalog.specs.Authoritative.{AuthoritativeReply, refusal_code, starts_with_ns}
+use Rattle.hickory_catalog.specs.Denying.{records_given}
+use Rattle.hickory_catalog.specs.ForwardedLaws.{HasNoRecords, is_one_of}
+use Rattle.hickory_catalog.specs.Replies.{Contents}
+use Rattle.hickory_catalog.specs.Transcripts.{options_of}
+
+-- AA is set, also in a referral; RA is clear, since the server asks nobody; AD is clear, since it judges no proofs; RD and CD are those of
+-- the request (RFC 1035 section 4.1.1, RFC 4035 sections 3.1.6 and 3.2.2).
+pub record HasAuthoritativeHeader (request reply : Metadata) : Type 0 where
+  pub authoritative : reply.authoritative ≡ true
+  pub recursion_available : reply.recursion_available ≡ false
+  pub authentic_data : reply.authentic_data ≡ false
+  pub recursion_desired : reply.recursion_desired ≡ request.recursion_desired
+  pub checking_disabled : reply.checking_disabled ≡ request.checking_disabled
+
+abbrev pub AuthoritativeHeaders : {H : Type 0} → Ghosts H → Type 0
+AuthoritativeHeaders {H} handler = (h : H) (request : ReceivedRequest) (query : Query) (contents : Contents) (result : Result AuthLookup LookupError)
+    → AuthoritativeReply handler h request query contents result → HasAuthoritativeHeader request.message.metadata contents.metadata
+
+-- The code is NoError, NXDomain, Refused or NotAuth (RFC 1035 section 4.1.1, RFC 2136 section 2.2). All but NoError have no answers, and the
+-- last two no records at all.
+abbrev pub AuthoritativeCodes : {H : Type 0} → Ghosts H → Type 0
+AuthoritativeCodes {H} handler = (h : H) (request : ReceivedRequest) (query : Query) (contents : Contents) (result : Result AuthLookup LookupError)
+    → AuthoritativeReply handler h request query contents result
+    → (is_one_of (0 ∷ 3 ∷ 5 ∷ 9 ∷ []) contents.metadata.response_code ≡ true)
+    × (is_one_of (3 ∷ 5 ∷ 9 ∷ []) contents.metadata.response_code ≡ true → contents.answers ≡ [])
+    × (is_one_of (5 ∷ 9 ∷ []) contents.metadata.response_code ≡ true → HasNoRecords contents)
+
+-- The answers never begin with an NS, 2, that was asked for neither as such nor as any type, 255: a referral stands in the authority
+-- section (RFC 1034 section 4.3.2, step 3b).
+abbrev pub ReferralsAreNoAnswers : {H : Type 0} → Ghosts H → Type 0
+ReferralsAreNoAnswers {H} handler = (h : H) (request : ReceivedRequest) (query : Query) (contents : Contents) (result : Result AuthLookup LookupError)
+    → AuthoritativeReply handler h request query contents result → starts_with_ns contents.answers ≡ true → (query.query_type ≡ 2) ⊎ (query.query_type ≡ 255)
+
+-- A negative reply has nothing but authorities. To a client without DO they are what the handler gives as the SOA, 6, of its origin, and nothing
+-- else (RFC 2308 section 3).
+abbrev pub NegativeReplies : {H : Type 0} → Ghosts H → Type 0
+NegativeReplies {H} handler = (h : H) (request : ReceivedRequest) (query : Query) (contents : Contents) (e : LookupError)
+    → AuthoritativeReply handler h request query contents (Err e) → refusal_code e ≡ None
+    → (contents.answers ≡ []) × (contents.additionals ≡ [])
+    × (asks_for_dnssec request.message.edns ≡ false
+    → (soa : Flow) × handler.lookup_gives h (handler.origin_of h) 6 None (options_of request) soa × (contents.authorities ≡ records_given soa))

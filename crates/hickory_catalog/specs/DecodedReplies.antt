@@ -1,0 +1,98 @@
+-- What the bytes of a catalog's reply are read as.
+use Rattle.std.specs.Prelude.{◌≡◌, ℕ, ◌+◌, ◌<◌, ◌≤◌, ◌^◌, false, List, [], length, take, slice_range, Option, IfSome}
+use Rattle.std.specs.List.{AllByRecursion}
+use Rattle.hickory_wire.specs.op.EdnsFields.{EdnsFields}
+use Rattle.hickory_wire.specs.serialize.layout.MessageLayout.{ItemsAt}
+use Rattle.hickory_wire.specs.serialize.layout.QuestionLayout.{QuestionAt, IsFormedQuestion}
+use Rattle.hickory_wire.specs.serialize.reading.MessageReading.{Reads}
+use Rattle.hickory_wire.specs.serialize.writing.Decoding.{IsFormedEdns, IsReadable, IsReadableSignature, decoded_message, without_proof}
+use Rattle.hickory_wire.specs.serialize.writing.ReadingBack.{ReadsBack}
+use Rattle.hickory_wire.specs.serialize.writing.Reply.{Reply, reply_lists, size_limit}
+use Rattle.hickory_wire.specs.serialize.writing.ReplyParts.{ReplyEncoded}
+use Rattle.hickory_wire.specs.serialize.writing.Writing.{Fronts, Written, written_header}
+use Rattle.hickory_wire.specs.declared.op.header.Header.{Header}
+use Rattle.hickory_wire.specs.declared.op.header.Metadata.{Metadata}
+use Rattle.hickory_wire.specs.declared.op.query.Query.{Query}
+use Rattle.hickory_wire.specs.declared.protocol.Protocol.{Protocol}
+use Rattle.hickory_wire.specs.declared.rr.tsig.TSigResponseContext.{TSigResponseContext}
+use Rattle.hickory_base.specs.requests.Requests.{ReceivedRequest}
+use Rattle.hickory_base.specs.declared.requests.message_request.MessageRequest.{MessageRequest}
+use Rattle.hickory_base.specs.declared.zone_store.handler.ZoneHandler.{Ghosts}
+use Rattle.hickory_catalog.specs.Queries.{QueryReply}
+use Rattle.hickory_catalog.specs.Replies.{Contents, error_reply}
+use Rattle.hickory_catalog.specs.ReplyEdns.{reply_edns, with_high_code}
+use Rattle.hickory_catalog.specs.Server.{server_of}
+use Rattle.hickory_catalog.specs.Signing.{Signer, SignedReply}
+use Rattle.hickory_catalog.specs.declared.catalog.Catalog.{Catalog}
+
+-- A header for a reply to this request: its id and opcode, a code of twelve bits (RFC 6891 section 6.1.3), and no TC.
+pub record IsReplyHeader (request reply : Metadata) : Type 0 where
+  pub id : reply.id ≡ request.id
+  pub op_code : reply.op_code ≡ request.op_code
+  pub response_code : reply.response_code < 2 ^ 12
+  pub untruncated : reply.truncation ≡ false
+
+-- A reply to this request, where there is this EDNS for it: its header is one for a reply, it repeats the questions, and its OPT record has the high
+-- bits of its code. All its authorities stand in one list.
+pub record RepliesTo (request : MessageRequest) (edns : Option EdnsFields) (reply : Reply) : Type 0 where
+  pub header : IsReplyHeader request.metadata reply.metadata
+  pub question : reply.question ≡ request.queries.bytes
+  pub question_count : reply.question_count ≡ length request.queries.queries
+  pub edns_is : reply.edns ≡ with_high_code reply.metadata.response_code edns
+  pub one_list : reply.soa ≡ []
+
+-- Each reply to a query is one to the request, and has no TC of its own.
+abbrev pub QueryRepliesFit : {S H : Type 0} → Ghosts H → (S → Signer) → Type 0
+QueryRepliesFit {S} {H} handler signature_for = (catalog : Catalog S H) (request : ReceivedRequest) (edns : Option EdnsFields) (now : ℕ) (reply : Reply)
+    → QueryReply (server_of handler signature_for catalog) request edns now reply → RepliesTo request.message edns reply
+
+-- So is each error reply,
+abbrev pub ErrorRepliesFit : Type 0
+ErrorRepliesFit = (request : MessageRequest) (edns : Option EdnsFields) (code : ℕ) → code < 2 ^ 12 → RepliesTo request edns (error_reply request edns code)
+
+-- and whatever is signed that has such a header.
+abbrev pub SignedRepliesFit : Type 0
+SignedRepliesFit = (signer : Signer) (request : MessageRequest) (edns : Option EdnsFields) (contents : Contents) (context : Option TSigResponseContext) (reply : Reply)
+    → SignedReply signer request edns contents context reply → IsReplyHeader request.metadata contents.metadata → RepliesTo request edns reply
+
+-- The EDNS that is made for a reply fits an OPT record, and a reply with it may have 512 bytes or more over any transport (RFC 6891 section
+-- 6.2.3).
+abbrev pub ReplyEdnsFits : Type 0
+ReplyEdnsFits = (identifier : Option (List ℕ)) (asked : Option EdnsFields)
+    → IfSome (reply_edns identifier asked) IsFormedEdns
+    × ((protocol : Protocol) (code : ℕ) → 512 ≤ size_limit protocol (with_high_code code (reply_edns identifier asked)))
+
+-- The questions of the request stand one behind the other behind its header, and the bytes that are repeated of them are those from there to the
+-- end of the last (RFC 1035 section 4.1.2). No name in them leads into the header or runs on behind the last question.
+pub record HasRepeatableQuestions (request : ReceivedRequest) : Type 0 where
+  pub stop : ℕ
+  pub within : stop ≤ length request.bytes
+  pub stand : ItemsAt (QuestionAt 12 (take stop request.bytes)) 12 request.message.queries.queries stop
+  pub formed : AllByRecursion IsFormedQuestion request.message.queries.queries
+  pub bytes_are : request.message.queries.bytes ≡ slice_range request.bytes 12 stop
+
+-- Each record of the reply, OPT and TSIG among them, reads back as itself but for its proof, and no OPT, TSIG or SIG stands among the others.
+pub record HasReadableRecords (reply : Reply) : Type 0 where
+  pub answers : AllByRecursion IsReadable reply.answers
+  pub authorities : AllByRecursion IsReadable reply.authorities
+  pub additionals : AllByRecursion IsReadable reply.additionals
+  pub signature : IfSome reply.signature IsReadableSignature
+  pub records : AllByRecursion (AllByRecursion (λ r. ReadsBack (without_proof r))) (reply_lists reply)
+
+-- The bytes are the reply, of whose lists so much was written; the header is the one that tells this; and the bytes are read as that header,
+-- the questions and what was written.
+pub record ReplyDecodes (limit : ℕ) (reply : Reply) (queries : List Query) (bytes : List ℕ) (header : Header) : Type 0 where
+  pub fronts : Fronts
+  pub written : Written limit reply bytes fronts
+  pub header_is : header ≡ written_header reply fronts
+  pub reads : Reads bytes (decoded_message reply queries fronts)
+
+-- A reply to a request is encoded as what is written of it, and never as the ServFail of twelve bytes, and that is what is read of the bytes: where the
+-- limit has room for header and questions, the questions are such as can be repeated, and the records read back.
+abbrev pub CatalogReplyDecodes : Type 0
+CatalogReplyDecodes = (request : ReceivedRequest) (edns : Option EdnsFields) (reply : Reply) (limit : ℕ) (bytes : List ℕ) (header : Header)
+    → RepliesTo request.message edns reply
+    → request.message.metadata.id < 2 ^ 16 → request.message.metadata.op_code < 2 ^ 4
+    → HasRepeatableQuestions request → IfSome edns IsFormedEdns → HasReadableRecords reply
+    → 12 + length request.message.queries.bytes ≤ limit → limit < 2 ^ 16
+    → ReplyEncoded limit reply bytes header → ReplyDecodes limit reply request.message.queries.queries bytes header

@@ -1,0 +1,60 @@
+-- Where each call of a handler has one answer, a query has one reply.
+use Rattle.std.specs.Prelude.{◌≡◌, ℕ, Bool, false, Option, Some, None, Result}
+use Rattle.hickory_wire.specs.rr.domain.DomainName.{DomainName}
+use Rattle.hickory_wire.specs.op.EdnsFields.{EdnsFields}
+use Rattle.hickory_wire.specs.serialize.writing.Reply.{Reply}
+use Rattle.hickory_wire.specs.declared.rr.record.Record.{Record}
+use Rattle.hickory_wire.specs.declared.rr.tsig.TSIG.{TSIG}
+use Rattle.hickory_wire.specs.declared.rr.tsig.TSigResponseContext.{TSigResponseContext}
+use Rattle.hickory_base.specs.zone_store.Denials.{Nsec3Question}
+use Rattle.hickory_base.specs.zone_store.Lookups.{Flow}
+use Rattle.hickory_base.specs.requests.Requests.{ReceivedRequest, RequestInformation}
+use Rattle.hickory_base.specs.declared.errors.LookupError.{LookupError}
+use Rattle.hickory_base.specs.declared.zone_store.handler.ZoneHandler.{Ghosts}
+use Rattle.hickory_base.specs.declared.zone_store.lookup.LookupOptions.{LookupOptions}
+use Rattle.hickory_base.specs.declared.zone_store.lookup.ZoneTransfer.{ZoneTransfer}
+use Rattle.hickory_catalog.specs.Queries.{QueryReply, is_out_of_memory}
+use Rattle.hickory_catalog.specs.Server.{server_of}
+use Rattle.hickory_catalog.specs.Signing.{IsSignatureOf, Signer}
+use Rattle.hickory_catalog.specs.Transcripts.{wants_memory}
+use Rattle.hickory_catalog.specs.Zones.{AreInOrder}
+use Rattle.hickory_catalog.specs.declared.catalog.Catalog.{Catalog}
+
+-- One answer at most is given, but for those that tell of no memory.
+abbrev pub GivesOne : {X : Type 0} → (X → Bool) → (X → Type 0) → Type 0
+GivesOne {X} wants gives = (one other : X) → wants one ≡ false → wants other ≡ false → gives one → gives other → one ≡ other
+
+-- what a handler answers with what a signer has to know
+abbrev pub Given : Type 0
+Given = Flow × Option TSigResponseContext
+
+abbrev pub given_wants_memory : Given → Bool
+given_wants_memory given = wants_memory given.0
+
+-- what a handler answers to a transfer
+abbrev pub TransferGiven : Type 0
+TransferGiven = Option (Result ZoneTransfer LookupError × Option TSigResponseContext)
+
+abbrev pub transfer_wants_memory : TransferGiven → Bool
+transfer_wants_memory None = false
+transfer_wants_memory (Some given) = is_out_of_memory given.0
+
+-- Each call of a handler has one answer, want of memory aside.
+pub record AnswersOnce {H : Type 0} (handler : Ghosts H) : Type 0 where
+  pub lookup : (h : H) (name : DomainName) (record_type : ℕ) (info : Option RequestInformation) (options : LookupOptions) → GivesOne wants_memory (handler.lookup_gives h name record_type info options)
+  pub search : (h : H) (request : ReceivedRequest) (options : LookupOptions) → GivesOne given_wants_memory (λ given. handler.search_gives h request options given.0 given.1)
+  pub consult : (h : H) (name : DomainName) (record_type : ℕ) (info : Option RequestInformation) (options : LookupOptions) (last : Flow)
+      → GivesOne given_wants_memory (λ given. handler.consult_gives h name record_type info options last given.0 given.1)
+  pub transfer : (h : H) (request : ReceivedRequest) (options : LookupOptions) (now : ℕ) → GivesOne transfer_wants_memory (handler.transfer_gives h request options now)
+  pub nsec : (h : H) (name : DomainName) (options : LookupOptions) → GivesOne wants_memory (handler.nsec_gives h name options)
+  pub nsec3 : (h : H) (question : Nsec3Question) (options : LookupOptions) → GivesOne wants_memory (handler.nsec3_gives h question options)
+
+-- A signer gives one answer for a reply, in whatever bytes it is written.
+abbrev pub SignsOnce : Signer → Type 0
+SignsOnce signer = (context : TSigResponseContext) (unsigned : Reply) (one other : Option (Record TSIG)) → IsSignatureOf signer context unsigned one → IsSignatureOf signer context unsigned other → one ≡ other
+
+-- A query has one reply at most.
+abbrev pub OneReply : {S H : Type 0} → Ghosts H → (S → Signer) → Type 0
+OneReply {S} {H} handler signature_for = (catalog : Catalog S H) → AnswersOnce handler → SignsOnce (signature_for catalog.signer) → AreInOrder catalog.zones
+    → (request : ReceivedRequest) (edns : Option EdnsFields) (now : ℕ) (one other : Reply)
+    → QueryReply (server_of handler signature_for catalog) request edns now one → QueryReply (server_of handler signature_for catalog) request edns now other → one ≡ other

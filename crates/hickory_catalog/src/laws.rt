@@ -1,0 +1,61 @@
+//! Laws of the definitions, each the contract of a function with nothing to do.
+
+ghost use Rattle.hickory_catalog.specs.AuthoritativeLaws.{AuthoritativeCodes, AuthoritativeHeaders, NegativeReplies, ReferralsAreNoAnswers};
+ghost use Rattle.hickory_catalog.specs.DecodedReplies.{CatalogReplyDecodes, ErrorRepliesFit, QueryRepliesFit, ReplyEdnsFits, SignedRepliesFit};
+ghost use Rattle.hickory_catalog.specs.ForwardedLaws.{AuthenticWhereProved, DnssecRecordsOnDemand, ForwardedCodes, ForwardedHeaders, NothingBogusPassedOn, RefusedWithoutRecursion};
+ghost use Rattle.hickory_catalog.specs.OneReply.{OneReply};
+
+use crate::signer::ReplySigner;
+use hickory_base::zone_store::ZoneHandler;
+use hickory_wire::encoder_laws::what_reads_back_is_written;
+use hickory_wire::record_laws::questions_of_replies;
+
+/// What a reply of a server that asked elsewhere may say: AA never, RA always, AD only where all is proved and it was asked for, no record
+/// with a wrong proof but to a client that checks for itself, no DNSSEC record that was not asked for, and nothing without RD (RFC 4035
+/// section 3.2, RFC 1034 section 4.3.2).
+pub fn forwarded_replies()
+    ensures header { ForwardedHeaders }
+    ensures codes { ForwardedCodes }
+    ensures refused { RefusedWithoutRecursion }
+    ensures authentic { AuthenticWhereProved }
+    ensures bogus { NothingBogusPassedOn }
+    ensures dnssec { DnssecRecordsOnDemand }
+{}
+
+/// What a reply of a server that holds the zone may say: AA always, RA and AD never, RD as asked, one of four codes, no answers in a
+/// referral, and with nothing found the SOA of the zone alone (RFC 1034 section 4.3.2, RFC 2308 section 3).
+pub fn authoritative_replies<H: ZoneHandler>()
+    ensures header { AuthoritativeHeaders H.ZoneHandler }
+    ensures codes { AuthoritativeCodes H.ZoneHandler }
+    ensures referrals { ReferralsAreNoAnswers H.ZoneHandler }
+    ensures negative { NegativeReplies H.ZoneHandler }
+{}
+
+/// What the replies of a catalog have of their requests: id, opcode, questions, and EDNS with the high bits of their code. None has TC of
+/// its own (RFC 1035 section 4.1.1, RFC 6891 section 6.1.3).
+pub fn replies_of_requests<S: ReplySigner, H: ZoneHandler>()
+    ensures queries { QueryRepliesFit H.ZoneHandler S.signature_for }
+    ensures errors { ErrorRepliesFit }
+    ensures signed { SignedRepliesFit }
+    ensures edns { ReplyEdnsFits }
+{
+    forwarded_replies();
+    authoritative_replies::<H>();
+}
+
+/// A reply of a catalog is encoded as what is written of it, never as a ServFail in its place, and is read from its bytes as its header,
+/// its questions and the fronts of its sections (RFC 1035 section 4.1).
+///
+/// The premises: the limit has room for header and questions, no name of the questions leads into the header or runs on behind the last,
+/// and each record reads back as itself.
+pub fn replies_decode()
+    ensures { CatalogReplyDecodes }
+{
+    what_reads_back_is_written();
+    questions_of_replies();
+}
+
+/// Where each call of a handler has one answer, want of memory aside, and the signer one for each reply, a query has one reply.
+pub fn one_reply<S: ReplySigner, H: ZoneHandler>()
+    ensures { OneReply H.ZoneHandler S.signature_for }
+{}
