@@ -5,7 +5,7 @@ ghost use Rattle.std.specs.Prelude.{None};
 use crate::WRONG;
 use crate::messages::request;
 use crate::reply_sizes::ReplySizes;
-use crate::zone::zone;
+use crate::zone::{updatable_zone, zone};
 use hickory_base::server::RequestHandler;
 use hickory_base::zone_store::ZoneHandler;
 use hickory_catalog::catalog::Catalog;
@@ -88,4 +88,22 @@ pub extern "C" fn bench_calls_answer_request(
     rounds: u64,
 ) -> u64 {
     answer_boxed(alloc, zone, bytes, rounds).unwrap_or(WRONG)
+}
+
+/// The same, by a zone that takes updates.
+fn answer_transfer(alloc: Global, zone_bytes: &[u8], bytes: &[u8], rounds: u64) -> Option<u64> {
+    let (origin, handler) = updatable_zone(alloc, zone_bytes)?;
+    answer(alloc, origin, handler, bytes, rounds)
+}
+
+/// Answers a request for a transfer of a zone, whose records are the answers of messages, each behind its length; answers
+/// how many bytes all replies had.
+#[unsafe(no_mangle)]
+pub extern "C" fn bench_calls_answer_transfer(
+    alloc: Global,
+    zone: &[u8],
+    bytes: &[u8],
+    rounds: u64,
+) -> u64 {
+    answer_transfer(alloc, zone, bytes, rounds).unwrap_or(WRONG)
 }

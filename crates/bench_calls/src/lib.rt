@@ -10,6 +10,8 @@ mod answers;
 mod blocklist;
 mod messages;
 mod reply_sizes;
+mod updates;
+mod verifier;
 mod zone;
 mod zones;
 

@@ -53,7 +53,7 @@ impl ResponseHandler for ReplySizes {
 
     ghost shows = { λ _ _ _. ⊤ };
 
-    ghost informs = { λ _ _ _. ⊤ };
+    ghost informs = { λ _ _ _ _. ⊤ };
 
     ghost failures = { λ s. s.failures };
 

@@ -1,6 +1,8 @@
-//! A zone in memory of the records of a message.
+//! Zones of the records of messages.
 
+use crate::verifier::NoKeys;
 use hickory_base::zone_store::{AxfrPolicy, InMemoryZoneHandler, RecordSet, RrKey, ZoneType};
+use hickory_store::sqlite::SqliteZoneHandler;
 use hickory_wire::{LowerName, Message, Record};
 use std::alloc::Global;
 use std::collections::BTreeMap;
@@ -35,16 +37,54 @@ fn record_sets(alloc: Global, records: Vec<Record>) -> Option<BTreeMap<RrKey, Rc
     Some(sets)
 }
 
-/// The zone whose records are the answers of the message that bytes begin with, the first at the origin.
-pub(crate) fn zone(alloc: Global, bytes: &[u8]) -> Option<(LowerName, InMemoryZoneHandler)> {
-    let message = Message::read(alloc, bytes).ok()?;
-    let first = message.answers.as_slice().first()?;
-    let origin = LowerName::new(alloc, &first.name).ok()?;
+/// The zone of these records, the first at the origin.
+fn zone_of(alloc: Global, records: Vec<Record>) -> Option<(LowerName, InMemoryZoneHandler)> {
+    let origin = LowerName::new(alloc, &records.as_slice().first()?.name).ok()?;
     let apex = origin.clone().ok()?;
-    let sets = record_sets(alloc, message.answers.into_vec())?;
+    let sets = record_sets(alloc, records)?;
     if !InMemoryZoneHandler::accepts(&sets) {
         return None;
     }
     let handler = InMemoryZoneHandler::new(apex, sets, ZoneType::Primary, AxfrPolicy::Deny);
+    Some((origin, handler))
+}
+
+/// The zone whose records are the answers of the message that bytes begin with, the first at the origin.
+pub(crate) fn zone(alloc: Global, bytes: &[u8]) -> Option<(LowerName, InMemoryZoneHandler)> {
+    zone_of(alloc, Message::read(alloc, bytes).ok()?.answers.into_vec())
+}
+
+/// A message behind its length, and what stands behind both (RFC 1035 section 4.2.2).
+fn framed(bytes: &[u8]) -> Option<(&[u8], &[u8])> {
+    let [high, low, rest @ ..] = bytes else {
+        return None;
+    };
+    let len = usize::from(*high) * 256 + usize::from(*low);
+    Some((rest.get(..len)?, rest.get(len..)?))
+}
+
+/// The answers of messages, each behind its length.
+fn answers_of(alloc: Global, bytes: &[u8]) -> Option<Vec<Record>> {
+    let mut records = Vec::new(alloc);
+    let mut rest = bytes;
+    for _ in 0..bytes.len() {
+        let Some((message, behind)) = framed(rest) else {
+            break;
+        };
+        records
+            .append(&mut Message::read(alloc, message).ok()?.answers.into_vec())
+            .ok()?;
+        rest = behind;
+    }
+    Some(records)
+}
+
+/// A zone that takes updates and transfers, of the answers of messages, each behind its length.
+pub(crate) fn updatable_zone(
+    alloc: Global,
+    bytes: &[u8],
+) -> Option<(LowerName, SqliteZoneHandler<NoKeys>)> {
+    let (origin, zone) = zone_of(alloc, answers_of(alloc, bytes)?)?;
+    let handler = SqliteZoneHandler::new(zone, AxfrPolicy::AllowAll, true, NoKeys);
     Some((origin, handler))
 }

@@ -29,14 +29,13 @@ fn catalog(alloc: Global, names: &[u8]) -> Option<Catalog<NoSigner, InMemoryZone
 
 #[inline(never)]
 fn measured_find_zone(
-    alloc: Global,
     catalog: &Catalog<NoSigner, InMemoryZoneHandler>,
     wanted: &LowerName,
     rounds: u64,
 ) -> Option<u64> {
     let mut found = 0u64;
     for _ in 0..rounds {
-        if catalog.find(alloc, wanted).ok()?.is_some() {
+        if catalog.find(wanted).ok()?.is_some() {
             found = found.wrapping_add(1);
         }
     }
@@ -47,7 +46,7 @@ fn measured_find_zone(
 fn found(alloc: Global, names: &[u8], wanted: &[u8], rounds: u64) -> Option<u64> {
     let catalog = catalog(alloc, names)?;
     let wanted = lower_name(alloc, &mut BinDecoder::new(wanted))?;
-    measured_find_zone(alloc, &catalog, &wanted, rounds)
+    measured_find_zone(&catalog, &wanted, rounds)
 }
 
 /// Finds the zone of a name among zones whose names stand in bytes one behind the other; answers in how many rounds

@@ -1,7 +1,8 @@
 //! The zone service of a DNS server: requests, zones, replies, under the paths of the Rust crate.
 #![tactic(auto)]
 
-pub use hickory_base::access;
+pub use hickory_base::{access, zone_store};
+pub use hickory_wire as wire;
 
 pub mod proto;
 pub mod server;

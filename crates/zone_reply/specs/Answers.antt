@@ -1,17 +1,19 @@
 -- What the command prints for its input, and the status that it gives.
-use Rattle.std.specs.Prelude.{◌≡◌, ◌++◌, ◌∷◌, [], ℕ, List, Option, Some, None, IfSome, IsSome, Result, Ok, Err}
+use Rattle.std.specs.Prelude.{◌≡◌, ◌⊎◌, ◌++◌, ◌∷◌, [], ℕ, List, Option, Some, None, IfSome, IsSome, Result, Ok, Err}
 use Rattle.std.specs.Global.{Vec}
 use Rattle.std.specs.Io.BufRead.{first_piece}
 use Rattle.std.specs.declared.net.SocketAddr.{SocketAddr}
 use Rattle.std.specs.declared.net.SocketAddr.TheVariants.{V4}
 use Rattle.hex.specs.Hex.{decode_of, encode_lower}
+use Rattle.hickory_wire.specs.rr.domain.DomainName.{DomainName}
 use Rattle.hickory_wire.specs.serialize.reading.MessageReading.{Reads}
 use Rattle.hickory_wire.specs.serialize.writing.Reply.{Reply}
 use Rattle.hickory_wire.specs.declared.error.ProtoError.{ProtoError}
 use Rattle.hickory_wire.specs.declared.protocol.Protocol.{Protocol}
 use Rattle.hickory_base.specs.requests.RequestReading.{IsFaultOf, IsQuestionSection, message_of}
 use Rattle.hickory_base.specs.requests.Requests.{ReceivedRequest}
-use Rattle.hickory_catalog.specs.Requests.{RequestAnswered}
+use Rattle.hickory_base.specs.declared.errors.CatalogError.{CatalogError}
+use Rattle.hickory_catalog.specs.Requests.{RequestAnswered, RequestLeaves}
 use Rattle.hickory_catalog.specs.Server.{Server}
 use Rattle.hickory_base.specs.responses.EncodingSinks.{IsEncodingOf}
 use Rattle.zone_reply.specs.Command.{transport_of, refusal_line, refusal_status}
@@ -30,18 +32,26 @@ pub record IsRequestOf (bytes : List ℕ) (protocol : Protocol) (request : Recei
   pub source_is : request.source ≡ local_source
   pub protocol_is : request.protocol ≡ protocol
 
--- The bytes are an encoding, at the transport's limit, of the one reply that the server gives to the request at the moment 0, which leaves its
--- zones as they are.
-pub record IsReplyToRequest {H : Type 0} (server : Server H) (protocol : Protocol) (request : ReceivedRequest) (bytes : List ℕ) : Type 0 where
+-- The bytes are an encoding, at the transport's limit, of the one reply that the server gives to the request at the moment 0, and these are its
+-- zones after it.
+pub record IsReplyToRequest {H : Type 0} (server : Server H) (protocol : Protocol) (request : ReceivedRequest) (bytes : List ℕ) (zones : List (DomainName × List H)) : Type 0 where
   pub reply : Reply
-  pub is_reply : RequestAnswered server request 0 (reply ∷ []) server.zones
+  pub is_reply : RequestAnswered server request 0 (reply ∷ []) zones
   pub is_encoded : IsEncodingOf protocol reply bytes
 
 -- The bytes are an encoding of the reply to the request that the message is read as.
-pub record IsReplyTo {H : Type 0} (server : Server H) (protocol : Protocol) (message bytes : List ℕ) : Type 0 where
+pub record IsReplyTo {H : Type 0} (server : Server H) (protocol : Protocol) (message bytes : List ℕ) (zones : List (DomainName × List H)) : Type 0 where
   pub request : ReceivedRequest
   pub is_read : IsRequestOf message protocol request
-  pub is_reply : IsReplyToRequest server protocol request bytes
+  pub is_reply : IsReplyToRequest server protocol request bytes zones
+
+-- The zones after a request, whether it got a reply or memory was refused for one. Only an update changes any.
+abbrev pub RequestLeft : {H : Type 0} → Server H → ReceivedRequest → List (DomainName × List H) → Type 0
+RequestLeft server request zones = ((reply : Reply) × RequestAnswered server request 0 (reply ∷ []) zones) ⊎ ((e : CatalogError) × RequestLeaves server request 0 e zones)
+
+-- The zones after a message: as before, or those after the request that it is read as.
+abbrev pub MessageLeft : {H : Type 0} → Server H → Protocol → List ℕ → List (DomainName × List H) → Type 0
+MessageLeft server protocol message zones = (zones ≡ server.zones) ⊎ ((request : ReceivedRequest) × IsRequestOf message protocol request × RequestLeft server request zones)
 
 -- Why there is no reply to a message: it cannot be read, or memory is refused.
 abbrev pub IsRefusedMessage : List ℕ → Refusal → Type 0
@@ -53,6 +63,11 @@ IsRefusedMessage message NotHex = ⊥
 -- The message is what the first line of the input spells in hex digits, where the input is known.
 abbrev pub IsFirstMessage : Option (List ℕ) → List ℕ → Type 0
 IsFirstMessage input message = IfSome input (λ bytes. decode_of (first_piece 10 bytes) ≡ Ok message)
+
+-- The zones after an input: as before, or those after the message that it begins with.
+abbrev pub InputLeft : {H : Type 0} → Server H → List (List ℕ) → Option (List ℕ) → List (DomainName × List H) → Type 0
+InputLeft server arguments input zones = (zones ≡ server.zones)
+    ⊎ ((protocol : Protocol) × (transport_of arguments ≡ Some protocol) × (message : List ℕ) × IsFirstMessage input message × MessageLeft server protocol message zones)
 
 -- Why there is no message: the input cannot be read or spells none, or memory is refused.
 abbrev pub IsRefusedInput : Refusal → Type 0
@@ -66,23 +81,23 @@ abbrev pub hex_line : List ℕ → List ℕ
 hex_line bytes = encode_lower bytes ++ 10 ∷ []
 
 -- The line is that of an encoded reply to the message of the input, over the transport that the arguments name.
-pub record IsReplyLine {H : Type 0} (server : Server H) (arguments : List (List ℕ)) (input : Option (List ℕ)) (line : List ℕ) : Type 0 where
+pub record IsReplyLine {H : Type 0} (server : Server H) (arguments : List (List ℕ)) (input : Option (List ℕ)) (line : List ℕ) (zones : List (DomainName × List H)) : Type 0 where
   pub protocol : Protocol
   pub is_named : transport_of arguments ≡ Some protocol
   pub message : List ℕ
   pub is_first : IsFirstMessage input message
   pub bytes : List ℕ
-  pub is_reply : IsReplyTo server protocol message bytes
+  pub is_reply : IsReplyTo server protocol message bytes zones
   pub line_is : line ≡ hex_line bytes
 
 -- What is answered: the line of a reply, or why there is none. A reader may fail at any time, and memory may be refused at any time once the
--- arguments name a transport.
-abbrev pub IsAnswer : {H : Type 0} → Server H → List (List ℕ) → Option (List ℕ) → Result (List ℕ) Refusal → Type 0
-IsAnswer server arguments input (Ok line) = IsReplyLine server arguments input line
-IsAnswer server arguments input (Err Usage) = transport_of arguments ≡ None
-IsAnswer server arguments input (Err NotHex) = IsSome (transport_of arguments)
-IsAnswer server arguments input (Err Unreadable) = IsSome (transport_of arguments) × (message : List ℕ) × IsFirstMessage input message × (e : ProtoError) × IsFaultOf message e
-IsAnswer server arguments input (Err Memory) = IsSome (transport_of arguments)
+-- arguments name a transport. The zones are those after it.
+abbrev pub IsAnswer : {H : Type 0} → Server H → List (List ℕ) → Option (List ℕ) → Result (List ℕ) Refusal → List (DomainName × List H) → Type 0
+IsAnswer server arguments input (Ok line) zones = IsReplyLine server arguments input line zones
+IsAnswer server arguments input (Err Usage) zones = transport_of arguments ≡ None
+IsAnswer server arguments input (Err NotHex) zones = IsSome (transport_of arguments)
+IsAnswer server arguments input (Err Unreadable) zones = IsSome (transport_of arguments) × (message : List ℕ) × IsFirstMessage input message × (e : ProtoError) × IsFaultOf message e
+IsAnswer server arguments input (Err Memory) zones = IsSome (transport_of arguments)
 
 -- an answer with the bytes of its line
 abbrev pub line_items : Result (Vec ℕ) Refusal → Result (List ℕ) Refusal

@@ -2,7 +2,7 @@
 
 ghost use Rattle.std.specs.Prelude.{◌≡◌, ℕ, List, Result, IfOk, IfErr, map, string_bytes};
 ghost use Rattle.hickory_catalog.specs.Server.{server_of};
-ghost use Rattle.zone_reply.specs.Answers.{IsAnswer, IsReplyTo, IsReplyToRequest, IsRequestOf, IsRefusedMessage, answer_line, answer_status, hex_line, line_items};
+ghost use Rattle.zone_reply.specs.Answers.{IsAnswer, IsReplyTo, IsReplyToRequest, InputLeft, IsRequestOf, IsRefusedMessage, MessageLeft, RequestLeft, answer_line, answer_status, hex_line, line_items};
 ghost use Rattle.zone_reply.specs.Command.{IsPrinted};
 ghost use Rattle.zone_reply.specs.declared.command.Refusal.{Refusal};
 ghost use Rattle.zone_reply.specs.declared.command.Refusal.TheVariants.{Memory};
@@ -46,8 +46,9 @@ fn reply<S: ReplySigner, H: ZoneHandler>(
     protocol: Protocol,
     request: &Request,
 ) -> Result<Octets, Refusal>
-    ensures kept { catalog.new ≡ catalog.old }
-    ensures ok { IfOk result (λ bytes. IsReplyToRequest (server_of H.ZoneHandler S.signature_for catalog.old) protocol request.now bytes) }
+    ensures others { catalog.new ≡ record catalog.old { zones = catalog.new.zones } }
+    ensures left { RequestLeft (server_of H.ZoneHandler S.signature_for catalog.old) request.now catalog.new.zones }
+    ensures ok { IfOk result (λ bytes. IsReplyToRequest (server_of H.ZoneHandler S.signature_for catalog.old) protocol request.now bytes catalog.new.zones) }
     ensures err { IfErr result (λ e. e ≡ Memory) }
 {
     let mut sink = EncodingSink::new(alloc, protocol);
@@ -66,8 +67,9 @@ fn request_line<S: ReplySigner, H: ZoneHandler>(
     protocol: Protocol,
     request: &Request,
 ) -> Result<Vec<u8>, Refusal>
-    ensures kept { catalog.new ≡ catalog.old }
-    ensures ok { IfOk result (λ line. (bytes : List ℕ) × IsReplyToRequest (server_of H.ZoneHandler S.signature_for catalog.old) protocol request.now bytes × (line.items ≡ hex_line bytes)) }
+    ensures others { catalog.new ≡ record catalog.old { zones = catalog.new.zones } }
+    ensures left { RequestLeft (server_of H.ZoneHandler S.signature_for catalog.old) request.now catalog.new.zones }
+    ensures ok { IfOk result (λ line. (bytes : List ℕ) × IsReplyToRequest (server_of H.ZoneHandler S.signature_for catalog.old) protocol request.now bytes catalog.new.zones × (line.items ≡ hex_line bytes)) }
     ensures err { IfErr result (λ e. e ≡ Memory) }
 {
     let bytes = reply(alloc, catalog, protocol, request)?;
@@ -81,8 +83,9 @@ fn reply_line<S: ReplySigner, H: ZoneHandler>(
     protocol: Protocol,
     message: Vec<u8>,
 ) -> Result<Vec<u8>, Refusal>
-    ensures kept { catalog.new ≡ catalog.old }
-    ensures ok { IfOk result (λ line. (bytes : List ℕ) × IsReplyTo (server_of H.ZoneHandler S.signature_for catalog.old) protocol message.items bytes × (line.items ≡ hex_line bytes)) }
+    ensures others { catalog.new ≡ record catalog.old { zones = catalog.new.zones } }
+    ensures left { MessageLeft (server_of H.ZoneHandler S.signature_for catalog.old) protocol message.items catalog.new.zones }
+    ensures ok { IfOk result (λ line. (bytes : List ℕ) × IsReplyTo (server_of H.ZoneHandler S.signature_for catalog.old) protocol message.items bytes catalog.new.zones × (line.items ≡ hex_line bytes)) }
     ensures err { IfErr result (λ e. IsRefusedMessage message.items e) }
 {
     let request = request(alloc, protocol, message)?;
@@ -96,8 +99,9 @@ fn answer<S: ReplySigner, H: ZoneHandler, R: Read>(
     arguments: &[String],
     reader: &mut R,
 ) -> Result<Vec<u8>, Refusal>
-    ensures kept { catalog.new ≡ catalog.old }
-    ensures answer { IsAnswer (server_of H.ZoneHandler S.signature_for catalog.old) (map string_bytes arguments.now) (R.remaining reader.old) (line_items result) }
+    ensures others { catalog.new ≡ record catalog.old { zones = catalog.new.zones } }
+    ensures left { InputLeft (server_of H.ZoneHandler S.signature_for catalog.old) (map string_bytes arguments.now) (R.remaining reader.old) catalog.new.zones }
+    ensures answer { IsAnswer (server_of H.ZoneHandler S.signature_for catalog.old) (map string_bytes arguments.now) (R.remaining reader.old) (line_items result) catalog.new.zones }
 {
     let Some(protocol) = transport(arguments) else {
         return Err(Refusal::Usage);
@@ -110,7 +114,8 @@ fn answer<S: ReplySigner, H: ZoneHandler, R: Read>(
 /// first line of the input is the message in hex digits.
 ///
 /// The line is the reply in lower-case hex digits, with status 0, or one of the refusals with its status: wrong usage 2,
-/// no hex 2, no DNS message 1, no memory 3. Where printing fails, the status is 4. The catalog is as it was before.
+/// no hex 2, no DNS message 1, no memory 3. Where printing fails, the status is 4. Only an update
+/// changes the catalog, and it may stand where there was no memory for its reply.
 pub fn run<S: ReplySigner, H: ZoneHandler, R: Read, W: Write>(
     alloc: Global,
     catalog: &mut Catalog<S, H>,
@@ -118,9 +123,10 @@ pub fn run<S: ReplySigner, H: ZoneHandler, R: Read, W: Write>(
     reader: &mut R,
     writer: &mut W,
 ) -> u8
-    ensures kept { catalog.new ≡ catalog.old }
+    ensures others { catalog.new ≡ record catalog.old { zones = catalog.new.zones } }
+    ensures left { InputLeft (server_of H.ZoneHandler S.signature_for catalog.old) (map string_bytes arguments.now) (R.remaining reader.old) catalog.new.zones }
     ensures prints { (answer : Result (List ℕ) Refusal) ×
-        IsAnswer (server_of H.ZoneHandler S.signature_for catalog.old) (map string_bytes arguments.now) (R.remaining reader.old) answer ×
+        IsAnswer (server_of H.ZoneHandler S.signature_for catalog.old) (map string_bytes arguments.now) (R.remaining reader.old) answer catalog.new.zones ×
         IsPrinted (W.contents writer.old) (W.contents writer.new) (answer_line answer) (answer_status answer) result }
 {
     match answer(alloc, catalog, arguments, reader) {

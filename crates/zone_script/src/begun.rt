@@ -38,15 +38,11 @@ pub(crate) fn last_begun(script: &Script, alloc: Global) -> Result<Begun<'_>, Fa
 }
 
 /// The chain that is served at just this name.
-fn chain_at<'s>(
-    script: &'s Script,
-    alloc: Global,
-    apex: &LowerName,
-) -> Result<&'s [Handler], Fault> {
+fn chain_at<'s>(script: &'s Script, apex: &LowerName) -> Result<&'s [Handler], Fault> {
     if !script.catalog.contains(apex) {
         return Err(Fault::NoChain);
     }
-    match script.catalog.find(alloc, apex)? {
+    match script.catalog.find(apex)? {
         Some(chain) => Ok(chain.as_slice()),
         None => Err(Fault::NoChain),
     }
@@ -59,5 +55,5 @@ pub(crate) fn chain_of<'s>(
     apex: &str,
 ) -> Result<&'s [Handler], Fault> {
     let apex = lower_name(alloc, apex)?;
-    chain_at(script, alloc, &apex)
+    chain_at(script, &apex)
 }

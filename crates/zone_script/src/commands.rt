@@ -15,8 +15,10 @@ pub(crate) mod records;
 pub(crate) mod requests;
 pub(crate) mod sections;
 pub(crate) mod setting;
+pub(crate) mod signing;
 pub(crate) mod updatable;
 pub(crate) mod updates;
+pub(crate) mod updating;
 pub(crate) mod values;
 pub(crate) mod zones;
 
@@ -108,6 +110,9 @@ fn obey_updates(
     out: &mut String,
 ) -> Option<Result<(), Fault>> {
     if let Some(done) = updatable::obey(script, alloc, words, out) {
+        return Some(done);
+    }
+    if let Some(done) = updating::obey(script, alloc, words, out) {
         return Some(done);
     }
     updates::obey(script, alloc, words, line, out)

@@ -62,6 +62,8 @@ pub(crate) enum Fault {
     NoSoaData,
     /// The records make no zone.
     NotAZone,
+    /// The records have no form in one message.
+    NotOneMessage,
     /// The bytes are no message, or a value has no form in bytes.
     Message(ProtoError),
     /// A list was not added.
@@ -92,6 +94,7 @@ impl Fault {
             Fault::Outside => "the owner name is outside the zone",
             Fault::NoSoaData => "an SOA record without the data of one",
             Fault::NotAZone => "these records make no zone",
+            Fault::NotOneMessage => "these records do not fit one message",
             Fault::Memory => "no memory",
             _ => "input or output failed",
         }

@@ -1,7 +1,5 @@
 //! The handlers of a script's chains: zones in memory, scripted ones and lists of blocked names, as one type.
 
-ghost use Rattle.std.specs.Prelude.{◌≡◌};
-
 use crate::asked::{Asked, note};
 use crate::part::{Call, Part};
 use crate::verifier::ScriptedVerifier;
@@ -159,7 +157,7 @@ impl ZoneHandler for Handler {
 
     ghost nsec3_gives = { λ _ _ _ _. Unit {0} };
 
-    ghost update_gives = { λ handler _ _ _ _ new. new ≡ handler };
+    ghost update_gives = { λ _ _ _ _ _ _. Unit {0} };
 
     fn zone_type(&self) -> ZoneType {
         self.zone_type
@@ -293,13 +291,15 @@ impl ZoneHandler for Handler {
         }
     }
 
-    // No handler of a script takes updates yet.
     fn update(
         &mut self,
-        _alloc: Global,
-        _request: &Request,
-        _now: u64,
+        alloc: Global,
+        request: &Request,
+        now: u64,
     ) -> (Result<bool, UpdateFault>, Option<TSigResponseContext>) {
-        (Err(UpdateFault::Code(ResponseCode::NOT_IMP)), None)
+        match &mut self.source {
+            Source::Updatable(zone) => zone.update(alloc, request, now),
+            _ => (Err(UpdateFault::Code(ResponseCode::NOT_IMP)), None),
+        }
     }
 }

@@ -124,7 +124,7 @@ impl Question {
     }
 
     /// The bytes of the question (RFC 1035 section 4.1.2). Its name is given by its labels in wire form.
-    fn question_bytes(&self, alloc: Global, labels: &[u8]) -> Result<Vec<u8>, Fault> {
+    pub(crate) fn question_bytes(&self, alloc: Global, labels: &[u8]) -> Result<Vec<u8>, Fault> {
         let mut bytes = labels.to_vec(alloc)?;
         bytes.push(0)?;
         bytes.extend_from_slice(&self.record_type.value().to_be_bytes())?;

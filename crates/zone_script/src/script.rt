@@ -8,7 +8,7 @@ use crate::handler::Handler;
 use crate::open_zone::OpenZone;
 use crate::sections::{Section, Sections};
 use crate::settings::Settings;
-use crate::signer::NoSigner;
+use crate::signer::{ScriptedSigner, Signing};
 use crate::text::record;
 use crate::updates::Updates;
 use hickory_server::access::AccessControl;
@@ -31,11 +31,14 @@ pub(crate) enum Place {
     Reply(Section),
 }
 
+/// A server whose handlers and signer are those of a script.
+pub(crate) type Server = Catalog<ScriptedSigner, Handler>;
+
 /// What a script has said so far.
 #[derive(Drop)]
 pub(crate) struct Script {
     pub(crate) settings: Settings,
-    pub(crate) catalog: Catalog<NoSigner, Handler>,
+    pub(crate) catalog: Server,
     /// The names that a chain was served at.
     pub(crate) served: BTreeSet<LowerName>,
     /// The zone whose records are given. It comes behind the handlers of `chain`.
@@ -72,9 +75,10 @@ impl Script {
     /// Nothing said.
     pub(crate) fn new(alloc: Global) -> Result<Script, AllocError> {
         let log = CallLog::new(alloc)?;
+        let signer = ScriptedSigner::new(Signing::Fails, &log)?;
         Ok(Script {
             settings: Settings::new(),
-            catalog: Catalog::new(alloc, NoSigner),
+            catalog: Catalog::new(alloc, signer),
             served: BTreeSet::new(alloc),
             zone: None,
             chain: Vec::new(alloc),

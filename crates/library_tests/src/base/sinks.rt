@@ -1,6 +1,6 @@
 //! Sinks and a handler, called through their bounds.
 
-ghost use Rattle.std.specs.Prelude.{◌≡◌, ◌+◌, ◌%◌, ◌^◌, [], IfOk};
+ghost use Rattle.std.specs.Prelude.{◌≡◌, ◌+◌, ◌%◌, ◌^◌, [], IfOk, OnOk, OnErr, replicate};
 ghost use Rattle.std.specs.Iterator.{IsFinite};
 ghost use Rattle.std.specs.Option.{option_copied};
 ghost use Rattle.hickory_wire.specs.serialize.writing.Reply.{size_limit};
@@ -174,7 +174,7 @@ impl ResponseHandler for TellingSink {
 
     ghost shows = { λ _ reply kept. kept ≡ reply };
 
-    ghost informs = { λ _ reply header. header.metadata ≡ reply.metadata };
+    ghost informs = { λ _ reply _ header. header.metadata ≡ reply.metadata };
 
     ghost failures = { λ sink. sink.failures };
 
@@ -224,7 +224,7 @@ impl ResponseHandler for FaultySink {
 
     ghost shows = { λ _ _ _. ⊥ };
 
-    ghost informs = { λ _ _ _. ⊥ };
+    ghost informs = { λ _ _ _ _. ⊥ };
 
     ghost failures = { λ sink. sink.failures };
 
@@ -283,7 +283,7 @@ impl ResponseHandler for DatagramSink {
 
     ghost shows = { λ _ reply bytes. (header : _) × ReplyEncoded (size_limit protocol.Udp reply.edns) reply bytes header };
 
-    ghost informs = { λ _ reply header. (bytes : _) × ReplyEncoded (size_limit protocol.Udp reply.edns) reply bytes header };
+    ghost informs = { λ _ reply bytes header. ReplyEncoded (size_limit protocol.Udp reply.edns) reply bytes header };
 
     ghost failures = { λ sink. sink.failures };
 
@@ -309,6 +309,78 @@ impl ResponseHandler for DatagramSink {
             return Err(self.fail());
         }
         Ok(info)
+    }
+}
+
+/// A sink as over a socket: of a reply that was sent it keeps nothing but that there was one. A count that is full is a
+/// failure.
+#[derive(Drop)]
+struct CountingSink {
+    sent: u64,
+    failures: u64,
+}
+
+impl CountingSink {
+    /// Counts a failure.
+    fn fail(&mut self) -> io::Error
+        ensures { self.new ≡ record self.old { failures = (self.old.failures + 1) % 2 ^ 64 } }
+    {
+        self.failures = self.failures.wrapping_add(1);
+        io::Error::from(io::ErrorKind::Other)
+    }
+
+    /// Counts a reply that was sent.
+    fn count(&mut self) -> Result<(), io::Error>
+        ensures ok { OnOk result (self.new ≡ record self.old { sent = self.old.sent + 1 }) }
+        ensures err { OnErr result (self.new ≡ record self.old { failures = (self.old.failures + 1) % 2 ^ 64 }) }
+    {
+        match self.sent.checked_add(1) {
+            Some(sent) => {
+                self.sent = sent;
+                Ok(())
+            }
+            None => Err(self.fail()),
+        }
+    }
+}
+
+impl ResponseHandler for CountingSink {
+    type Entry = ();
+
+    type Settings = ();
+
+    ghost entries = { λ sink. replicate sink.sent tt };
+
+    ghost settings = { λ _. tt };
+
+    ghost shows = { λ _ _ _. Unit {0} };
+
+    ghost informs = { λ _ reply _ header. (bytes : _) × ReplyEncoded (size_limit protocol.Udp reply.edns) reply bytes header };
+
+    ghost failures = { λ sink. sink.failures };
+
+    fn send_response<'q, 'a, A, N, S, D>(
+        &mut self,
+        alloc: Global,
+        response: MessageResponse<'q, 'a, A, N, S, D>,
+    ) -> Result<ResponseInfo, io::Error>
+    where
+        A: Iterator + Drop,
+        A::Item: RecordRef,
+        N: Iterator + Drop,
+        N::Item: RecordRef,
+        S: Iterator + Drop,
+        S::Item: RecordRef,
+        D: Iterator + Drop,
+        D::Item: RecordRef,
+    {
+        let Ok((info, _sent)) = encode_response(alloc, response, Protocol::Udp) else {
+            return Err(self.fail());
+        };
+        match self.count() {
+            Ok(()) => Ok(info),
+            Err(e) => Err(e),
+        }
     }
 }
 
@@ -422,6 +494,28 @@ fn a_faulty_sink_counts_its_failures(rt: HostRuntime) -> Result<(), Fail> {
     assert_eq!(rt; (code, sink.failures), (ResponseCode::SERV_FAIL, 0));
     serve(rt.alloc(), &mut handler, &mut sink, &QUERY)?;
     assert_eq!(rt; sink.failures, 1);
+    Ok(())
+}
+
+#[test]
+fn a_counting_sink_keeps_no_reply(rt: HostRuntime) -> Result<(), Fail> {
+    let mut handler = Refusing {
+        code: ResponseCode::REFUSED,
+    };
+    let mut sink = CountingSink {
+        sent: u64::MAX - 1,
+        failures: 0,
+    };
+    let code = serve(rt.alloc(), &mut handler, &mut sink, &QUERY)?;
+    assert_eq!(rt;
+        (code, sink.sent, sink.failures),
+        (ResponseCode::REFUSED, u64::MAX, 0)
+    );
+    let code = serve(rt.alloc(), &mut handler, &mut sink, &QUERY)?;
+    assert_eq!(rt;
+        (code, sink.sent, sink.failures),
+        (ResponseCode::SERV_FAIL, u64::MAX, 1)
+    );
     Ok(())
 }
 

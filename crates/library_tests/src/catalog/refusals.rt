@@ -30,9 +30,9 @@ fn chain(alloc: Global, handler: usize) -> Option<Vec<usize>> {
 }
 
 /// What was asked is found now or, where memory was refused once, at the second try.
-fn is_found(alloc: Global, zones: &Zones<usize>, asked: &LowerName) -> bool {
+fn is_found(zones: &Zones<usize>, asked: &LowerName) -> bool {
     for _ in 0..2 {
-        if let Ok(found) = zones.find(alloc, asked) {
+        if let Ok(found) = zones.find(asked) {
             return found.is_some();
         }
     }
@@ -45,7 +45,7 @@ fn put_and_find(rt: &impl Abort, alloc: Global) -> Option<()> {
     let handlers = chain(alloc, 7)?;
     let mut zones = Zones::new(alloc);
     match zones.upsert(apex, handlers) {
-        Ok(_old) => assert!(rt; is_found(alloc, &zones, &asked)),
+        Ok(_old) => assert!(rt; is_found(&zones, &asked)),
         Err((name, chain)) => {
             assert!(rt; !zones.contains(&name));
             assert_eq!(rt; chain.as_slice(), [7].as_slice());

@@ -16,7 +16,7 @@ use std::test::Fail;
 
 /// When a sink fails.
 #[derive(Clone, Copy, PartialEq, Eq)]
-enum Fails {
+pub(crate) enum Fails {
     /// Before it looks at the reply.
     Before,
     /// Once it has the reply.
@@ -25,10 +25,10 @@ enum Fails {
 
 /// A sink over TCP that keeps the bytes of its replies.
 #[derive(Drop)]
-struct Sink {
-    fails: Fails,
-    replies: Vec<Vec<u8>>,
-    failures: u64,
+pub(crate) struct Sink {
+    pub(crate) fails: Fails,
+    pub(crate) replies: Vec<Vec<u8>>,
+    pub(crate) failures: u64,
 }
 
 impl Sink {
@@ -52,7 +52,7 @@ impl ResponseHandler for Sink {
 
     ghost shows = { λ _ _ _. Unit {0} };
 
-    ghost informs = { λ _ _ _. Unit {0} };
+    ghost informs = { λ _ _ _ _. Unit {0} };
 
     ghost failures = { λ sink. sink.failures };
 

@@ -137,13 +137,8 @@ fn print_chain(chain: &[Handler], out: &mut String) -> Result<(), Fault> {
 }
 
 /// Puts the handlers that answer for a name behind a text.
-fn print_found(
-    script: &Script,
-    alloc: Global,
-    name: &LowerName,
-    out: &mut String,
-) -> Result<(), Fault> {
-    match script.catalog.find(alloc, name)? {
+fn print_found(script: &Script, name: &LowerName, out: &mut String) -> Result<(), Fault> {
+    match script.catalog.find(name)? {
         Some(chain) => print_chain(chain, out),
         None => out.push_str("no zone\n").map_err(Fault::from),
     }
@@ -152,7 +147,7 @@ fn print_found(
 /// Tells which handlers answer for a name.
 fn find(script: &Script, alloc: Global, name: &str, out: &mut String) -> Result<(), Fault> {
     let name = lower_name(alloc, name)?;
-    print_found(script, alloc, &name, out)
+    print_found(script, &name, out)
 }
 
 /// Obeys a command that asks, if it is one.

@@ -1,5 +1,6 @@
 //! What holds for the messages that follow.
 
+use crate::commands::signing::sign_by;
 use crate::fault::Fault;
 use crate::printing::print_hex;
 use crate::script::Script;
@@ -93,6 +94,7 @@ pub(crate) fn obey(
         ["source", ..] => Err(Fault::Usage("source ADDRESS PORT")),
         ["now", seconds] => set_now(script, seconds),
         ["now", ..] => Err(Fault::Usage("now SECONDS")),
+        ["signer", words @ ..] => sign_by(script, alloc, words),
         ["identifier"] => print_identifier(script, alloc, out),
         ["identifier", "none"] => forget_identifier(script),
         ["identifier", digits @ ..] => identify(script, alloc, digits),

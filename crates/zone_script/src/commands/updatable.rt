@@ -91,7 +91,7 @@ pub(crate) fn last_updatable(script: &Script) -> Result<&UpdatableZone, Fault> {
 }
 
 /// The same, to be set.
-fn last_updatable_mut(script: &mut Script) -> Result<&mut UpdatableZone, Fault> {
+pub(crate) fn last_updatable_mut(script: &mut Script) -> Result<&mut UpdatableZone, Fault> {
     if script.zone.is_some() {
         return Err(Fault::NoUpdatable);
     }
@@ -179,7 +179,7 @@ fn print_kind(alloc: Global, out: &mut String, kind: &TSigResponseKind) -> Resul
 }
 
 /// Puts what the signer of the reply has to know behind a text, if there is something.
-fn print_context(
+pub(crate) fn print_context(
     alloc: Global,
     out: &mut String,
     context: &Option<TSigResponseContext>,

@@ -7,4 +7,4 @@ returns-in-Some-clause-ok g c =
     let r = c.in_ok-handle_request.ensures.replied in
     let sent = rw c.new-sink.ensures at r.3 in
     let last = c.in-Some.ensures.last in
-    record { reply = r.0; is_reply = rw c.in_ok-handle_request.ensures.unchanged at r.1; is_encoded = last_shows (IsEncodingOf c.args.protocol) last.0 c.in-Some.bytes r.0 _ _ _ _ _ sent.1 last.1 }
+    record { reply = r.0; is_reply = r.1; is_encoded = last_shows (IsEncodingOf c.args.protocol) last.0 c.in-Some.bytes r.0 _ _ _ _ _ sent.1 last.1 }
