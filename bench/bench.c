@@ -17,7 +17,18 @@
 #include <time.h>
 #include <valgrind/callgrind.h>
 
-enum call { READ_REQUEST, READ_MESSAGE, WRITE_MESSAGE, ANSWER_REQUEST, FIND_ZONE, ALLOW, READ_BLOCKLIST, IS_BLOCKED };
+enum call {
+    READ_REQUEST,
+    READ_MESSAGE,
+    WRITE_MESSAGE,
+    ANSWER_REQUEST,
+    ANSWER_TRANSFER,
+    UPDATE,
+    FIND_ZONE,
+    ALLOW,
+    READ_BLOCKLIST,
+    IS_BLOCKED
+};
 
 struct side {
     const char *name;
@@ -25,6 +36,8 @@ struct side {
     uint64_t (*read_message)(const uint8_t *, size_t, uint64_t);
     uint64_t (*write_message)(const uint8_t *, size_t, uint16_t, uint64_t);
     uint64_t (*answer_request)(const uint8_t *, size_t, const uint8_t *, size_t, uint64_t);
+    uint64_t (*answer_transfer)(const uint8_t *, size_t, const uint8_t *, size_t, uint64_t);
+    uint64_t (*update)(const uint8_t *, size_t, const uint8_t *, size_t, uint64_t);
     uint64_t (*find_zone)(const uint8_t *, size_t, const uint8_t *, size_t, uint64_t);
     uint64_t (*allow)(const uint8_t *, size_t, uint32_t, uint64_t);
     uint64_t (*read_blocklist)(const uint8_t *, size_t, uint64_t);
@@ -33,11 +46,11 @@ struct side {
 
 static const struct side sides[] = {
     {"ours", bench_calls_read_request, bench_calls_read_message, bench_calls_write_message,
-     bench_calls_answer_request, bench_calls_find_zone, bench_calls_allow, bench_calls_read_blocklist,
-     bench_calls_is_blocked},
-    {"peer", peer_read_request, peer_read_message, peer_write_message, peer_answer_request, peer_find_zone, NULL, NULL,
-     peer_is_blocked},
-    {"ldns", NULL, ldns_read_message, ldns_write_message, NULL, NULL, NULL, NULL, NULL},
+     bench_calls_answer_request, bench_calls_answer_transfer, bench_calls_update, bench_calls_find_zone,
+     bench_calls_allow, bench_calls_read_blocklist, bench_calls_is_blocked},
+    {"peer", peer_read_request, peer_read_message, peer_write_message, peer_answer_request, peer_answer_transfer,
+     peer_update, peer_find_zone, NULL, NULL, peer_is_blocked},
+    {"ldns", NULL, ldns_read_message, ldns_write_message, NULL, NULL, NULL, NULL, NULL, NULL, NULL},
 };
 
 #define SIDES (sizeof sides / sizeof sides[0])
@@ -46,7 +59,7 @@ struct job {
     char name[64];
     uint32_t size;
     enum call call;
-    // The message, zone, names, networks or list; then the request or the name, where there is one.
+    // The message, zone, names, networks or list; then the request, the updates or the name, where there are any.
     struct bytes input;
     struct bytes second;
     // The limit or the address.
@@ -65,6 +78,10 @@ static int has_call(const struct side *side, const struct job *job)
         return side->write_message != NULL && (job->number == UINT16_MAX || strcmp(side->name, "ldns") != 0);
     case ANSWER_REQUEST:
         return side->answer_request != NULL;
+    case ANSWER_TRANSFER:
+        return side->answer_transfer != NULL;
+    case UPDATE:
+        return side->update != NULL;
     case FIND_ZONE:
         return side->find_zone != NULL;
     case ALLOW:
@@ -93,6 +110,12 @@ static uint64_t run(const struct side *side, const struct job *job, uint64_t rou
         break;
     case ANSWER_REQUEST:
         answer = side->answer_request(in->at, in->len, second->at, second->len, rounds);
+        break;
+    case ANSWER_TRANSFER:
+        answer = side->answer_transfer(in->at, in->len, second->at, second->len, rounds);
+        break;
+    case UPDATE:
+        answer = side->update(in->at, in->len, second->at, second->len, rounds);
         break;
     case FIND_ZONE:
         answer = side->find_zone(in->at, in->len, second->at, second->len, rounds);
@@ -284,6 +307,8 @@ static const struct bytes none;
 static const uint32_t counts[] = {1, 13, 100, 1000};
 // Each number of entries of a map or a list.
 static const uint32_t entries[] = {1, 1000, 100000};
+// Each number of records of a zone that is transferred or updated.
+static const uint32_t records[] = {10, 1000, 100000};
 
 #define EACH(i, list) for (size_t i = 0; i < sizeof list / sizeof list[0]; i++)
 
@@ -311,6 +336,22 @@ static void measure_replies(void)
         measure("whole reply, a hit", counts[i], ANSWER_REQUEST, zone(counts[i]), address_query("www.example.com."), 0);
     measure("whole reply, NXDomain", 1, ANSWER_REQUEST, zone(1), address_query("none.example.com."), 0);
     measure("whole reply, Refused", 1, ANSWER_REQUEST, zone(1), address_query("www.example.net."), 0);
+}
+
+// An update that adds names and one that deletes them again; the zone is then as before, but for its serial.
+static void measure_zones(void)
+{
+    static const uint32_t names[] = {1, 10, 1000};
+    EACH(i, records)
+        measure("transfer of a zone", records[i], ANSWER_TRANSFER, large_zone(records[i]), transfer_query(), 0);
+    EACH(n, names) {
+        char title[64];
+        snprintf(title, sizeof title, "update: names added and deleted, %u", names[n]);
+        EACH(i, records)
+            measure(title, records[i], UPDATE, large_zone(records[i]), additions_and_deletions(names[n], 0), 0);
+    }
+    EACH(i, records)
+        measure("update: all sets of a name deleted", records[i], UPDATE, large_zone(records[i]), additions_and_deletions(1, 1), 0);
 }
 
 static void measure_maps(void)
@@ -360,6 +401,7 @@ int main(int argc, char **argv)
     word = argc == 3 ? argv[2] : "";
     measure_messages();
     measure_replies();
+    measure_zones();
     measure_maps();
     measure_blocklist();
     return 0;

@@ -5,7 +5,7 @@
 #include <stdlib.h>
 #include <string.h>
 
-enum { TYPE_A = 1, TYPE_NS = 2, TYPE_SOA = 6, TYPE_MX = 15, TYPE_OPT = 41, CLASS_IN = 1 };
+enum { TYPE_A = 1, TYPE_NS = 2, TYPE_SOA = 6, TYPE_MX = 15, TYPE_OPT = 41, TYPE_AXFR = 252, TYPE_ANY = 255, CLASS_IN = 1, CLASS_ANY = 255 };
 
 // Where the name of the first question stands.
 #define QUESTION 12
@@ -143,26 +143,32 @@ struct bytes exchanges(uint32_t count)
     return made;
 }
 
+// SOA and NS of example.com., whose name is the question's.
+static void put_apex(struct bytes *to)
+{
+    put_pointer(to, QUESTION);
+    put_fields(to, TYPE_SOA, 5 + 8 + 20);
+    put_label(to, "ns", 2);
+    put_pointer(to, QUESTION);
+    put_label(to, "admin", 5);
+    put_pointer(to, QUESTION);
+    uint32_t numbers[] = {7, 3600, 1800, 604800, 86400};
+    for (size_t i = 0; i < 5; i++)
+        put32(to, numbers[i]);
+    put_pointer(to, QUESTION);
+    put_fields(to, TYPE_NS, 5);
+    put_label(to, "ns", 2);
+    put_pointer(to, QUESTION);
+}
+
 struct bytes zone(uint32_t count)
 {
     struct bytes made = {0};
     put_header(&made, 0x8500, (uint16_t)(3 + count), 0);
     put_question(&made, "example.com.", TYPE_SOA);
-    put_pointer(&made, QUESTION);
-    put_fields(&made, TYPE_SOA, 5 + 8 + 20);
+    put_apex(&made);
     put_label(&made, "ns", 2);
     put_pointer(&made, QUESTION);
-    put_label(&made, "admin", 5);
-    put_pointer(&made, QUESTION);
-    uint32_t numbers[] = {7, 3600, 1800, 604800, 86400};
-    for (size_t i = 0; i < 5; i++)
-        put32(&made, numbers[i]);
-    put_pointer(&made, QUESTION);
-    put_fields(&made, TYPE_NS, 5);
-    size_t server = made.len;
-    put_label(&made, "ns", 2);
-    put_pointer(&made, QUESTION);
-    put_pointer(&made, server);
     put_fields(&made, TYPE_A, 4);
     put32(&made, 0xc0000202);
     for (uint32_t i = 0; i < count; i++) {
@@ -170,6 +176,76 @@ struct bytes zone(uint32_t count)
         put_pointer(&made, QUESTION);
         put_fields(&made, TYPE_A, 4);
         put_address(&made, i);
+    }
+    return made;
+}
+
+// A label of a letter and a number, below the question's name.
+static void put_host(struct bytes *to, char letter, uint32_t i)
+{
+    char label[16];
+    put_label(to, label, (size_t)snprintf(label, sizeof label, "%c%u", letter, i));
+    put_pointer(to, QUESTION);
+}
+
+// The records of the zone from `start` on, and up to `end`.
+static struct bytes zone_part(uint32_t start, uint32_t end)
+{
+    struct bytes made = {0};
+    put_header(&made, 0x8400, (uint16_t)(end - start), 0);
+    put_question(&made, "example.com.", TYPE_AXFR);
+    if (start == 0)
+        put_apex(&made);
+    for (uint32_t i = start == 0 ? 2 : start; i < end; i++) {
+        put_host(&made, 'h', i);
+        put_fields(&made, TYPE_A, 4);
+        put_address(&made, i);
+    }
+    return made;
+}
+
+struct bytes large_zone(uint32_t count)
+{
+    struct bytes made = {0};
+    for (uint32_t start = 0; start < count; start += 1000) {
+        struct bytes part = zone_part(start, count - start < 1000 ? count : start + 1000);
+        put16(&made, (uint16_t)part.len);
+        put(&made, part.at, part.len);
+        free(part.at);
+    }
+    return made;
+}
+
+struct bytes transfer_query(void)
+{
+    struct bytes made = {0};
+    put_header(&made, 0x0000, 0, 0);
+    put_question(&made, "example.com.", TYPE_AXFR);
+    return made;
+}
+
+struct bytes additions_and_deletions(uint32_t count, int all_sets)
+{
+    struct bytes made = {0};
+    put16(&made, 0x1234);
+    // Opcode Update.
+    put16(&made, 5 << 11);
+    put16(&made, 1);
+    put16(&made, (uint16_t)count);
+    put16(&made, (uint16_t)count);
+    put16(&made, 0);
+    put_question(&made, "example.com.", TYPE_SOA);
+    for (uint32_t i = 0; i < count; i++) {
+        put_host(&made, 'n', i);
+        put_fields(&made, TYPE_A, 4);
+        put_address(&made, i);
+    }
+    for (uint32_t i = 0; i < count; i++) {
+        put_host(&made, 'n', i);
+        put16(&made, all_sets ? TYPE_ANY : TYPE_A);
+        put16(&made, CLASS_ANY);
+        put32(&made, 0);
+        put16(&made, 0);
     }
     return made;
 }

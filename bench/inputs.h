@@ -22,6 +22,14 @@ struct bytes addresses(uint32_t count);
 struct bytes exchanges(uint32_t count);
 // The zone example.com. as the answers of a message: SOA, NS, the server's address, and `count` addresses of www.
 struct bytes zone(uint32_t count);
+// The zone example.com. with `count` records, SOA and NS among them, the others addresses of h0.example.com.,
+// h1.example.com. and so on: the answers of messages of at most 1,000, each behind its length (RFC 1035 section 4.2.2).
+struct bytes large_zone(uint32_t count);
+// A query for a transfer of example.com. (RFC 5936).
+struct bytes transfer_query(void);
+// An update of example.com. (RFC 2136): the answers add an address to each of `count` names, n0.example.com. and so on; the
+// authorities delete these sets again, or, where asked for, all sets of these names.
+struct bytes additions_and_deletions(uint32_t count, int all_sets);
 // `count` names, z0.example., z1.example. and so on, one behind the other.
 struct bytes zone_names(uint32_t count);
 // `count` lines of a list of blocked names: z0.example., *.z1.example., z2.example. and so on, each other line a

@@ -15,9 +15,10 @@ use trust_dns_client::rr::LowerName;
 use trust_dns_proto::op::{Message, Query};
 use trust_dns_proto::rr::{Name, RData, Record, RecordType};
 use trust_dns_proto::serialize::binary::{BinDecodable, BinDecoder, BinEncodable, BinEncoder};
-use trust_dns_server::authority::{Catalog, MessageRequest, MessageResponse, ZoneType};
+use trust_dns_server::authority::{Authority, Catalog, MessageRequest, MessageResponse, ZoneType};
 use trust_dns_server::server::{Protocol, Request, RequestHandler, ResponseHandler, ResponseInfo};
 use trust_dns_server::store::in_memory::InMemoryAuthority;
+use trust_dns_server::store::sqlite::SqliteAuthority;
 
 /// What is answered where the input of a case is wrong.
 const WRONG: u64 = u64::MAX;
@@ -140,17 +141,27 @@ impl ResponseHandler for Sink {
     }
 }
 
+/// The zone of these records, the SOA first.
+fn authority(records: &[Record], allow_axfr: bool) -> Option<InMemoryAuthority> {
+    let origin = records.first()?.name().clone();
+    let mut authority = InMemoryAuthority::empty(origin, ZoneType::Primary, allow_axfr);
+    for record in records {
+        authority.upsert_mut(record.clone(), 0);
+    }
+    Some(authority)
+}
+
+/// The catalog of one zone.
+fn catalog_of(authority: InMemoryAuthority) -> Catalog {
+    let mut catalog = Catalog::new();
+    catalog.upsert(authority.origin().clone(), Box::new(Arc::new(authority)));
+    catalog
+}
+
 /// The catalog of the zone whose records are the answers of a message, the SOA first.
 fn catalog(zone: &[u8]) -> Option<Catalog> {
     let message = Message::from_vec(zone).ok()?;
-    let origin = message.answers().first()?.name().clone();
-    let mut authority = InMemoryAuthority::empty(origin.clone(), ZoneType::Primary, false);
-    for record in message.answers() {
-        authority.upsert_mut(record.clone(), 0);
-    }
-    let mut catalog = Catalog::new();
-    catalog.upsert(LowerName::new(&origin), Box::new(Arc::new(authority)));
-    Some(catalog)
+    Some(catalog_of(authority(message.answers(), false)?))
 }
 
 #[inline(never)]
@@ -167,10 +178,9 @@ fn measured_answer_request(
     Some(())
 }
 
-fn answered_len(zone: &[u8], bytes: &[u8], rounds: u64) -> Option<u64> {
-    let catalog = catalog(zone)?;
+fn answered_len(catalog: &Catalog, bytes: &[u8], rounds: u64) -> Option<u64> {
     let sink = Sink(Arc::new(AtomicU64::new(0)));
-    measured_answer_request(&catalog, &sink, bytes, rounds)?;
+    measured_answer_request(catalog, &sink, bytes, rounds)?;
     Some(sink.0.load(Ordering::Relaxed))
 }
 
@@ -186,7 +196,86 @@ pub unsafe extern "C" fn peer_answer_request(
     len: usize,
     rounds: u64,
 ) -> u64 {
-    answered_len(bytes_at(zone, zone_len), bytes_at(bytes, len), rounds).unwrap_or(WRONG)
+    let Some(catalog) = catalog(bytes_at(zone, zone_len)) else {
+        return WRONG;
+    };
+    answered_len(&catalog, bytes_at(bytes, len), rounds).unwrap_or(WRONG)
+}
+
+/// The answers of messages, each behind its length (RFC 1035 section 4.2.2).
+fn answers(bytes: &[u8]) -> Option<Vec<Record>> {
+    let mut records = Vec::new();
+    let mut rest = bytes;
+    while let [high, low, behind @ ..] = rest {
+        let len = usize::from(u16::from_be_bytes([*high, *low]));
+        records.extend_from_slice(Message::from_vec(behind.get(..len)?).ok()?.answers());
+        rest = behind.get(len..)?;
+    }
+    Some(records)
+}
+
+/// Answers a request for a transfer of a zone; the number of bytes of all replies.
+///
+/// # Safety
+/// `zone` points to `zone_len` bytes, `bytes` to `len` bytes.
+#[no_mangle]
+pub unsafe extern "C" fn peer_answer_transfer(
+    zone: *const u8,
+    zone_len: usize,
+    bytes: *const u8,
+    len: usize,
+    rounds: u64,
+) -> u64 {
+    let records = answers(bytes_at(zone, zone_len)).unwrap_or_default();
+    let Some(authority) = authority(&records, true) else {
+        return WRONG;
+    };
+    answered_len(&catalog_of(authority), bytes_at(bytes, len), rounds).unwrap_or(WRONG)
+}
+
+/// Makes an update that may be made; whether it changed the zone.
+fn update(zone: &SqliteAuthority, records: &[Record]) -> Option<bool> {
+    block_on(async {
+        zone.pre_scan(records).await.ok()?;
+        zone.update_records(records, true).await.ok()
+    })
+}
+
+#[inline(never)]
+fn measured_update(
+    zone: &SqliteAuthority,
+    first: &[Record],
+    second: &[Record],
+    rounds: u64,
+) -> Option<u64> {
+    let mut changed = 0;
+    for _ in 0..rounds {
+        let is_changed = update(zone, first)?;
+        changed += u64::from(update(zone, second)? && is_changed);
+    }
+    Some(changed)
+}
+
+fn updated(zone: &[u8], updates: &[u8], rounds: u64) -> Option<u64> {
+    let zone = SqliteAuthority::new(authority(&answers(zone)?, true)?, true, false);
+    let message = Message::from_vec(updates).ok()?;
+    measured_update(&zone, message.answers(), message.name_servers(), rounds)
+}
+
+/// Makes two updates of a zone: what the answers of a message say, then what its authorities say; the number of rounds in
+/// which both changed the zone.
+///
+/// # Safety
+/// `zone` points to `zone_len` bytes, `updates` to `len` bytes.
+#[no_mangle]
+pub unsafe extern "C" fn peer_update(
+    zone: *const u8,
+    zone_len: usize,
+    updates: *const u8,
+    len: usize,
+    rounds: u64,
+) -> u64 {
+    updated(bytes_at(zone, zone_len), bytes_at(updates, len), rounds).unwrap_or(WRONG)
 }
 
 fn name(decoder: &mut BinDecoder<'_>) -> Option<LowerName> {
