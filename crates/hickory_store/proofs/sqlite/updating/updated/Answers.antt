@@ -5,7 +5,7 @@ use Rattle.hickory_store.specs.Changes.{fold}
 use Rattle.hickory_store.specs.NameUpdates.{AreNow, ByName}
 use Rattle.hickory_store.specs.UpdateAnswers.{IsRefused, Outcome, incremented}
 use Rattle.hickory_store.proofs.ApexNs.{Records}
-use Rattle.hickory_store.proofs.TouchedNames.{none_touched, serial_given, with_change, without_change, without_serial}
+use Rattle.hickory_store.proofs.TouchedNames.{none_touched, serial_given, with_change, without_serial}
 use Rattle.hickory_store.proofs.sqlite.updating.updated.Goals as goal
 use Rattle.hickory_store.proofs.sqlite.updating.updated.Goals.{then-increments+else-not-is_changed+in_ok-increment_apex, else-increments}
 
