@@ -116,10 +116,6 @@ module _ (o : DomainName) (z rs : Records) where
   without_serial true e = absurd (cc)
   without_serial false e = refl
 
-  pub without_change : (increments : Bool) → increments ≡ true → any_change o 1 z rs ≡ false → applied o 1 z rs increments ≡ Ok (z, false)
-  without_change true e f = ap (λ b. cond b (with_next_serial o (fold o 1 z rs)) (Ok (z, false))) f
-  without_change false e f = absurd (cc)
-
   pub with_change : (increments : Bool) → increments ≡ true → any_change o 1 z rs ≡ true → applied o 1 z rs increments ≡ with_next_serial o (fold o 1 z rs)
   with_change true e f = ap (λ b. cond b (with_next_serial o (fold o 1 z rs)) (Ok (z, false))) f
   with_change false e f = absurd (cc)

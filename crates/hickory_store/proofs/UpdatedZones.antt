@@ -2,11 +2,8 @@
 use Rattle.std.proofs.Common.{◌≡◌, ◌∙◌, ℕ, Bool, true, false, cond, not, ◌&&◌, List, [], ◌∷◌, ◌++◌, map, filter, Option, Some, None, Result, Ok, Err, refl, sym, ap, subst, ◌<◌, ◌^◌, arith}
 use Rattle.std.specs.Prelude.{◌↔◌, IsTrue, ◌==◌}
 use Rattle.std.specs.List.{AllByRecursion, list_any}
-use Rattle.std.specs.List.Sorted.{IsStrictlySortedBy}
-use Rattle.std.specs.Map.{keys_of}
 use Rattle.std.specs.Option.{MatchOption, option_or}
 use Rattle.std.specs.Ordering.{is_eq}
-use Rattle.std.specs.declared.cmp.Ordering.TheVariants.{Less}
 use Rattle.std.proofs.lemmas.Bool.{eq-eqb, eqb-true}
 use Rattle.hickory_wire.specs.rr.domain.DomainName.{DomainName}
 use Rattle.hickory_wire.specs.rr.domain.NameOrder.{SameName}
@@ -19,10 +16,9 @@ use Rattle.hickory_wire.specs.declared.rr.record.Proof.{Proof}
 use Rattle.hickory_wire.specs.declared.rr.record.Record.{Record}
 use Rattle.hickory_wire.proofs.lemmas.rr.RecordComparing.{both_hold, hold_both}
 use Rattle.hickory_wire.proofs.lemmas.rr.domain.SameNames.{eq_from_same, same_order}
-use Rattle.hickory_base.specs.zone_store.ZoneRecords.{is_at, is_of}
-use Rattle.hickory_base.specs.zone_store.ZoneSets.{AreDistinct, IsSoaData, IsUnder, IsWellTyped, IsZone, key_cmp, zone_records}
+use Rattle.hickory_base.specs.zone_store.ZoneRecords.{is_at}
+use Rattle.hickory_base.specs.zone_store.ZoneSets.{AreDistinct, IsSoaData, IsWellTyped, IsZone, zone_records}
 use Rattle.hickory_base.specs.declared.zone_store.record_set.RrKey.{RrKey}
-use Rattle.hickory_base.proofs.lemmas.zone_store.ZoneByName.{of_under}
 use Rattle.hickory_store.specs.Changes.{comes, fold, goes_when, in_rrset, is_spared, replaces_rrset, turn}
 use Rattle.hickory_store.specs.Identity.{is_in_zone, same_record}
 use Rattle.hickory_store.specs.Prescan.{has_zone_data, is_addition, is_query_type, is_well_formed, prescan_refusal, update_refusal}
@@ -297,39 +293,6 @@ zone_typed (e ∷ es) zone = both_all e.1 zone.0.typed (zone_typed es zone.1)
     both_all : (xs : Records) → AllByRecursion IsWellTyped xs → AllByRecursion IsWellTyped (zone_records es) → AllByRecursion IsWellTyped (xs ++ zone_records es)
     both_all [] h k = k
     both_all (x ∷ xs) h k = (h.0, both_all xs h.1 k)
-
-both_distinct : (xs ys : Records) → AreDistinct xs → AreDistinct ys → AllByRecursion (λ x. AllByRecursion (λ y. ¬ (SameRecord x y)) ys) xs → AreDistinct (xs ++ ys)
-both_distinct [] ys h k n = k
-both_distinct (x ∷ xs) ys h k n = (all_of xs h.0, both_distinct xs ys h.1 k n.1)
-  where
-    all_of : (zs : Records) → AllByRecursion (λ q. ¬ (SameRecord x q)) zs → AllByRecursion (λ q. ¬ (SameRecord x q)) (zs ++ ys)
-    all_of [] a = n.0
-    all_of (z ∷ zs) a = (a.0, all_of zs a.1)
-
--- records under keys of which one is less are not the same
-under_apart : (k f : RrKey) (x y : Record RData) → key_cmp k f ≡ Less → IsUnder k x → IsUnder f y → ¬ (SameRecord x y)
-under_apart k f x y less u v s =
-    let here : is_of k.name k.record_type y ≡ true = hold_both _ _
-    (eq_from_same k.name y.name (record { labels = sym u.name.labels ∙ s.name.labels; marks = sym u.name.marks ∙ s.name.marks }))
-    (eq-eqb k.record_type (type_of y.rdata) (sym u.record_type ∙ same_type x y s)) in
-    let there : is_of k.name k.record_type y ≡ false = of_under k.name k.record_type f y v ∙ ap is_eq less in
-    let both : true ≡ false = sym here ∙ there in cc
-
-apart_one : (k f : RrKey) (x : Record RData) (ys more : Records) → key_cmp k f ≡ Less → IsUnder k x → AllByRecursion (IsUnder f) ys → AllByRecursion (λ y. ¬ (SameRecord x y)) more
-    → AllByRecursion (λ y. ¬ (SameRecord x y)) (ys ++ more)
-apart_one k f x [] more less u v m = m
-apart_one k f x (y ∷ ys) more less u v m = (under_apart k f x y less u v.0, apart_one k f x ys more less u v.1 m)
-
-apart_sets : (k : RrKey) (x : Record RData) (es : Sets) → AllByRecursion (λ f. key_cmp k f ≡ Less) (keys_of es) → IsUnder k x → IsZone es → AllByRecursion (λ y. ¬ (SameRecord x y)) (zone_records es)
-apart_sets k x [] above u zone = tt
-apart_sets k x (e ∷ es) above u zone = apart_one k e.0 x e.1 (zone_records es) above.0 u zone.0.under (apart_sets k x es above.1 u zone.1)
-
-pub zone_distinct : (S : Sets) → IsStrictlySortedBy key_cmp (keys_of S) → IsZone S → AreDistinct (zone_records S)
-unfolding IsStrictlySortedBy
-zone_distinct [] sorted zone = tt
-zone_distinct (e ∷ es) sorted zone =
-    both_distinct e.1 (zone_records es) zone.0.distinct (zone_distinct es sorted.1 zone.1)
-    (all_from (IsUnder e.0) (λ x. AllByRecursion (λ y. ¬ (SameRecord x y)) (zone_records es)) (λ x u. apart_sets e.0 x es sorted.0 u zone.1) e.1 zone.0.under)
 
 pub some_part : {X : Type 0} (o : Option X) (v : X) (P : Type 0) (Q : X → Type 0) → o ≡ Some v → MatchOption o P Q → Q v
 some_part o v P Q e h = subst (λ w. MatchOption w P Q) e h

@@ -1,9 +1,9 @@
-//! What the records of an update section do to the records of a zone, one after another.
+//! What one record of an update section does to the records of a zone, or of its name.
 
 ghost use Rattle.std.specs.Prelude.{◌≡◌, ◌&&◌, IfOk, OnOk, filter, not};
 ghost use Rattle.std.specs.List.{list_any};
 ghost use Rattle.hickory_base.specs.zone_store.ZoneRecords.{is_at};
-ghost use Rattle.hickory_store.specs.Changes.{any_change, changes, comes, fold, goes_when, has_ttl, in_class, in_rrset, is_cleared, is_ignored, is_newer, is_spared, is_there, is_type, replaces_rrset, turn};
+ghost use Rattle.hickory_store.specs.Changes.{changes, comes, goes_when, has_ttl, in_class, in_rrset, is_cleared, is_ignored, is_newer, is_spared, is_there, is_type, replaces_rrset, turn};
 ghost use Rattle.hickory_store.specs.Identity.{same_record, ttl_at};
 ghost use Rattle.hickory_store.specs.Serials.{is_greater};
 
@@ -245,24 +245,4 @@ pub(crate) fn take_turn(
     } else {
         Ok(is_going)
     }
-}
-
-/// Does what the records of an update section say, one after another, and tells whether the zone changed. Where memory is
-/// refused, some may have been done.
-pub(crate) fn fold(
-    origin: &Name,
-    class: DNSClass,
-    records: &mut Vec<Record>,
-    updates: &[Record],
-) -> Result<bool, AllocError>
-    ensures zone { OnOk result (records.new.items ≡ fold origin.now class records.old.items updates.now) }
-    ensures changed { IfOk result (λ changed. changed ≡ any_change origin.now class records.old.items updates.now) }
-{
-    let mut changed = false;
-    for r in updates {
-        if take_turn(origin, class, records, r)? {
-            changed = true;
-        }
-    }
-    Ok(changed)
 }

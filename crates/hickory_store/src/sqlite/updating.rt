@@ -1,22 +1,27 @@
 //! Dynamic updates of a zone, whole or not at all.
 
-ghost use Rattle.std.specs.Prelude.{◌≡◌, ◌<◌, ◌^◌, IfOk, MatchOption, MatchResult, None, Ok, OnOk, false, map, true};
+ghost use Rattle.std.specs.Prelude.{◌≡◌, ◌<◌, ◌^◌, IfErr, IfOk, List, MatchOption, MatchResult, None, Ok, OnOk, false, map, true};
 ghost use Rattle.std.specs.List.{AllByRecursion, list_any};
+ghost use Rattle.hickory_wire.specs.declared.rr.rdata.RData.{RData as Data};
+ghost use Rattle.hickory_wire.specs.declared.rr.record.Record.{Record as ResourceRecord};
 ghost use Rattle.hickory_base.specs.zone_store.ZoneSets.{zone_records};
+ghost use Rattle.hickory_store.specs.NameUpdates.{AreNow};
 ghost use Rattle.hickory_store.specs.Prescan.{prescan_refusal};
 ghost use Rattle.hickory_store.specs.Serials.{next_serial};
-ghost use Rattle.hickory_store.specs.UpdateAnswers.{IsRefused, Updates, applied, incremented, is_apex_soa};
+ghost use Rattle.hickory_store.specs.UpdateAnswers.{IsRefused, Updates, applied, incremented, is_apex_soa, with_next_serial};
 ghost use Rattle.hickory_store.specs.ZoneSets.{HasSerial};
 
-use crate::sqlite::changes::{fold, is_type};
+use crate::sqlite::changed_sets::{changed_sets, commit_changes};
+use crate::sqlite::changes::is_type;
 use crate::sqlite::handler::SqliteZoneHandler;
 use crate::sqlite::laws::identities;
+use crate::sqlite::touched::{ByName, put_name, take_name, touch_all};
 use crate::sqlite::verifier::Verifier;
-use crate::sqlite::zone_sets::zone_of_records;
 use hickory_base::errors::UpdateFault;
 use hickory_base::zone_store::{InMemoryZoneHandler, ZoneHandler};
-use hickory_wire::{Boxed, DNSClass, Name, RData, Record, RecordType, ResponseCode, SOA};
+use hickory_wire::{Boxed, Name, RData, Record, RecordType, ResponseCode, SOA};
 use std::alloc::{AllocError, Global};
+use std::collections::BTreeMap;
 
 /// Whether a record is an SOA of the apex.
 fn is_apex_soa(origin: &Name, q: &Record) -> bool
@@ -65,27 +70,46 @@ fn increment_serials(alloc: Global, origin: &Name, records: &mut [Record]) -> Re
     Ok(())
 }
 
-/// The records after an update, or none where they stay as they are.
+/// Increments the serials of the SOAs of the apex, among its records as the update leaves them; without one it is ServFail.
+fn increment_apex(
+    alloc: Global,
+    zone: &InMemoryZoneHandler,
+    touched: &mut ByName,
+) -> Result<(), UpdateFault>
+    ensures zone { OnOk result ((records : List (ResourceRecord Data)) → AreNow (zone_records zone.now.sets) touched.old records → AreNow (zone_records zone.now.sets) touched.new (map (incremented zone.now.origin) records)) }
+    ensures found { OnOk result ((records : List (ResourceRecord Data)) → AreNow (zone_records zone.now.sets) touched.old records → list_any (is_apex_soa zone.now.origin) records ≡ true) }
+    ensures refused { IfErr result (λ e. (records : List (ResourceRecord Data)) → AreNow (zone_records zone.now.sets) touched.old records → IsRefused (with_next_serial zone.now.origin records) e) }
+{
+    let apex = zone.origin();
+    let mut records = take_name(alloc, zone, touched, apex)?;
+    let origin = apex.as_name();
+    if !has_apex_soa(origin, &records) {
+        return Err(UpdateFault::Code(ResponseCode::SERV_FAIL));
+    }
+    increment_serials(alloc, origin, &mut records)?;
+    let name = apex.clone()?;
+    put_name(touched, name, records)?;
+    Ok(())
+}
+
+/// The names that an update touches, with their records after it, or none where the zone stays as it is.
 fn updated(
     alloc: Global,
-    origin: &Name,
-    mut records: Vec<Record>,
+    zone: &InMemoryZoneHandler,
     updates: &[Record],
     increments: bool,
-) -> Result<Option<Vec<Record>>, UpdateFault>
-    ensures { MatchResult result (λ o. MatchOption o (applied origin.now 1 records.items updates.now increments ≡ Ok (records.items, false)) (λ v. applied origin.now 1 records.items updates.now increments ≡ Ok (v.items, increments))) (λ e. IsRefused (applied origin.now 1 records.items updates.now increments) e) }
+) -> Result<Option<ByName>, UpdateFault>
+    ensures { MatchResult result (λ o. MatchOption o (applied zone.now.origin 1 (zone_records zone.now.sets) updates.now increments ≡ Ok (zone_records zone.now.sets, false)) (λ touched. (records : List (ResourceRecord Data)) × AreNow (zone_records zone.now.sets) touched records × (applied zone.now.origin 1 (zone_records zone.now.sets) updates.now increments ≡ Ok (records, increments)))) (λ e. IsRefused (applied zone.now.origin 1 (zone_records zone.now.sets) updates.now increments) e) }
 {
-    let is_changed = fold(origin, DNSClass::IN, &mut records, updates)?;
+    let mut touched = BTreeMap::new(alloc);
+    let is_changed = touch_all(alloc, zone, &mut touched, updates)?;
     if increments {
         if !is_changed {
             return Ok(None);
         }
-        if !has_apex_soa(origin, &records) {
-            return Err(UpdateFault::Code(ResponseCode::SERV_FAIL));
-        }
-        increment_serials(alloc, origin, &mut records)?;
+        increment_apex(alloc, zone, &mut touched)?;
     }
-    Ok(Some(records))
+    Ok(Some(touched))
 }
 
 /// That serials have 32 bits is known of a record that was read.
@@ -137,15 +161,14 @@ impl<V: Verifier> SqliteZoneHandler<V> {
     {
         identities();
         read_serials(updates);
-        let _ = self.in_memory.records().len();
-        let records = self.in_memory.copied_records(alloc)?;
-        let origin = self.in_memory.origin().as_name();
-        match updated(alloc, origin, records, updates, increments_serial) {
-            Err(fault) => Err(fault),
-            Ok(None) => Ok(false),
-            Ok(Some(records)) => {
-                let sets = zone_of_records(alloc, records)?;
-                self.in_memory.replace_records(sets);
+        // That no two records of a zone are the same is known of sets that were lent.
+        let _ = self.in_memory.records();
+        let touched = updated(alloc, &self.in_memory, updates, increments_serial)?;
+        match touched {
+            None => Ok(false),
+            Some(touched) => {
+                let changes = changed_sets(alloc, &self.in_memory, touched)?;
+                commit_changes(alloc, &mut self.in_memory, changes)?;
                 Ok(increments_serial)
             }
         }

@@ -1,16 +1,13 @@
 //! Records of a zone, as sets by name and type.
 
 ghost use Rattle.std.specs.Prelude.{◌≡◌, ◌∷◌, [], ◌++◌, IfOk, List, None, OnOk, Some};
-ghost use Rattle.std.specs.List.{AllByRecursion};
 ghost use Rattle.hickory_wire.specs.rr.domain.NameOrder.{lower_name};
 ghost use Rattle.hickory_wire.specs.rr.RecordData.{type_of};
 ghost use Rattle.hickory_wire.specs.declared.rr.rdata.RData.{RData as Data};
 ghost use Rattle.hickory_wire.specs.declared.rr.record.Record.{Record as ResourceRecord};
-ghost use Rattle.hickory_base.specs.zone_store.ZoneSets.{AreDistinct, IsWellTyped, IsZone, sets_of, zone_records};
-ghost use Rattle.hickory_store.specs.Identity.{SameZone};
+ghost use Rattle.hickory_base.specs.zone_store.ZoneSets.{sets_of};
 ghost use Rattle.hickory_store.specs.ZoneSets.{HoldsSets, PutsSet, records_under};
 
-use crate::sqlite::laws::identities;
 use hickory_base::zone_store::{RecordSet, RrKey};
 use hickory_wire::{LowerName, Record};
 use std::alloc::{AllocError, Global};
@@ -71,19 +68,5 @@ pub(crate) fn sets_of_records(alloc: Global, records: Vec<Record>) -> Result<Set
     for q in records {
         put_record(alloc, &mut sets, q)?;
     }
-    Ok(sets)
-}
-
-/// The zone of records of which no two are the same.
-pub(crate) fn zone_of_records(alloc: Global, records: Vec<Record>) -> Result<Sets, AllocError>
-    requires distinct { AreDistinct records.items }
-    requires typed { AllByRecursion IsWellTyped records.items }
-    ensures zone { IfOk result (λ sets. IsZone (sets_of sets)) }
-    ensures same { IfOk result (λ sets. SameZone (zone_records (sets_of sets)) records.items) }
-{
-    identities();
-    let sets = sets_of_records(alloc, records)?;
-    // That the keys are in order is known of a map whose length was read.
-    let _ = sets.len();
     Ok(sets)
 }

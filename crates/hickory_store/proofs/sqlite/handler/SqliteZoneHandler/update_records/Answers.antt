@@ -1,32 +1,38 @@
 -- What is committed is a zone: no record is there twice, and what is of type SOA has the data of one.
-use Rattle.std.proofs.Common.{sym, subst}
-use Rattle.std.specs.List.{AllByRecursion}
-use Rattle.std.specs.List.Sorted.{IsStrictlySortedBy}
-use Rattle.std.specs.Map.{keys_of}
-use Rattle.hickory_base.specs.zone_store.ZoneSets.{AreDistinct, IsWellTyped, key_cmp}
-use Rattle.hickory_base.proofs.lemmas.zone_store.ZoneByName.{keys-shared}
-use Rattle.hickory_store.proofs.SetsOfRecords.{Sets}
-use Rattle.hickory_store.proofs.UpdatedZones.{all_accepted, applied_good, some_part, zone_distinct, zone_typed}
+use Rattle.std.proofs.Common.{◌≡◌, sym, subst, refl, Bool, false, Option, Some, Ok}
+use Rattle.std.specs.Option.{MatchOption}
+use Rattle.hickory_wire.specs.rr.domain.DomainName.{DomainName}
+use Rattle.hickory_base.specs.zone_store.ZoneSets.{zone_records}
+use Rattle.hickory_store.specs.NameUpdates.{AreNow, ByName}
+use Rattle.hickory_store.specs.UpdateAnswers.{IsOutcome, Outcome, applied}
+use Rattle.hickory_store.proofs.ApexNs.{Records}
+use Rattle.hickory_store.proofs.UpdatedZones.{all_accepted, applied_good, some_part, zone_typed}
 use Rattle.hickory_store.proofs.sqlite.handler.SqliteZoneHandler.update_records.Goals as goal
 
-pub zone_of_records-requires-clause-distinct : goal.zone_of_records-requires-clause-distinct
-zone_of_records-requires-clause-distinct g c =
-    let zone = c.self.inside.in_memory.sets in
-    let sorted = subst (λ (S : Sets). IsStrictlySortedBy key_cmp (keys_of S)) c.records.ensures.sets (subst (IsStrictlySortedBy key_cmp) (sym (keys-shared c.records.result.now.entries)) c.len.ensures.ordered) in
-    (applied_good c.identities.ensures.records c.as_name-origin.result.now 1 c.args.updates.now c.in_ok-records.records.items c.in-Ok-Some.records.items
-    (all_accepted c.args.self.now.zone.origin 1 c.args.updates.now c.requires c.read_serials.ensures)
-    (subst AreDistinct (sym c.in_ok-records.ensures) (zone_distinct zone sorted c.records.ensures.zone))
-    (subst (AllByRecursion IsWellTyped) (sym c.in_ok-records.ensures) (zone_typed zone c.records.ensures.zone))
-    c.args.increments_serial c.args.increments_serial
-    (some_part c.in-Ok-Some.field-0 c.in-Ok-Some.records _ _ c.in-Ok-Some.field-0-is c.in-Ok-Some.ensures)).0
+module _ (origin : DomainName) (zone updates : Records) (increments : Bool) where
+  -- the touched names, and of all others what the zone has, are the records of the outcome
+  abbrev Leaves : ByName → Type 0
+  Leaves touched = (records : Records) × AreNow zone touched records × (applied origin 1 zone updates increments ≡ Ok (records, increments))
 
-pub zone_of_records-requires-clause-typed : goal.zone_of_records-requires-clause-typed
-zone_of_records-requires-clause-typed g c =
-    let zone = c.self.inside.in_memory.sets in
-    let sorted = subst (λ (S : Sets). IsStrictlySortedBy key_cmp (keys_of S)) c.records.ensures.sets (subst (IsStrictlySortedBy key_cmp) (sym (keys-shared c.records.result.now.entries)) c.len.ensures.ordered) in
-    (applied_good c.identities.ensures.records c.as_name-origin.result.now 1 c.args.updates.now c.in_ok-records.records.items c.in-Ok-Some.records.items
-    (all_accepted c.args.self.now.zone.origin 1 c.args.updates.now c.requires c.read_serials.ensures)
-    (subst AreDistinct (sym c.in_ok-records.ensures) (zone_distinct zone sorted c.records.ensures.zone))
-    (subst (AllByRecursion IsWellTyped) (sym c.in_ok-records.ensures) (zone_typed zone c.records.ensures.zone))
-    c.args.increments_serial c.args.increments_serial
-    (some_part c.in-Ok-Some.field-0 c.in-Ok-Some.records _ _ c.in-Ok-Some.field-0-is c.in-Ok-Some.ensures)).1
+  leaves : (o : Option ByName) (touched : ByName) → o ≡ Some touched → MatchOption o (applied origin 1 zone updates increments ≡ Ok (zone, false)) Leaves → Leaves touched
+  leaves o touched e h = some_part o touched (applied origin 1 zone updates increments ≡ Ok (zone, false)) Leaves e h
+
+pub commit_changes-requires-clause-ordered : goal.commit_changes-requires-clause-ordered
+commit_changes-requires-clause-ordered g c = c.in_ok-changes-in-Some.ensures.ordered
+
+pub commit_changes-requires-clause-makes : goal.commit_changes-requires-clause-makes
+commit_changes-requires-clause-makes g c =
+    let zone = c.self.inside.in_memory in
+    let left = leaves zone.origin (zone_records zone.sets) c.args.updates.now c.args.increments_serial c.in_ok-touched.touched c.in-Some.touched c.in-Some.is c.in_ok-touched.ensures in
+    let good = applied_good c.identities.ensures.records zone.origin 1 c.args.updates.now (zone_records zone.sets) left.0
+    (all_accepted c.args.self.now.zone.origin 1 c.args.updates.now c.requires c.read_serials.ensures) c.records.ensures.distinct (zone_typed zone.sets c.records.ensures.zone)
+    c.args.increments_serial c.args.increments_serial left.2 in
+    (left.0, good.0, good.1, c.in_ok-changes-in-Some.ensures.makes left.0 left.1)
+
+pub returns-in_ok-commit_changes-in-Some-clause-zone : goal.returns-in_ok-commit_changes-in-Some-clause-zone
+returns-in_ok-commit_changes-in-Some-clause-zone g c =
+    let zone = c.self.inside.in_memory in
+    let left = leaves zone.origin (zone_records zone.sets) c.args.updates.now c.args.increments_serial c.in_ok-touched.touched c.in-Some.touched c.in-Some.is c.in_ok-touched.ensures in
+    let done = c.in_ok-commit_changes-in-Some.ensures.done left.0 (c.in_ok-changes-in-Some.ensures.makes left.0 left.1) in
+    rw (← c.self.view_is)
+    (subst (λ (outcome : Outcome). IsOutcome outcome (zone_records c.commit_changes.new.zone.sets) c.args.increments_serial) (sym left.2) (done, refl), c.in_ok-commit_changes-in-Some.ensures.others)
