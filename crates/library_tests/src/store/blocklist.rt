@@ -8,6 +8,7 @@ use hickory_store::blocklist::{
 use hickory_wire::{LowerName, Name, RecordType};
 use std::alloc::Global;
 use std::io::{self, Read};
+use std::net::{Ipv4Addr, Ipv6Addr};
 use std::test::Fail;
 
 /// A list of the lines of a text.
@@ -139,10 +140,51 @@ fn told(alloc: Global, parts: &[&str]) -> Result<BlocklistConfig, Fail> {
     })
 }
 
+/// Whether settings are other than the usual ones.
+fn differ(settings: BlocklistConfig) -> bool {
+    settings != BlocklistConfig::default()
+}
+
 #[test]
-fn settings_compare_by_each_field(rt: HostRuntime) -> Result<(), Fail> {
+fn settings_compare_by_their_message(rt: HostRuntime) -> Result<(), Fail> {
     let whole = told(rt.alloc(), &["blocked"])?;
     assert!(rt; whole == told(rt.alloc(), &["block", "ed"])?);
     assert!(rt; whole != BlocklistConfig::default());
     Ok(())
+}
+
+/// Settings that differ in one field are not equal, whichever it is.
+#[test]
+fn settings_compare_by_each_field(rt: HostRuntime) {
+    let changed = [
+        differ(BlocklistConfig {
+            wildcard_match: false,
+            ..BlocklistConfig::default()
+        }),
+        differ(BlocklistConfig {
+            min_wildcard_depth: 3,
+            ..BlocklistConfig::default()
+        }),
+        differ(BlocklistConfig {
+            sinkhole_ipv4: Some(Ipv4Addr::new(192, 0, 2, 1)),
+            ..BlocklistConfig::default()
+        }),
+        differ(BlocklistConfig {
+            sinkhole_ipv6: Some(Ipv6Addr::from_bits(1)),
+            ..BlocklistConfig::default()
+        }),
+        differ(BlocklistConfig {
+            ttl: 86_399,
+            ..BlocklistConfig::default()
+        }),
+        differ(BlocklistConfig {
+            consult_action: BlocklistConsultAction::Enforce,
+            ..BlocklistConfig::default()
+        }),
+        differ(BlocklistConfig {
+            log_clients: false,
+            ..BlocklistConfig::default()
+        }),
+    ];
+    assert_eq!(rt; changed, [true; 7]);
 }
