@@ -26,7 +26,7 @@ pub enum DecodeError {
     /// An OPT, TSIG or SIG record stands among answers or authorities.
     #[error("an OPT, TSIG or SIG record stands outside the additional section")]
     RecordNotInAdditionals,
-    /// A record stands behind the TSIG (RFC 8945 section 5.1).
+    /// A record stands behind the TSIG (RFC 8945 section 5.2).
     #[error("a record stands behind the TSIG")]
     RecordAfterSignature,
     /// There are two OPT records (RFC 6891 section 6.1.1).

@@ -17,7 +17,7 @@ ghost use Rattle.hickory_wire.specs.serialize.reading.RecordReading.{resource};
 ghost use Rattle.hickory_wire.specs.serialize.writing.Reply.{opt_record, size_limit};
 ghost use Rattle.hickory_wire.specs.serialize.reading.SectionReading.{header, section_record, add_record, additionals_after, no_additionals};
 ghost use Rattle.hickory_wire.specs.worked.Worked.{ReadsAs, MeetsFault, root, www_name, record_of, com_name, a_com_name, b_a_com_name};
-ghost use Rattle.hickory_wire.specs.worked.Worked.{pointers_in_a_circle, pointer_to_itself, pointer_to_its_labels, pointer_ahead, pointer_to_later_name, pointer_into_header, name_from_header, reserved_code_01, reserved_code_10, longest_name_bytes, longest_name, too_long_name, label_missing, label_cut, end_missing, pointer_cut, names_by_pointers};
+ghost use Rattle.hickory_wire.specs.worked.Worked.{pointers_in_a_circle, pointer_to_itself, pointer_to_its_labels, pointer_ahead, pointer_to_later_name, pointer_into_header, name_from_header, reserved_code_01, reserved_code_10, longest_name_bytes, longest_name, longest_through_pointer, longest_name_through_pointer, too_long_name, too_long_through_pointer, label_missing, label_cut, end_missing, pointer_cut, names_by_pointers};
 ghost use Rattle.hickory_wire.specs.worked.Worked.{a_record, address, a_record_of_five, a_record_cut, a_record_empty, aaaa_record, long_address, ns_record, cname_record_with_more, exchange, mx_record, soa_record, soa, txt_record, txt_record_with_more, null_record, unknown_record, opt_version_one, opt_malformed, opt_with_nsid, nsid, tsig_empty, tsig_zeros, zero_signature, tsig_bad_time, bad_time, signature_record, sig_empty};
 ghost use Rattle.hickory_wire.specs.worked.Worked.{header_of_flags, with_counts, response, refused, authoritative, refused_update, truncated, status, recursion_available, authentic_data, checking_disabled, no_flags};
 ghost use Rattle.hickory_wire.specs.worked.Worked.{saying, with_sig, opt_every_field, every_field, opt_record_at_root, opt_record_at_a, with_edns, with_signature, two_opts};
@@ -36,6 +36,7 @@ pub fn worked_names()
     ensures behind_two_pointers { ReadsAs name names_by_pointers 21 b_a_com_name 25 }
     ensures from_the_header { ReadsAs name pointer_into_header 12 name_from_header 14 }
     ensures longest { ReadsAs name longest_name_bytes 0 longest_name 255 }
+    ensures longest_through_pointer { ReadsAs name longest_through_pointer 253 longest_name_through_pointer 257 }
 {}
 
 /// Which fault is met first where there is no name.
@@ -48,6 +49,7 @@ pub fn worked_name_faults()
     ensures code_01 { MeetsFault name reserved_code_01 0 decode_error.UnrecognizedLabelCode }
     ensures code_10 { MeetsFault name reserved_code_10 0 decode_error.UnrecognizedLabelCode }
     ensures too_long { MeetsFault name too_long_name 0 decode_error.NameTooLong }
+    ensures too_long_through_pointer { MeetsFault name too_long_through_pointer 254 decode_error.NameTooLong }
     ensures no_byte { MeetsFault name [] 0 decode_error.InsufficientBytes }
     ensures label_missing { MeetsFault name label_missing 0 decode_error.InsufficientBytes }
     ensures label_cut { MeetsFault name label_cut 0 decode_error.InsufficientBytes }
@@ -62,6 +64,7 @@ pub fn worked_name_layout()
     ensures from_the_header { NameAt 0 pointer_into_header 12 name_from_header 14 }
     ensures not_outside_the_header { (name : DomainName) (next : ℕ) → ¬ NameAt 12 pointer_into_header 12 name next }
     ensures longest { NameAt 0 longest_name_bytes 0 longest_name 255 }
+    ensures longest_through_pointer { NameAt 0 longest_through_pointer 253 longest_name_through_pointer 257 }
     ensures circle { NameFault pointers_in_a_circle 12 decode_error.PointerNotPriorToLabel }
     ensures to_itself { NameFault pointer_to_itself 12 decode_error.PointerNotPriorToLabel }
     ensures to_its_labels { NameFault pointer_to_its_labels 12 decode_error.PointerNotPriorToLabel }
@@ -71,6 +74,7 @@ pub fn worked_name_layout()
     ensures code_01 { NameFault reserved_code_01 0 decode_error.UnrecognizedLabelCode }
     ensures code_10 { NameFault reserved_code_10 0 decode_error.UnrecognizedLabelCode }
     ensures too_long { NameFault too_long_name 0 decode_error.NameTooLong }
+    ensures too_long_through_pointer { NameFault too_long_through_pointer 254 decode_error.NameTooLong }
     ensures no_byte { NameFault [] 0 decode_error.InsufficientBytes }
     ensures label_missing { NameFault label_missing 0 decode_error.InsufficientBytes }
     ensures label_cut { NameFault label_cut 0 decode_error.InsufficientBytes }

@@ -4,3 +4,4 @@ pub mod NameBytes
 pub mod NameHash
 pub mod NameOrder
 pub mod NameText
+pub mod OrderKey

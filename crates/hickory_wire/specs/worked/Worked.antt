@@ -116,6 +116,22 @@ longest_name = named (letters 63 ∷ letters 63 ∷ letters 63 ∷ letters 61 �
 abbrev pub too_long_name : List ℕ
 too_long_name = label_of_letters 63 ++ label_of_letters 63 ++ label_of_letters 63 ++ label_of_letters 62 ++ 0 ∷ []
 
+-- labels of 63, 63, 63 and n bytes with their end byte at 0, and behind them the label a and a pointer to 0: a name has at most 255 bytes with
+-- those that stand where its pointers lead (RFC 1035 sections 2.3.4 and 4.1.4)
+abbrev pub name_through_pointer : ℕ → List ℕ
+name_through_pointer n = label_of_letters 63 ++ label_of_letters 63 ++ label_of_letters 63 ++ label_of_letters n ++ 0x00 ∷ 0x01 ∷ 0x61 ∷ 0xc0 ∷ 0x00 ∷ []
+
+-- the name at 253 has 255 bytes: two of its first label, 253 of those that the pointer leads to
+abbrev pub longest_through_pointer : List ℕ
+longest_through_pointer = name_through_pointer 59
+
+abbrev pub longest_name_through_pointer : DomainName
+longest_name_through_pointer = named (codes "a" ∷ letters 63 ∷ letters 63 ∷ letters 63 ∷ letters 59 ∷ [])
+
+-- the name at 254 has 256
+abbrev pub too_long_through_pointer : List ℕ
+too_long_through_pointer = name_through_pointer 60
+
 -- bytes that end before the label, within it, before the end byte, and within a pointer
 abbrev pub label_missing : List ℕ
 label_missing = 0x03 ∷ []
@@ -291,7 +307,7 @@ checking_disabled = with_counts (record (request 0 0) { checking_disabled = true
 abbrev pub no_flags : Header
 no_flags = with_counts (request 0 0)
 
--- ADDITIONAL SECTIONS (RFC 6891 section 6.1.1, RFC 8945 section 5.1)
+-- ADDITIONAL SECTIONS (RFC 6891 section 6.1.1, RFC 8945 section 5.2)
 
 -- an OPT record that says this payload, high code and version, and no more
 abbrev pub saying : ℕ → ℕ → ℕ → EdnsFields

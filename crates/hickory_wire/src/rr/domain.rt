@@ -6,4 +6,5 @@ pub mod lower_name;
 pub mod name;
 pub mod name_display;
 pub mod name_text;
+pub mod order_key;
 pub mod wire;

@@ -3,6 +3,7 @@ pub mod Ends
 pub mod FirstLabel
 pub mod LabelOrder
 pub mod NameSpelling
+pub mod OrderKeys
 pub mod SameNames
 pub mod TextForm
 pub mod WireForm

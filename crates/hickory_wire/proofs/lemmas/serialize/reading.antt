@@ -6,6 +6,7 @@ pub mod FormFaults
 pub mod FormIsRead
 pub mod GivesReadings
 pub mod HeaderLaws
+pub mod HeaderReadings
 pub mod ItemsRead
 pub mod LabelLoop
 pub mod LabelSteps

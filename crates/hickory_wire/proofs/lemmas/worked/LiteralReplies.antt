@@ -7,7 +7,7 @@ use Rattle.hickory_wire.specs.serialize.layout.NameLayout.{LabelsAt, NameAt}
 use Rattle.hickory_wire.specs.serialize.layout.NameLayout.LabelsAt.{at_end, at_label}
 use Rattle.hickory_wire.specs.worked.Worked.{root, record_of, address, a_record, www_name}
 use Rattle.hickory_wire.specs.worked.WorkedReplies.{www_answer, www_answer_bytes, repeated, all_of, fronts_with, www_reply, www_reply_in_full}
-use Rattle.hickory_wire.specs.serialize.writing.Writing.{Puts, PutsAll, ListWritten, ListsWritten, whole, Written, asked_bytes}
+use Rattle.hickory_wire.specs.serialize.writing.Writing.{Puts, PutsAll, ListWritten, ListsWritten, whole, Written, header_and_questions}
 use Rattle.hickory_wire.specs.serialize.writing.Writing.ListsWritten.{none_left, next_list}
 use Rattle.hickory_wire.proofs.lemmas.worked.Literals.{stands, is_label}
 
@@ -110,6 +110,6 @@ pub www_written : Written 512 www_reply www_reply_in_full (fronts_with (all_of 1
 www_written = record {
   body = body_of www_reply_in_full;
   fits = omega arith;
-  lists = next_list (record { counted = omega arith; puts = (body_of www_reply_in_full, put_answer 512 (asked_bytes www_reply) (omega arith) (omega arith), refl); ends = refl }) (four_empty 512 (body_of www_reply_in_full));
+  lists = next_list (record { counted = omega arith; puts = (body_of www_reply_in_full, put_answer 512 (header_and_questions www_reply) (omega arith) (omega arith), refl); ends = refl }) (four_empty 512 (body_of www_reply_in_full));
   is = refl;
 }

@@ -2,7 +2,7 @@
 use Rattle.std.proofs.Common.{◌++◌, [], refl, arith}
 use Rattle.hickory_wire.specs.worked.Worked.{a_record}
 use Rattle.hickory_wire.specs.worked.WorkedReplies.{formless_reply, too_long_string}
-use Rattle.hickory_wire.specs.serialize.writing.Writing.{asked_bytes}
+use Rattle.hickory_wire.specs.serialize.writing.Writing.{header_and_questions}
 use Rattle.hickory_wire.specs.serialize.writing.Writing.Encoded.{written, too_large, formless}
 use Rattle.hickory_wire.specs.serialize.writing.Writing.ListsWritten.{stuck_list}
 use Rattle.hickory_wire.specs.declared.error.ProtoError.TheVariants.{CharacterDataTooLong}
@@ -20,12 +20,12 @@ returns-clause-header_too_large c = too_large (omega arith) refl
 
 pub returns-clause-formless : goal.returns-clause-formless
 returns-clause-formless c = formless {e = CharacterDataTooLong} (record {
-  body = asked_bytes formless_reply ++ a_record;
+  body = header_and_questions formless_reply ++ a_record;
   fronts = [];
   fits = omega arith;
   lists = stuck_list {count = 1} (record {
     counted = omega arith;
-    puts = (asked_bytes formless_reply ++ a_record, put_address 512 (asked_bytes formless_reply) (omega arith) (omega arith), refl);
+    puts = (header_and_questions formless_reply ++ a_record, put_address 512 (header_and_questions formless_reply) (omega arith) (omega arith), refl);
     ends = record { next = too_long_string; rest = []; is = refl; formless = refl };
   });
 }) refl

@@ -5,12 +5,12 @@ use Rattle.hickory_wire.specs.rr.domain.DomainName.{IsLabel, AreLabels}
 use Rattle.hickory_wire.specs.serialize.writing.FullForm.{HasNames, record_octets}
 use Rattle.hickory_wire.specs.serialize.layout.FieldRanges.{IsRecordInRange}
 use Rattle.hickory_wire.specs.serialize.layout.MessageLayout.{tsig_record}
-use Rattle.hickory_wire.specs.serialize.writing.RecordSize.{data_len, form_fault, full_size}
+use Rattle.hickory_wire.specs.serialize.writing.RecordSize.{data_len, unwritable_reason, full_size}
 use Rattle.hickory_wire.specs.serialize.writing.Reply.{opt_record}
 use Rattle.hickory_wire.specs.worked.Worked.{root, record_of, address, signature_record}
 use Rattle.hickory_wire.specs.worked.WorkedLists.{five_lists, formless_and_large, root_authority, root_pointer, root_server}
 use Rattle.hickory_wire.specs.worked.WorkedReplies.{dnssec_ok_fields, too_long_string}
-use Rattle.hickory_wire.specs.serialize.writing.Writing.{Puts, asked_bytes}
+use Rattle.hickory_wire.specs.serialize.writing.Writing.{Puts, header_and_questions}
 use Rattle.hickory_wire.specs.serialize.writing.Writing.Encoded.{formless}
 use Rattle.hickory_wire.specs.serialize.writing.Writing.ListsWritten.{none_left, next_list, stuck_list}
 use Rattle.hickory_wire.specs.declared.error.ProtoError.TheVariants.{CharacterDataTooLong}
@@ -23,7 +23,7 @@ no_labels : AreLabels []
 no_labels = record { each = All-from_recursion IsLabel [] tt; short = omega arith }
 
 -- a record of the root is put in full
-put_root : (limit : ℕ) (old : List ℕ) (r : Record RData) → 12 ≤ length old → r.name.labels ≡ [] → HasNames r.rdata → form_fault r.rdata ≡ None → IsRecordInRange r → data_len r.rdata < 2 ^ 16 → length old + full_size r ≤ limit → Puts limit old r (old ++ record_octets r)
+put_root : (limit : ℕ) (old : List ℕ) (r : Record RData) → 12 ≤ length old → r.name.labels ≡ [] → HasNames r.rdata → unwritable_reason r.rdata ≡ None → IsRecordInRange r → data_len r.rdata < 2 ^ 16 → length old + full_size r ≤ limit → Puts limit old r (old ++ record_octets r)
 put_root limit old r low is names formed in_range small fit = puts_full limit old (old ++ record_octets r) r low (subst AreLabels (sym is) no_labels) names formed in_range small refl fit
 
 abbrev root_answer : Record RData
@@ -31,7 +31,7 @@ root_answer = record_of root 1 0 address
 
 -- the bytes behind each record
 abbrev start : List ℕ
-start = asked_bytes five_lists
+start = header_and_questions five_lists
 
 abbrev one : List ℕ
 one = start ++ record_octets root_answer
@@ -95,7 +95,7 @@ returns-clause-left_out c = record {
 
 pub returns-clause-no_form_first : goal.returns-clause-no_form_first
 returns-clause-no_form_first c = formless {e = CharacterDataTooLong} (record {
-  body = asked_bytes formless_and_large;
+  body = header_and_questions formless_and_large;
   fronts = [];
   fits = omega arith;
   lists = stuck_list {count = 0} (record { counted = omega arith; puts = refl; ends = record { next = too_long_string; rest = []; is = refl; formless = refl } });

@@ -27,6 +27,13 @@ returns-clause-longest c = record {
   short = omega arith;
 }
 
+pub returns-clause-longest_through_pointer : goal.returns-clause-longest_through_pointer
+returns-clause-longest_through_pointer c = record {
+  labels = label_at 253 (codes "a") refl refl refl refl (pointer_at 255 0 0 253 refl refl refl refl
+      (label_at 0 (letters 63) refl refl refl refl (label_at 64 (letters 63) refl refl refl refl (label_at 128 (letters 63) refl refl refl refl (label_at 192 (letters 59) refl refl refl refl (end_at 252 refl refl refl))))));
+  short = omega arith;
+}
+
 pub returns-clause-circle : goal.returns-clause-circle
 returns-clause-circle c = fault_behind_pointer 12 0 0 refl refl refl (not_prior 0 12 (stands worked.pointers_in_a_circle 0 (192 ∷ 12 ∷ []) refl refl) (omega arith))
 
@@ -49,6 +56,12 @@ pub returns-clause-too_long : goal.returns-clause-too_long
 returns-clause-too_long c =
     fault_behind_label 0 (letters 63) refl refl refl refl (fault_behind_label 64 (letters 63) refl refl refl refl (fault_behind_label 128 (letters 63) refl refl refl refl
     (too_long (letters 62) (is_label (letters 62) refl) (stands worked.too_long_name 192 (worked.label_of_letters 62) refl refl) (omega arith))))
+
+pub returns-clause-too_long_through_pointer : goal.returns-clause-too_long_through_pointer
+returns-clause-too_long_through_pointer c =
+    fault_behind_label 254 (codes "a") refl refl refl refl (fault_behind_pointer 256 0 0 refl refl refl
+    (fault_behind_label 0 (letters 63) refl refl refl refl (fault_behind_label 64 (letters 63) refl refl refl refl (fault_behind_label 128 (letters 63) refl refl refl refl
+    (too_long (letters 60) (is_label (letters 60) refl) (stands worked.too_long_through_pointer 192 (worked.label_of_letters 60) refl refl) (omega arith))))))
 
 pub returns-clause-no_byte : goal.returns-clause-no_byte
 returns-clause-no_byte c = byte_missing (omega arith)

@@ -4,7 +4,7 @@ use Rattle.hickory_wire.specs.serialize.layout.MessageLayout.{tsig_record}
 use Rattle.hickory_wire.specs.serialize.writing.Reply.{opt_record}
 use Rattle.hickory_wire.specs.worked.Worked.{a_record, signature_record}
 use Rattle.hickory_wire.specs.worked.WorkedReplies.{www_answer, www_answer_bytes, www_reply, www_reply_in_full, www_reply_compressed, dnssec_ok_fields, dnssec_ok_reply, dnssec_ok_bytes, bad_version_fields, bad_version_reply, bad_version_bytes, signed_reply, signed_bytes, long_reply, hundred_answers, sixteen_answers}
-use Rattle.hickory_wire.specs.serialize.writing.Writing.{Puts, ListFront, ListWritten, ListsWritten, cut, ending_of, asked_bytes}
+use Rattle.hickory_wire.specs.serialize.writing.Writing.{Puts, ListFront, ListWritten, ListsWritten, cut, ending_of, header_and_questions}
 use Rattle.hickory_wire.specs.serialize.writing.Writing.ListsWritten.{none_left, next_list}
 use Rattle.hickory_wire.specs.serialize.writing.RecordSize.{full_size}
 use Rattle.hickory_wire.specs.declared.rr.rdata.RData.{RData}
@@ -20,12 +20,12 @@ pub returns-clause-just_enough : goal.returns-clause-just_enough
 returns-clause-just_enough c = record {
   body = body_of www_reply_in_full;
   fits = omega arith;
-  lists = next_list (record { counted = omega arith; puts = (body_of www_reply_in_full, put_answer 64 (asked_bytes www_reply) (omega arith) (omega arith), refl); ends = refl }) (four_empty 64 (body_of www_reply_in_full));
+  lists = next_list (record { counted = omega arith; puts = (body_of www_reply_in_full, put_answer 64 (header_and_questions www_reply) (omega arith) (omega arith), refl); ends = refl }) (four_empty 64 (body_of www_reply_in_full));
   is = refl;
 }
 
 -- the answer, its name a pointer to the question's
-answer_compressed : Puts 512 (asked_bytes www_reply) www_answer (body_of www_reply_compressed)
+answer_compressed : Puts 512 (header_and_questions www_reply) www_answer (body_of www_reply_compressed)
 answer_compressed = record {
   more = drop 33 www_reply_compressed;
   formed = refl;
@@ -55,9 +55,9 @@ returns-clause-compressed c = record {
 
 pub returns-clause-answer_left_out : goal.returns-clause-answer_left_out
 returns-clause-answer_left_out c = record {
-  body = asked_bytes www_reply;
+  body = header_and_questions www_reply;
   fits = omega arith;
-  lists = next_list (record { counted = omega arith; puts = refl; ends = record { next = www_answer; rest = []; is = refl; formed = refl; large = omega arith } }) (four_empty 63 (asked_bytes www_reply));
+  lists = next_list (record { counted = omega arith; puts = refl; ends = record { next = www_answer; rest = []; is = refl; formed = refl; large = omega arith } }) (four_empty 63 (header_and_questions www_reply));
   is = refl;
 }
 
@@ -67,7 +67,7 @@ first_list : {limit : ℕ} {records : List (Record RData)} {lists : List (List (
 first_list (next_list {middle = middle} written others) = (middle, written)
 
 -- of the reply's one answer, none is left out where there is room for it
-not_cut : (middle : List ℕ) → ListWritten 64 (asked_bytes www_reply) (www_answer ∷ []) middle 0 cut → ⊥
+not_cut : (middle : List ℕ) → ListWritten 64 (header_and_questions www_reply) (www_answer ∷ []) middle 0 cut → ⊥
 not_cut middle written =
     let at_start : length middle ≡ 33 = ap length written.puts in
     let next : www_answer ≡ written.ends.next = cc in
@@ -79,21 +79,21 @@ returns-clause-not_left_out c = λ written. let first = first_list written.lists
 
 pub returns-clause-question_alone : goal.returns-clause-question_alone
 returns-clause-question_alone c = record {
-  body = asked_bytes www_reply;
+  body = header_and_questions www_reply;
   fits = omega arith;
-  lists = next_list (record { counted = omega arith; puts = refl; ends = record { next = www_answer; rest = []; is = refl; formed = refl; large = omega arith } }) (four_empty 33 (asked_bytes www_reply));
+  lists = next_list (record { counted = omega arith; puts = refl; ends = record { next = www_answer; rest = []; is = refl; formed = refl; large = omega arith } }) (four_empty 33 (header_and_questions www_reply));
   is = refl;
 }
 
 -- the first answer behind the header
 abbrev first_answer : List ℕ
-first_answer = asked_bytes long_reply ++ www_answer_bytes
+first_answer = header_and_questions long_reply ++ www_answer_bytes
 
 pub returns-clause-lists_cut_apart : goal.returns-clause-lists_cut_apart
 returns-clause-lists_cut_apart c = record {
   body = first_answer ++ a_record;
   fits = omega arith;
-  lists = next_list (record { counted = omega arith; puts = (first_answer, put_answer 60 (asked_bytes long_reply) (omega arith) (omega arith), refl); ends = record { next = www_answer; rest = www_answer ∷ []; is = refl; formed = refl; large = omega arith } })
+  lists = next_list (record { counted = omega arith; puts = (first_answer, put_answer 60 (header_and_questions long_reply) (omega arith) (omega arith), refl); ends = record { next = www_answer; rest = www_answer ∷ []; is = refl; formed = refl; large = omega arith } })
       (next_list (record { counted = omega arith; puts = (first_answer ++ a_record, put_address 60 first_answer (omega arith) (omega arith), refl); ends = refl }) (three_empty 60 (first_answer ++ a_record)));
   is = refl;
 }
@@ -102,13 +102,13 @@ pub returns-clause-hundred_answers : goal.returns-clause-hundred_answers
 returns-clause-hundred_answers c = record {
   body = body_of sixteen_answers;
   fits = omega arith;
-  lists = next_list (record { counted = omega arith; puts = put_answers 512 16 (asked_bytes hundred_answers) (body_of sixteen_answers) (omega arith) (omega arith) refl; ends = record { next = www_answer; rest = replicate 83 www_answer; is = refl; formed = refl; large = omega arith } })
+  lists = next_list (record { counted = omega arith; puts = put_answers 512 16 (header_and_questions hundred_answers) (body_of sixteen_answers) (omega arith) (omega arith) refl; ends = record { next = www_answer; rest = replicate 83 www_answer; is = refl; formed = refl; large = omega arith } })
       (four_empty 512 (body_of sixteen_answers));
   is = refl;
 }
 
 -- an OPT record behind the header
-dnssec_ok_put : Puts 512 (asked_bytes dnssec_ok_reply) (opt_record dnssec_ok_fields) (body_of dnssec_ok_bytes)
+dnssec_ok_put : Puts 512 (header_and_questions dnssec_ok_reply) (opt_record dnssec_ok_fields) (body_of dnssec_ok_bytes)
 dnssec_ok_put = record {
   more = drop 12 dnssec_ok_bytes;
   formed = refl;
@@ -124,13 +124,13 @@ pub returns-clause-dnssec_ok : goal.returns-clause-dnssec_ok
 returns-clause-dnssec_ok c = record {
   body = body_of dnssec_ok_bytes;
   fits = omega arith;
-  lists = next_list (no_records 512 (asked_bytes dnssec_ok_reply)) (next_list (no_records 512 (asked_bytes dnssec_ok_reply)) (next_list (no_records 512 (asked_bytes dnssec_ok_reply))
+  lists = next_list (no_records 512 (header_and_questions dnssec_ok_reply)) (next_list (no_records 512 (header_and_questions dnssec_ok_reply)) (next_list (no_records 512 (header_and_questions dnssec_ok_reply))
       (next_list (record { counted = omega arith; puts = (body_of dnssec_ok_bytes, dnssec_ok_put, refl); ends = refl }) (next_list (no_records 512 (body_of dnssec_ok_bytes)) none_left))));
   is = refl;
 }
 
 -- an OPT record with a high code behind the header
-bad_version_put : Puts 512 (asked_bytes bad_version_reply) (opt_record bad_version_fields) (body_of bad_version_bytes)
+bad_version_put : Puts 512 (header_and_questions bad_version_reply) (opt_record bad_version_fields) (body_of bad_version_bytes)
 bad_version_put = record {
   more = drop 12 bad_version_bytes;
   formed = refl;
@@ -146,13 +146,13 @@ pub returns-clause-bad_version : goal.returns-clause-bad_version
 returns-clause-bad_version c = record {
   body = body_of bad_version_bytes;
   fits = omega arith;
-  lists = next_list (no_records 512 (asked_bytes bad_version_reply)) (next_list (no_records 512 (asked_bytes bad_version_reply)) (next_list (no_records 512 (asked_bytes bad_version_reply))
+  lists = next_list (no_records 512 (header_and_questions bad_version_reply)) (next_list (no_records 512 (header_and_questions bad_version_reply)) (next_list (no_records 512 (header_and_questions bad_version_reply))
       (next_list (record { counted = omega arith; puts = (body_of bad_version_bytes, bad_version_put, refl); ends = refl }) (next_list (no_records 512 (body_of bad_version_bytes)) none_left))));
   is = refl;
 }
 
 -- a TSIG record behind the header
-signature_put : Puts 512 (asked_bytes signed_reply) (tsig_record signature_record) (body_of signed_bytes)
+signature_put : Puts 512 (header_and_questions signed_reply) (tsig_record signature_record) (body_of signed_bytes)
 signature_put = record {
   more = drop 12 signed_bytes;
   formed = refl;
@@ -176,7 +176,7 @@ pub returns-clause-signed : goal.returns-clause-signed
 returns-clause-signed c = record {
   body = body_of signed_bytes;
   fits = omega arith;
-  lists = next_list (no_records 512 (asked_bytes signed_reply)) (next_list (no_records 512 (asked_bytes signed_reply)) (next_list (no_records 512 (asked_bytes signed_reply))
-      (next_list (no_records 512 (asked_bytes signed_reply)) (next_list (record { counted = omega arith; puts = (body_of signed_bytes, signature_put, refl); ends = refl }) none_left))));
+  lists = next_list (no_records 512 (header_and_questions signed_reply)) (next_list (no_records 512 (header_and_questions signed_reply)) (next_list (no_records 512 (header_and_questions signed_reply))
+      (next_list (no_records 512 (header_and_questions signed_reply)) (next_list (record { counted = omega arith; puts = (body_of signed_bytes, signature_put, refl); ends = refl }) none_left))));
   is = refl;
 }

@@ -1,5 +1,5 @@
 -- How names are compared: without regard to the case of ASCII letters (RFC 1035, section 2.3.3; RFC 4343, section 3).
-use Rattle.std.specs.Prelude.{◌≡◌, ℕ, nat_eq, Bool, false, ◌-◌, cond, List, [], ◌∷◌, ◌++◌, length, map, reverse}
+use Rattle.std.specs.Prelude.{◌≡◌, ℕ, nat_eq, Bool, false, ◌-◌, if◌then◌else◌, List, [], ◌∷◌, ◌++◌, length, map, reverse}
 use Rattle.std.specs.declared.cmp.Ordering.{Ordering}
 use Rattle.std.specs.Ordering.{nat_cmp, bool_cmp, on, then_cmp, eq_by_cmp}
 use Rattle.std.specs.Cmp.{IsTotalOrder, then_total, on_total, bool_cmp_total}
@@ -50,4 +50,4 @@ is_wildcard (l ∷ ls) = pointwise nat_eq l (42 ∷ [])
 
 -- how many labels there are, a first label `*` not counted
 abbrev pub counted_labels : List (List ℕ) → ℕ
-counted_labels labels = length labels - cond (is_wildcard labels) 1 0
+counted_labels labels = if is_wildcard labels then length labels - 1 else length labels

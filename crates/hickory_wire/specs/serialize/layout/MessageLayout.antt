@@ -1,14 +1,14 @@
 -- How a message stands in bytes: its header, its sections one behind the other, and what each section may hold (RFC 1035 section 4.1).
-use Rattle.std.specs.Prelude.{◌≡◌, ℕ, List, [], ◌∷◌, ◌++◌, length, Bool, false, not, filter, map, Option, Some, None, option_to_list, ◌==◌}
+use Rattle.std.specs.Prelude.{◌≡◌, ℕ, ◌+◌, ◌*◌, ◌/◌, ◌%◌, ◌^◌, List, [], ◌∷◌, ◌++◌, length, Bool, false, not, ◌||◌, filter, map, Option, Some, None, option_to_list, ◌==◌}
 use Rattle.std.specs.List.{AllByRecursion}
 use Rattle.hickory_wire.specs.op.EdnsFields.{EdnsFields}
 use Rattle.hickory_wire.specs.serialize.layout.HeaderLayout.{HeaderAt}
 use Rattle.hickory_wire.specs.serialize.layout.QuestionLayout.{QuestionAt, IsFormedQuestion}
 use Rattle.hickory_wire.specs.rr.RecordData.{type_of}
 use Rattle.hickory_wire.specs.serialize.layout.RecordLayout.{RecordAt}
-use Rattle.hickory_wire.specs.serialize.reading.SectionReading.{is_additional_type, edns_of}
-use Rattle.hickory_wire.specs.serialize.reading.MessageReading.{high_code, with_high_code}
+use Rattle.hickory_wire.specs.declared.op.edns.EdnsOption.{EdnsOption}
 use Rattle.hickory_wire.specs.declared.op.header.Header.{Header}
+use Rattle.hickory_wire.specs.declared.op.header.Metadata.{Metadata}
 use Rattle.hickory_wire.specs.declared.op.message.Message.{Message}
 use Rattle.hickory_wire.specs.declared.op.query.Query.{Query}
 use Rattle.hickory_wire.specs.declared.rr.rdata.RData.{RData}
@@ -26,9 +26,14 @@ pub record QuestionRead (bytes : List ℕ) (place : ℕ) (query : Query) (next :
   pub stands : QuestionAt 0 bytes place query next
   pub formed : IsFormedQuestion query
 
+-- the types OPT, TSIG and SIG: OPT and TSIG belong in the additional section alone (RFC 6891 section 6.1.1, RFC 8945 section 5.2), and
+-- so does SIG(0) (RFC 2931 section 3.1), for which every SIG is taken here
+abbrev pub is_for_additionals_alone : ℕ → Bool
+is_for_additionals_alone kind = kind == 41 || kind == 250 || kind == 24
+
 -- no OPT, TSIG or SIG
-abbrev pub IsSectionRecord : Record RData → Type 0
-IsSectionRecord r = is_additional_type (type_of r.rdata) ≡ false
+abbrev pub IsPlainRecord : Record RData → Type 0
+IsPlainRecord r = is_for_additionals_alone (type_of r.rdata) ≡ false
 
 -- whether a record is an OPT, and whether it is a TSIG
 abbrev pub is_opt : Record RData → Bool
@@ -36,6 +41,17 @@ is_opt r = type_of r.rdata == 41
 
 abbrev pub is_tsig : Record RData → Bool
 is_tsig r = type_of r.rdata == 250
+
+-- what an OPT record of these options says (RFC 6891 sections 6.1.2 and 6.1.3)
+abbrev pub edns_of : Record RData → List EdnsOption → EdnsFields
+edns_of r options = record {
+  max_payload = r.dns_class;
+  rcode_high = r.ttl / 2 ^ 24;
+  version = r.ttl / 2 ^ 16 % 256;
+  dnssec_ok = r.ttl / 2 ^ 15 % 2 == 1;
+  reserved_flags = r.ttl % 2 ^ 15;
+  options = options;
+}
 
 -- An OPT record at the root that says this (RFC 6891 sections 6.1.2 and 6.1.3).
 pub record SaysEdns (r : Record RData) (edns : EdnsFields) : Type 0 where
@@ -53,7 +69,7 @@ HasEdns (r ∷ q ∷ others) edns = ⊥
 abbrev pub tsig_record : Record TSIG → Record RData
 tsig_record r = record { name = r.name; dns_class = r.dns_class; ttl = r.ttl; rdata = rdata.TSIG r.rdata; proof = r.proof }
 
--- The records of an additional section, in their order: a TSIG, if there is one, is the last (RFC 8945 section 5.1); before it there
+-- The records of an additional section, in their order: a TSIG, if there is one, is the last (RFC 8945 section 5.2); before it there
 -- is at most one OPT (RFC 6891 section 6.1.1), at the root (section 6.1.2); the others are its records.
 pub record AdditionalSection (all records : List (Record RData)) (edns : Option EdnsFields) (signature : Option (Record TSIG)) : Type 0 where
   pub unsigned : List (Record RData)
@@ -63,6 +79,15 @@ pub record AdditionalSection (all records : List (Record RData)) (edns : Option 
   pub opt_records : filter is_opt unsigned ≡ opts
   pub others : records ≡ filter (λ r. not (is_opt r)) unsigned
   pub one_opt : HasEdns opts edns
+
+-- the high eight bits of the response code, which the OPT record has (RFC 6891 section 6.1.3)
+abbrev pub high_code : Option EdnsFields → ℕ
+high_code None = 0
+high_code (Some edns) = edns.rcode_high
+
+-- with the response code of twelve bits, whose low four the header has (RFC 6891 section 6.1.3)
+abbrev pub with_high_code : Metadata → ℕ → Metadata
+with_high_code m high = record m { response_code = 16 * high + m.response_code }
 
 -- The bytes begin with this message.
 pub record MessageAt (bytes : List ℕ) (m : Message) : Type 0 where
@@ -81,7 +106,7 @@ pub record MessageAt (bytes : List ℕ) (m : Message) : Type 0 where
   pub answer_count : length m.answers ≡ header.counts.answers
   pub authority_count : length m.authorities ≡ header.counts.authorities
   pub additional_count : length all ≡ header.counts.additionals
-  pub answers_plain : AllByRecursion IsSectionRecord m.answers
-  pub authorities_plain : AllByRecursion IsSectionRecord m.authorities
+  pub answers_plain : AllByRecursion IsPlainRecord m.answers
+  pub authorities_plain : AllByRecursion IsPlainRecord m.authorities
   pub section : AdditionalSection all m.additionals m.edns m.signature
   pub metadata : m.metadata ≡ with_high_code header.metadata (high_code m.edns)

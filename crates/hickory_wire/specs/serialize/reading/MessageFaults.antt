@@ -3,11 +3,10 @@ use Rattle.std.specs.Prelude.{◌≡◌, ◌≢◌, ℕ, ◌<◌, List, [], leng
 use Rattle.std.specs.List.{AllByRecursion}
 use Rattle.hickory_wire.specs.op.EdnsFields.{EdnsFields}
 use Rattle.hickory_wire.specs.serialize.layout.HeaderLayout.{HeaderAt}
-use Rattle.hickory_wire.specs.serialize.layout.MessageLayout.{ItemsAt, QuestionRead, IsSectionRecord, AdditionalSection, is_opt}
+use Rattle.hickory_wire.specs.serialize.layout.MessageLayout.{ItemsAt, QuestionRead, IsPlainRecord, AdditionalSection, is_opt, is_for_additionals_alone}
 use Rattle.hickory_wire.specs.rr.RecordData.{type_of}
 use Rattle.hickory_wire.specs.serialize.reading.RecordFaults.{RecordFault, QuestionFault}
 use Rattle.hickory_wire.specs.serialize.layout.RecordLayout.{RecordAt}
-use Rattle.hickory_wire.specs.serialize.reading.SectionReading.{is_additional_type}
 use Rattle.hickory_wire.specs.declared.error.DecodeError.{DecodeError}
 use Rattle.hickory_wire.specs.declared.error.DecodeError.TheVariants.{InsufficientBytes, RecordNotInAdditionals, RecordAfterSignature, EdnsNameNotRoot, DuplicateEdns}
 use Rattle.hickory_wire.specs.declared.op.header.Header.{Header}
@@ -29,7 +28,7 @@ pub record RecordsStand (bytes : List ℕ) (place count next : ℕ) : Type 0 whe
   pub records : List (Record RData)
   pub stand : ItemsAt (RecordAt bytes) place records next
   pub number : length records ≡ count
-  pub plain : AllByRecursion IsSectionRecord records
+  pub plain : AllByRecursion IsPlainRecord records
 
 -- So many records of an additional section stand one behind the other, with what their OPT says and with their TSIG, if they have them.
 pub record AdditionalsStand (bytes : List ℕ) (place count : ℕ) (edns : Option EdnsFields) (signature : Option (Record TSIG)) (next : ℕ) : Type 0 where
@@ -52,7 +51,7 @@ pub record QuestionsFault (bytes : List ℕ) (place count : ℕ) (e : DecodeErro
 -- What is wrong with a record of an answer or authority section: its own fault, or it is an OPT, TSIG or SIG.
 pub data MisplacedOrFaulty (bytes : List ℕ) (place : ℕ) : DecodeError → Type 0 where
   faulty : {e : DecodeError} → RecordFault bytes place e → MisplacedOrFaulty bytes place e
-  misplaced : {r : Record RData} {next : ℕ} → RecordAt bytes place r next → is_additional_type (type_of r.rdata) ≡ true → MisplacedOrFaulty bytes place RecordNotInAdditionals
+  misplaced : {r : Record RData} {next : ℕ} → RecordAt bytes place r next → is_for_additionals_alone (type_of r.rdata) ≡ true → MisplacedOrFaulty bytes place RecordNotInAdditionals
 
 -- The first fault of so many records of an answer or authority section.
 pub record RecordsFault (bytes : List ℕ) (place count : ℕ) (e : DecodeError) : Type 0 where
@@ -63,7 +62,7 @@ pub record RecordsFault (bytes : List ℕ) (place count : ℕ) (e : DecodeError)
   pub faulty : MisplacedOrFaulty bytes next e
 
 -- What is wrong with a record of an additional section, behind records with this EDNS and this TSIG: its own fault; a TSIG stands before
--- it (RFC 8945 section 5.1); it is an OPT that is not at the root (RFC 6891 section 6.1.2), or a second one (section 6.1.1).
+-- it (RFC 8945 section 5.2); it is an OPT that is not at the root (RFC 6891 section 6.1.2), or a second one (section 6.1.1).
 pub data UnfitOrFaulty (bytes : List ℕ) (edns : Option EdnsFields) (signature : Option (Record TSIG)) (place : ℕ) : DecodeError → Type 0 where
   faulty : {e : DecodeError} → RecordFault bytes place e → UnfitOrFaulty bytes edns signature place e
   after_signature : {r : Record RData} {next : ℕ} → RecordAt bytes place r next → signature ≢ None → UnfitOrFaulty bytes edns signature place RecordAfterSignature

@@ -1,21 +1,12 @@
 -- Whole messages as they are read, with the first fault that is met (RFC 1035 section 4.1).
-use Rattle.std.specs.Prelude.{◌≡◌, ℕ, ◌+◌, ◌*◌, List, [], Option, Some, None, Ok, Err}
+use Rattle.std.specs.Prelude.{◌≡◌, ℕ, List, [], Ok, Err}
 use Rattle.hickory_wire.specs.serialize.reading.Cursor.{Cursor}
-use Rattle.hickory_wire.specs.op.EdnsFields.{EdnsFields}
+use Rattle.hickory_wire.specs.serialize.layout.MessageLayout.{high_code, with_high_code}
 use Rattle.hickory_wire.specs.serialize.reading.Reading.{Read, ◌>>=◌}
 use Rattle.hickory_wire.specs.serialize.reading.RecordReading.{question}
 use Rattle.hickory_wire.specs.serialize.reading.SectionReading.{header, items, section_record, additionals_after, no_additionals}
 use Rattle.hickory_wire.specs.declared.error.DecodeError.{DecodeError}
-use Rattle.hickory_wire.specs.declared.op.header.Metadata.{Metadata}
 use Rattle.hickory_wire.specs.declared.op.message.Message.{Message}
-
--- the high eight bits of the response code, which the OPT record has (RFC 6891 section 6.1.3)
-abbrev pub high_code : Option EdnsFields → ℕ
-high_code None = 0
-high_code (Some edns) = edns.rcode_high
-
-abbrev pub with_high_code : Metadata → ℕ → Metadata
-with_high_code m high = record m { response_code = 16 * high + m.response_code }
 
 unfoldable pub message : Cursor → Read Message
 message c = do

@@ -19,9 +19,13 @@ abbrev pub Fails : {Y : Type 0} → DecodeError → Result Y DecodeError → Typ
 Fails e read = e ≢ Memory → read ≡ Err e
 
 -- What a function returned, seen by view, is what reading gives, unless memory was refused. The bytes stay.
-abbrev pub Gives : {X Y : Type 0} → (X → Y) → Result X DecodeError → Cursor → Cursor → (Cursor → Read Y) → Type 0
-Gives view (Ok x) old new read = (read old ≡ Ok (view x, new)) × (new.bytes ≡ old.bytes)
-Gives view (Err e) old new read = Fails e (read old) × (new.bytes ≡ old.bytes)
+abbrev pub GivesSeenBy : {X Y : Type 0} → (X → Y) → Result X DecodeError → Cursor → Cursor → (Cursor → Read Y) → Type 0
+GivesSeenBy view (Ok x) old new read = (read old ≡ Ok (view x, new)) × (new.bytes ≡ old.bytes)
+GivesSeenBy view (Err e) old new read = Fails e (read old) × (new.bytes ≡ old.bytes)
+
+-- the same where what was returned is itself what is read
+abbrev pub Gives : {X : Type 0} → Result X DecodeError → Cursor → Cursor → (Cursor → Read X) → Type 0
+Gives result old new read = GivesSeenBy (λ x. x) result old new read
 
 -- the bytes from the place on
 abbrev pub rest_of : Cursor → List ℕ

@@ -1,6 +1,6 @@
 -- Resource records and questions as they are read, with the first fault that is met (RFC 1035 sections 4.1.2 and 4.1.3).
-use Rattle.std.specs.Prelude.{ℕ, zero, suc, ◌+◌, ◌-◌, ◌*◌, ◌^◌, List, [], ◌∷◌, length, take, drop, Option, Some, None, option_map, unwrap_or, Ok, Err, nat_lt, ◌==◌, ◌&&◌, ◌||◌, not, if◌then◌else◌}
-use Rattle.std.specs.Int.{w16, w32, from_be_bytes}
+use Rattle.std.specs.Prelude.{ℕ, zero, suc, ◌+◌, ◌-◌, ◌*◌, ◌^◌, List, [], ◌∷◌, length, take, drop, Option, Some, None, option_map, unwrap_or, Ok, Err, nat_lt, ◌==◌, ◌&&◌, not, if◌then◌else◌}
+use Rattle.std.specs.Int.{w16, w32}
 use Rattle.hickory_wire.specs.rr.Addresses.{ipv4_of, ipv6_of}
 use Rattle.hickory_wire.specs.serialize.reading.Cursor.{Cursor}
 use Rattle.hickory_wire.specs.serialize.reading.Reading.{Read, ◌>>=◌, number, octets, rest_of, moved}

@@ -1,13 +1,13 @@
 -- Headers and sections as they are read, with the first fault that is met (RFC 1035 section 4.1).
-use Rattle.std.specs.Prelude.{ℕ, zero, suc, ◌/◌, ◌%◌, ◌^◌, List, [], ◌∷◌, ◌++◌, length, Bool, not, ◌||◌, Option, Some, None, is_some, Result, Ok, Err, ◌==◌, if◌then◌else◌}
+use Rattle.std.specs.Prelude.{ℕ, zero, suc, List, [], ◌∷◌, ◌++◌, length, not, Option, Some, None, is_some, Result, Ok, Err, ◌==◌, if◌then◌else◌}
 use Rattle.std.specs.Int.{w16}
 use Rattle.hickory_wire.specs.serialize.reading.Cursor.{Cursor}
 use Rattle.hickory_wire.specs.op.EdnsFields.{EdnsFields}
 use Rattle.hickory_wire.specs.serialize.layout.HeaderLayout.{metadata_of}
+use Rattle.hickory_wire.specs.serialize.layout.MessageLayout.{is_for_additionals_alone, edns_of}
 use Rattle.hickory_wire.specs.serialize.reading.Reading.{Read, ◌>>=◌, number}
 use Rattle.hickory_wire.specs.rr.RecordData.{type_of}
 use Rattle.hickory_wire.specs.serialize.reading.RecordReading.{byte, resource}
-use Rattle.hickory_wire.specs.declared.op.edns.EdnsOption.{EdnsOption}
 use Rattle.hickory_wire.specs.declared.error.DecodeError.{DecodeError}
 use Rattle.hickory_wire.specs.declared.error.DecodeError.TheVariants.{RecordNotInAdditionals, RecordAfterSignature, DuplicateEdns, EdnsNameNotRoot}
 use Rattle.hickory_wire.specs.declared.op.header.Header.{Header}
@@ -32,31 +32,15 @@ unfoldable pub items : {A : Type 0} → (Cursor → Read A) → ℕ → List A �
 items read zero before c = Ok (before, c)
 items read (suc n) before c = read c >>= λ x. items read n (before ++ x.0 ∷ []) x.1
 
--- the types OPT, TSIG and SIG: OPT and TSIG belong in the additional section alone (RFC 6891 section 6.1.1, RFC 8945 section 5.1), and
--- so does SIG(0) (RFC 2931 section 3.1), for which every SIG is taken here
-abbrev pub is_additional_type : ℕ → Bool
-is_additional_type kind = kind == 41 || kind == 250 || kind == 24
-
 -- a record of another section
 unfoldable pub section_record : Cursor → Read (Record RData)
-section_record c = resource c >>= λ r. if is_additional_type (type_of r.0.rdata) then Err RecordNotInAdditionals else Ok r
+section_record c = resource c >>= λ r. if is_for_additionals_alone (type_of r.0.rdata) then Err RecordNotInAdditionals else Ok r
 
 -- what an additional section holds: its records, what its OPT says, and its TSIG
 pub record Additionals : Type 0 where
   pub records : List (Record RData)
   pub edns : Option EdnsFields
   pub signature : Option (Record TSIG)
-
--- what an OPT record of these options says (RFC 6891 sections 6.1.2 and 6.1.3)
-abbrev pub edns_of : Record RData → List EdnsOption → EdnsFields
-edns_of r options = record {
-  max_payload = r.dns_class;
-  rcode_high = r.ttl / 2 ^ 24;
-  version = r.ttl / 2 ^ 16 % 256;
-  dnssec_ok = r.ttl / 2 ^ 15 % 2 == 1;
-  reserved_flags = r.ttl % 2 ^ 15;
-  options = options;
-}
 
 -- a record with these data in the place of its own
 abbrev pub with_data : {R : Type 0} → Record RData → R → Record R
@@ -71,7 +55,7 @@ placed x r (rdata.OPT options) =
 placed x r (rdata.TSIG signature) = Ok (record x { signature = Some (with_data r signature) })
 placed x r content = Ok (record x { records = x.records ++ r ∷ [] })
 
--- behind a TSIG no record may stand (RFC 8945 section 5.1)
+-- behind a TSIG no record may stand (RFC 8945 section 5.2)
 unfoldable pub add_record : Additionals → Record RData → Result Additionals DecodeError
 add_record x r = if is_some x.signature then Err RecordAfterSignature else placed x r r.rdata
 

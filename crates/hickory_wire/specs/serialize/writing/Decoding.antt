@@ -2,13 +2,12 @@
 use Rattle.std.specs.Prelude.{◌≡◌, ℕ, zero, suc, ◌%◌, ◌<◌, ◌^◌, List, ◌++◌, length, take, map, ◌||◌, Option, None, option_map, IfSome}
 use Rattle.std.specs.List.{AllByRecursion}
 use Rattle.hickory_wire.specs.op.EdnsFields.{EdnsFields}
-use Rattle.hickory_wire.specs.serialize.layout.MessageLayout.{ItemsAt, IsSectionRecord}
-use Rattle.hickory_wire.specs.serialize.reading.MessageReading.{high_code, with_high_code}
+use Rattle.hickory_wire.specs.serialize.layout.MessageLayout.{ItemsAt, IsPlainRecord, high_code, with_high_code}
 use Rattle.hickory_wire.specs.serialize.layout.QuestionLayout.{QuestionAt, IsFormedQuestion}
 use Rattle.hickory_wire.specs.serialize.layout.FieldRanges.{IsReadAsItsType}
 use Rattle.hickory_wire.specs.serialize.layout.NameLayout.{IsFullyQualified}
 use Rattle.hickory_wire.specs.serialize.writing.Reply.{Reply}
-use Rattle.hickory_wire.specs.serialize.writing.Writing.{Fronts, asked_bytes, is_any_cut}
+use Rattle.hickory_wire.specs.serialize.writing.Writing.{Fronts, header_and_questions, is_any_cut}
 use Rattle.hickory_wire.specs.declared.op.header.Metadata.{Metadata}
 use Rattle.hickory_wire.specs.declared.op.message.Message.{Message}
 use Rattle.hickory_wire.specs.declared.op.query.Query.{Query}
@@ -26,7 +25,7 @@ without_proof r = record r { proof = Indeterminate }
 pub record IsReadable (r : Record RData) : Type 0 where
   pub name : IsFullyQualified r.name
   pub rdata : IsReadAsItsType r.rdata
-  pub section : IsSectionRecord r
+  pub section : IsPlainRecord r
 
 -- the same of a TSIG
 pub record IsReadableSignature (r : Record TSIG) : Type 0 where
@@ -49,7 +48,7 @@ pub record IsFormedMetadata (m : Metadata) : Type 0 where
 -- into the header; each record, where it is written, reads back as itself; no OPT, TSIG or SIG stands in a section.
 pub record IsDecodable (reply : Reply) (queries : List Query) : Type 0 where
   pub metadata : IsFormedMetadata reply.metadata
-  pub asked : ItemsAt (QuestionAt 12 (asked_bytes reply)) 12 queries (length (asked_bytes reply))
+  pub asked : ItemsAt (QuestionAt 12 (header_and_questions reply)) 12 queries (length (header_and_questions reply))
   pub questions : AllByRecursion IsFormedQuestion queries
   pub question_count : reply.question_count ≡ length queries
   pub answers : AllByRecursion IsReadable reply.answers

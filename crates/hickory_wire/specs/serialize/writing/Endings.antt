@@ -2,7 +2,7 @@
 use Rattle.std.specs.Prelude.{◌≡◌, ℕ, ◌+◌, ◌<◌, List, [], ◌∷◌, ◌++◌, length, map, true, false, Option, Some, None}
 use Rattle.std.specs.Borrow.{Bor}
 use Rattle.std.specs.Iterator.{Drains}
-use Rattle.hickory_wire.specs.serialize.writing.RecordSize.{full_size, form_fault}
+use Rattle.hickory_wire.specs.serialize.writing.RecordSize.{full_size, unwritable_reason}
 use Rattle.hickory_wire.specs.serialize.writing.Writing as writing
 use Rattle.hickory_wire.specs.serialize.writing.Writing.{Puts, ListWritten, ListFront, ListsWritten}
 use Rattle.hickory_wire.specs.declared.error.ProtoError.{ProtoError}
@@ -16,14 +16,14 @@ use Rattle.hickory_wire.specs.declared.serialize.writing.record_encoder.Ending.T
 -- A record is put; or it has a form in bytes, but in full it passes the limit; or it has none. But for the first nothing changes.
 abbrev pub RecordEnds : ℕ → List ℕ → Record RData → List ℕ → Ending → Type 0
 RecordEnds limit old r new Whole = Puts limit old r new
-RecordEnds limit old r new Cut = (new ≡ old) × (form_fault r.rdata ≡ None) × (limit < length old + full_size r)
-RecordEnds limit old r new (Stuck e) = (new ≡ old) × (form_fault r.rdata ≡ Some e)
+RecordEnds limit old r new Cut = (new ≡ old) × (unwritable_reason r.rdata ≡ None) × (limit < length old + full_size r)
+RecordEnds limit old r new (Stuck e) = (new ≡ old) × (unwritable_reason r.rdata ≡ Some e)
 
 -- the ending as the relation of what may be written has it
-abbrev pub seen_ending : Ending → writing.Ending
-seen_ending Whole = writing.Ending.whole
-seen_ending Cut = writing.Ending.cut
-seen_ending (Stuck e) = writing.Ending.stuck e
+abbrev pub seen_ending : Ending → writing.ListEnding
+seen_ending Whole = writing.ListEnding.whole
+seen_ending Cut = writing.ListEnding.cut
+seen_ending (Stuck e) = writing.ListEnding.stuck e
 
 -- The iterator gives these records, one after another, and ends.
 abbrev pub GivesRecords : {S : Type 0} → (S → Option (Bor (Record RData)) → S → Type 0) → S → List (Record RData) → Type 0

@@ -6,7 +6,7 @@ use Rattle.std.specs.Net.Addr.{ipv4_octets, ipv6_octets}
 use Rattle.hickory_wire.specs.rr.domain.DomainName.{wire_form, AreLabels}
 use Rattle.hickory_wire.specs.rr.RecordData.{character_string, option_octets, soa_numbers, tsig_fields}
 use Rattle.hickory_wire.specs.serialize.layout.RecordLayout.{fixed_fields}
-use Rattle.hickory_wire.specs.serialize.writing.RecordSize.{data_len, form_fault}
+use Rattle.hickory_wire.specs.serialize.writing.RecordSize.{data_len, unwritable_reason}
 use Rattle.hickory_wire.specs.declared.error.ProtoError.{ProtoError}
 use Rattle.hickory_wire.specs.declared.rr.rdata.RData.{RData}
 use Rattle.hickory_wire.specs.declared.rr.rdata.RData.TheVariants as rdata
@@ -60,5 +60,5 @@ HasNames content = Unit {0}
 
 -- how many bytes data take, where they have a form in bytes, or why they have none
 abbrev pub HasLength : RData → Result ℕ ProtoError → Type 0
-HasLength content (Ok len) = (form_fault content ≡ None) × (len ≡ data_len content)
-HasLength content (Err e) = form_fault content ≡ Some e
+HasLength content (Ok len) = (unwritable_reason content ≡ None) × (len ≡ data_len content)
+HasLength content (Err e) = unwritable_reason content ≡ Some e

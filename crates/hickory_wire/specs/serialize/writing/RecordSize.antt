@@ -41,7 +41,7 @@ length_fault len = if nat_lt 65535 len then Some DataTooLong else None
 
 -- Why data have no form in bytes, if they have none: a character string of more than 255 bytes (RFC 1035 section 3.3), data or a
 -- part of them too long for their length field, or a time of more than 48 bits (RFC 8945 section 4.2).
-abbrev pub form_fault : RData → Option ProtoError
-form_fault (rdata.TXT strings) = if list_any (λ text. nat_lt 255 (length text)) strings then Some CharacterDataTooLong else length_fault (data_len (rdata.TXT strings))
-form_fault (rdata.TSIG signature) = if nat_le (2 ^ 48) signature.time then Some DataTooLong else length_fault (data_len (rdata.TSIG signature))
-form_fault content = length_fault (data_len content)
+abbrev pub unwritable_reason : RData → Option ProtoError
+unwritable_reason (rdata.TXT strings) = if list_any (λ text. nat_lt 255 (length text)) strings then Some CharacterDataTooLong else length_fault (data_len (rdata.TXT strings))
+unwritable_reason (rdata.TSIG signature) = if nat_le (2 ^ 48) signature.time then Some DataTooLong else length_fault (data_len (rdata.TSIG signature))
+unwritable_reason content = length_fault (data_len content)

@@ -42,8 +42,8 @@ abbrev pub reply_lists : Reply → List (List (Record RData))
 reply_lists reply = reply.answers ∷ (reply.authorities ++ reply.soa) ∷ reply.additionals
     ∷ option_to_list (option_map opt_record reply.edns) ∷ option_to_list (option_map tsig_record reply.signature) ∷ []
 
--- how many bytes a reply may have: over UDP the payload of its OPT record, 512 without one (RFC 1035 section 4.2.1, RFC 6891 section
--- 6.2.5); else what a length of 16 bits allows (RFC 1035 section 4.2.2). A payload below 512 is a limit like any other here; whoever
+-- how many bytes a reply may have: over UDP the payload of its OPT record, 512 without one (RFC 1035 section 4.2.1, RFC 6891 sections
+-- 6.2.3 and 6.2.4); else what a length of 16 bits allows (RFC 1035 section 4.2.2). A payload below 512 is a limit like any other here; whoever
 -- makes the OPT record of a reply sees to it that the payload is at least 512 (RFC 6891 section 6.2.3).
 abbrev pub size_limit : Protocol → Option EdnsFields → ℕ
 size_limit protocol.Udp None = 512

@@ -1,5 +1,5 @@
 -- A reply whose records iterators give.
-use Rattle.std.specs.Prelude.{◌≡◌, ℕ, ◌+◌, ◌<◌, List, length, ◌||◌, Option, None}
+use Rattle.std.specs.Prelude.{◌≡◌, ℕ, ◌+◌, ◌<◌, List, length, Option, None}
 use Rattle.std.specs.Borrow.{Bor}
 use Rattle.std.specs.Option.{option_copied}
 use Rattle.hickory_wire.specs.serialize.writing.Decoding.{IsDecodable, decoded_message}
@@ -7,11 +7,10 @@ use Rattle.hickory_wire.specs.serialize.writing.Endings.{GivesRecords}
 use Rattle.hickory_wire.specs.serialize.layout.MessageLayout.{MessageAt}
 use Rattle.hickory_wire.specs.serialize.reading.MessageReading.{Reads}
 use Rattle.hickory_wire.specs.serialize.writing.Reply.{Reply, reply_lists}
-use Rattle.hickory_wire.specs.serialize.writing.Writing.{ListFront, ListsWritten, Fronts, fronts_list, is_any_cut, Written, GetsStuck, Encoded, written_header}
+use Rattle.hickory_wire.specs.serialize.writing.Writing.{ListFront, ListsWritten, Fronts, fronts_list, Written, GetsStuck, Encoded, written_header}
 use Rattle.hickory_wire.specs.declared.error.ProtoError.{ProtoError}
 use Rattle.hickory_wire.specs.declared.error.ProtoError.TheVariants.{MaxSizeExceeded}
 use Rattle.hickory_wire.specs.declared.op.header.Header.{Header}
-use Rattle.hickory_wire.specs.declared.op.header.Metadata.{Metadata}
 use Rattle.hickory_wire.specs.declared.serialize.writing.list_encoder.Front.{Front}
 use Rattle.hickory_wire.specs.declared.serialize.writing.message_encoder.ReplyParts.{ReplyParts}
 use Rattle.hickory_wire.specs.declared.serialize.writing.message_encoder.Sections.{Sections}
@@ -80,6 +79,6 @@ pub record ReplyEncoded (limit : ℕ) (reply : Reply) (bytes : List ℕ) (header
   pub reads : (fronts : Fronts) (queries : List Query) → Written limit reply bytes fronts → IsDecodable reply queries → Reads bytes (decoded_message reply queries fronts)
 
 -- Why a reply is not written: header and questions pass the limit, or a record without a form is met.
-pub data Refused (limit : ℕ) (reply : Reply) : ProtoError → Type 0 where
-  too_large : limit < 12 + length reply.question → Refused limit reply MaxSizeExceeded
-  formless : {e : ProtoError} → GetsStuck limit reply e → Refused limit reply e
+pub data CannotBeWritten (limit : ℕ) (reply : Reply) : ProtoError → Type 0 where
+  too_large : limit < 12 + length reply.question → CannotBeWritten limit reply MaxSizeExceeded
+  formless : {e : ProtoError} → GetsStuck limit reply e → CannotBeWritten limit reply e

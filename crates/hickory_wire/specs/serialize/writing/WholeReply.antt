@@ -1,7 +1,7 @@
 -- Replies that fit the limit whole.
 use Rattle.std.specs.Prelude.{◌≡◌, ℕ, ◌+◌, ◌≤◌, List, length, map, sum_by, false, None}
 use Rattle.std.specs.List.{AllByRecursion}
-use Rattle.hickory_wire.specs.serialize.writing.RecordSize.{full_size, form_fault}
+use Rattle.hickory_wire.specs.serialize.writing.RecordSize.{full_size, unwritable_reason}
 use Rattle.hickory_wire.specs.serialize.writing.Reply.{Reply, reply_lists}
 use Rattle.hickory_wire.specs.serialize.writing.Writing.{Fronts, ListFront, fronts_list, is_any_cut}
 use Rattle.hickory_wire.specs.declared.rr.rdata.RData.{RData}
@@ -9,7 +9,7 @@ use Rattle.hickory_wire.specs.declared.rr.record.Record.{Record}
 
 -- the record has a form in bytes
 abbrev pub HasForm : Record RData → Type 0
-HasForm r = form_fault r.rdata ≡ None
+HasForm r = unwritable_reason r.rdata ≡ None
 
 -- how many bytes lists of records take in full
 abbrev pub total_size : List (List (Record RData)) → ℕ

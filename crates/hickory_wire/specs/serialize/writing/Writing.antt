@@ -6,7 +6,7 @@ use Rattle.hickory_wire.specs.serialize.layout.FieldRanges.{IsRecordInRange}
 use Rattle.hickory_wire.specs.serialize.layout.HeaderLayout.{header_octets}
 use Rattle.hickory_wire.specs.op.Metadata.{bare_metadata}
 use Rattle.hickory_wire.specs.serialize.layout.RecordLayout.{FormAt}
-use Rattle.hickory_wire.specs.serialize.writing.RecordSize.{full_size, form_fault}
+use Rattle.hickory_wire.specs.serialize.writing.RecordSize.{full_size, unwritable_reason}
 use Rattle.hickory_wire.specs.serialize.writing.Reply.{Reply, reply_lists}
 use Rattle.hickory_wire.specs.declared.error.ProtoError.{ProtoError}
 use Rattle.hickory_wire.specs.declared.op.header.Header.{Header}
@@ -20,7 +20,7 @@ use Rattle.hickory_wire.specs.declared.rr.record.Record.{Record}
 -- a TSIG are in full. The record's numbers are such as its fields hold.
 pub record Puts (limit : ℕ) (old : List ℕ) (r : Record RData) (new : List ℕ) : Type 0 where
   pub more : List ℕ
-  pub formed : form_fault r.rdata ≡ None
+  pub formed : unwritable_reason r.rdata ≡ None
   pub in_range : IsRecordInRange r
   pub appended : new ≡ old ++ more
   pub in_full : EndsInFull r.rdata more
@@ -34,17 +34,17 @@ PutsAll limit old [] new = new ≡ old
 PutsAll limit old (r ∷ rs) new = (middle : List ℕ) × Puts limit old r middle × PutsAll limit middle rs new
 
 -- how the writing of a list of records ended
-pub data Ending : Type 0 where
-  whole : Ending
-  cut : Ending
-  stuck : ProtoError → Ending
+pub data ListEnding : Type 0 where
+  whole : ListEnding
+  cut : ListEnding
+  stuck : ProtoError → ListEnding
 
 -- the next record behind so many has a form, and in full it passes the limit
 pub record IsCut (limit : ℕ) (records : List (Record RData)) (count : ℕ) (new : List ℕ) : Type 0 where
   pub next : Record RData
   pub rest : List (Record RData)
   pub is : drop count records ≡ next ∷ rest
-  pub formed : form_fault next.rdata ≡ None
+  pub formed : unwritable_reason next.rdata ≡ None
   pub large : limit < length new + full_size next
 
 -- the next record behind so many has no form, whatever its size
@@ -52,16 +52,16 @@ pub record IsStuck (records : List (Record RData)) (count : ℕ) (e : ProtoError
   pub next : Record RData
   pub rest : List (Record RData)
   pub is : drop count records ≡ next ∷ rest
-  pub formless : form_fault next.rdata ≡ Some e
+  pub formless : unwritable_reason next.rdata ≡ Some e
 
 -- Nothing is left behind the records that were put, or the next one is left out for its size, or it has no form.
-abbrev pub Ends : ℕ → List (Record RData) → ℕ → List ℕ → Ending → Type 0
+abbrev pub Ends : ℕ → List (Record RData) → ℕ → List ℕ → ListEnding → Type 0
 Ends limit records count new whole = count ≡ length records
 Ends limit records count new cut = IsCut limit records count new
 Ends limit records count new (stuck e) = IsStuck records count e
 
 -- The first records of a list, so many, are put behind old, and then the writing of the list ends so.
-pub record ListWritten (limit : ℕ) (old : List ℕ) (records : List (Record RData)) (new : List ℕ) (count : ℕ) (ending : Ending) : Type 0 where
+pub record ListWritten (limit : ℕ) (old : List ℕ) (records : List (Record RData)) (new : List ℕ) (count : ℕ) (ending : ListEnding) : Type 0 where
   pub counted : count ≤ length records
   pub puts : PutsAll limit old (take count records) new
   pub ends : Ends limit records count new ending
@@ -71,7 +71,7 @@ pub record ListFront : Type 0 where
   pub count : ℕ
   pub is_cut : Bool
 
-abbrev pub ending_of : Bool → Ending
+abbrev pub ending_of : Bool → ListEnding
 ending_of true = cut
 ending_of false = whole
 
@@ -111,14 +111,14 @@ abbrev pub written_header : Reply → Fronts → Header
 written_header reply = header_with reply.metadata reply.question_count
 
 -- room for the header, and the questions behind it
-abbrev pub asked_bytes : Reply → List ℕ
-asked_bytes reply = replicate 12 0 ++ reply.question
+abbrev pub header_and_questions : Reply → List ℕ
+header_and_questions reply = replicate 12 0 ++ reply.question
 
 -- The bytes are the reply within the limit, of whose lists so much was written. Header and questions fit the limit.
 pub record Written (limit : ℕ) (reply : Reply) (bytes : List ℕ) (fronts : Fronts) : Type 0 where
   pub body : List ℕ
   pub fits : 12 + length reply.question ≤ limit
-  pub lists : ListsWritten limit (reply_lists reply) (asked_bytes reply) body (fronts_list fronts) None
+  pub lists : ListsWritten limit (reply_lists reply) (header_and_questions reply) body (fronts_list fronts) None
   pub is : bytes ≡ header_octets (written_header reply fronts) ++ drop 12 body
 
 -- The writing of the reply within the limit meets a record without a form.
@@ -126,7 +126,7 @@ pub record GetsStuck (limit : ℕ) (reply : Reply) (e : ProtoError) : Type 0 whe
   pub body : List ℕ
   pub fronts : List ListFront
   pub fits : 12 + length reply.question ≤ limit
-  pub lists : ListsWritten limit (reply_lists reply) (asked_bytes reply) body fronts (Some e)
+  pub lists : ListsWritten limit (reply_lists reply) (header_and_questions reply) body fronts (Some e)
 
 -- the header of the shortest reply there is: ServFail and nothing else
 abbrev pub fallback_header : ℕ → Header

@@ -5,7 +5,7 @@ ghost use Rattle.std.specs.Ordering.{eq_by_cmp, as_partial_cmp};
 ghost use Rattle.std.specs.Cmp.{eq_by_cmp_equiv, partial_equiv_from_equiv, partial_order_from_total};
 ghost use Rattle.std.specs.Cmp.Rules.{comparing};
 ghost use Rattle.std.proofs.Common.{rules};
-ghost use Rattle.hickory_wire.specs.rr.domain.DomainName.{DomainName, wire_form, IsWire, cut};
+ghost use Rattle.hickory_wire.specs.rr.domain.DomainName.{AreLabels, DomainName, wire_form, IsWire, cut};
 ghost use Rattle.hickory_wire.specs.rr.domain.NameOrder.{name_cmp, name_eq, name_cmp_total, Encloses, is_wildcard, counted_labels, lower_name};
 ghost use Rattle.hickory_wire.specs.rr.domain.NameHash.{name_hash_input, name_hash_alike};
 
@@ -53,9 +53,11 @@ impl Name {
     }
 
     /// The labels in wire form, in the letter case that they were read or spelled in: each is a byte with its length, 1 to 63,
-    /// and so many bytes. At most 254 bytes. The byte 0 that ends a name in a message is left out (RFC 1035, section 3.1).
+    /// and so many bytes (RFC 1035, section 3.1). At most 254 bytes (section 2.3.4): the byte 0 that ends a name in a message
+    /// is left out.
     pub fn as_wire(&self) -> &[u8]
         ensures labels { result.now ≡ wire_form self.now.labels }
+        ensures bounds { AreLabels self.now.labels }
         ensures is_wire { IsWire result.now }
     {
         self.wire.as_slice()

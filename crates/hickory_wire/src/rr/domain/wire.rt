@@ -1,6 +1,6 @@
 //! Where the bytes of a name are kept.
 
-ghost use Rattle.std.specs.Prelude.{◌≡◌, ◌≤◌, [], length, drop, map, IfOk};
+ghost use Rattle.std.specs.Prelude.{◌≡◌, ◌≤◌, [], length, take, drop, map, IfOk};
 ghost use Rattle.std.specs.Char.{to_ascii_lowercase};
 ghost use Rattle.hickory_wire.specs.rr.domain.NameBytes.{wire_bytes};
 
@@ -85,6 +85,16 @@ impl ShortBytes {
         self.bytes.copy_within(count.., 0);
         self.len -= count as u8;
     }
+
+    /// Leaves the first bytes alone.
+    fn truncate(&mut self, len: usize)
+        requires { len ≤ length self.old }
+        ensures { self.new ≡ take len self.old }
+    {
+        if len < usize::from(self.len) {
+            self.len = len as u8;
+        }
+    }
 }
 
 /// The bytes of a name: in the value itself where they are few, and else on the heap.
@@ -166,6 +176,16 @@ impl Wire {
         match self {
             Wire::Short(bytes) => bytes.remove_front(count),
             Wire::Long(bytes) => remove_front(bytes, count),
+        }
+    }
+    /// Leaves the first bytes alone.
+    pub(crate) fn truncate(&mut self, len: usize)
+        requires { len ≤ length (wire_bytes self.old) }
+        ensures { wire_bytes self.new ≡ take len (wire_bytes self.old) }
+    {
+        match self {
+            Wire::Short(bytes) => bytes.truncate(len),
+            Wire::Long(bytes) => bytes.truncate(len),
         }
     }
 }

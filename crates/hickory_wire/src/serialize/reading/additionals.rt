@@ -1,4 +1,4 @@
-//! What an additional section holds (RFC 1035 section 4.1, RFC 6891 section 6.1.1, RFC 8945 section 5.1).
+//! What an additional section holds (RFC 1035 section 4.1, RFC 6891 section 6.1.1, RFC 8945 section 5.2).
 
 ghost use Rattle.std.specs.Prelude.{◌≡◌, length, MatchResult, ◌==◌, Ok, IsTrue};
 ghost use Rattle.hickory_wire.specs.serialize.reading.Reading.{Fails};

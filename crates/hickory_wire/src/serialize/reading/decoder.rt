@@ -5,7 +5,7 @@ ghost use Rattle.std.specs.Int.{w8, w16, w32};
 ghost use Rattle.hickory_wire.specs.serialize.layout.Bytes.{AreBytes};
 ghost use Rattle.hickory_wire.specs.serialize.reading.Cursor.{Cursor};
 ghost use Rattle.hickory_wire.specs.rr.domain.DomainName.{DomainName};
-ghost use Rattle.hickory_wire.specs.serialize.reading.Reading.{Gives, number, octets, rest_of};
+ghost use Rattle.hickory_wire.specs.serialize.reading.Reading.{Gives, GivesSeenBy, number, octets, rest_of};
 ghost use Rattle.hickory_wire.specs.serialize.layout.NameLayout.{NameAt, NameFault, IsFullyQualified};
 ghost use Rattle.hickory_wire.specs.serialize.reading.NameReading.{name};
 ghost use Rattle.hickory_wire.specs.declared.error.DecodeError.TheVariants.{Memory, InsufficientBytes};
@@ -77,7 +77,7 @@ impl<'a> BinDecoder<'a> {
     }
 
     pub(crate) fn read_u8(&mut self) -> Result<u8, DecodeError>
-        ensures exact { Gives (λ n. n) result self.old self.new (number w8) }
+        ensures exact { Gives result self.old self.new (number w8) }
         ensures fault { IfErr result (λ e. e ≡ InsufficientBytes) }
     {
         let mut rest = &self.bytes[self.index..];
@@ -91,7 +91,7 @@ impl<'a> BinDecoder<'a> {
     }
 
     pub(crate) fn read_u16(&mut self) -> Result<u16, DecodeError>
-        ensures exact { Gives (λ n. n) result self.old self.new (number w16) }
+        ensures exact { Gives result self.old self.new (number w16) }
         ensures fault { IfErr result (λ e. e ≡ InsufficientBytes) }
     {
         let mut rest = &self.bytes[self.index..];
@@ -105,7 +105,7 @@ impl<'a> BinDecoder<'a> {
     }
 
     pub(crate) fn read_u32(&mut self) -> Result<u32, DecodeError>
-        ensures exact { Gives (λ n. n) result self.old self.new (number w32) }
+        ensures exact { Gives result self.old self.new (number w32) }
         ensures fault { IfErr result (λ e. e ≡ InsufficientBytes) }
     {
         let mut rest = &self.bytes[self.index..];
@@ -120,7 +120,7 @@ impl<'a> BinDecoder<'a> {
 
     /// The next `count` bytes, which stay where they are.
     pub(crate) fn read_slice(&mut self, count: usize) -> Result<&'a [u8], DecodeError>
-        ensures exact { Gives (λ s. s.now) result self.old self.new (octets count) }
+        ensures exact { GivesSeenBy (λ s. s.now) result self.old self.new (octets count) }
         ensures fault { IfErr result (λ e. e ≡ InsufficientBytes) }
     {
         let rest = &self.bytes[self.index..];
@@ -133,7 +133,7 @@ impl<'a> BinDecoder<'a> {
 
     #[tactic(auto, unfolding(crate::specs::serialize::reading::NameReading::name))]
     fn next_name(&mut self, alloc: Global) -> Result<Name, DecodeError>
-        ensures { Gives (λ n. n) result self.old self.new name }
+        ensures { Gives result self.old self.new name }
     {
         let (name, next) = read_name_at(alloc, self.bytes, self.index)?;
         self.index = next;
@@ -144,7 +144,7 @@ impl<'a> BinDecoder<'a> {
     ///
     /// Then the place is the one behind it. An error is the first fault there, or `Memory`; the place is then left open.
     pub fn read_name(&mut self, alloc: Global) -> Result<Name, DecodeError>
-        ensures exact { Gives (λ n. n) result self.old self.new name }
+        ensures exact { Gives result self.old self.new name }
         ensures found { IfOk result (λ n. NameAt 0 self.old.bytes self.old.place n self.new.place × IsFullyQualified n) }
         ensures only { (n : DomainName) (next : ℕ) → NameAt 0 self.old.bytes self.old.place n next → IsFullyQualified n → result ≢ Err Memory → (result ≡ Ok n) × (self.new.place ≡ next) }
         ensures fault { IfErr result (λ e. e ≢ Memory → NameFault self.old.bytes self.old.place e) }

@@ -1,10 +1,11 @@
 //! Reading headers (RFC 1035 section 4.1.1).
 
-ghost use Rattle.std.specs.Prelude.{◌≡◌, ◌<◌, IfOk, IfErr};
-ghost use Rattle.hickory_wire.specs.serialize.layout.HeaderLayout.{bit, metadata_of};
+ghost use Rattle.std.specs.Prelude.{◌≡◌, ◌<◌, ◌+◌, length, IfOk, IfErr};
+ghost use Rattle.hickory_wire.specs.serialize.layout.HeaderLayout.{HeaderAt, bit, metadata_of};
 ghost use Rattle.hickory_wire.specs.serialize.reading.Reading.{Gives};
 ghost use Rattle.hickory_wire.specs.serialize.reading.SectionReading.{header};
 ghost use Rattle.hickory_wire.specs.declared.error.DecodeError.TheVariants.{InsufficientBytes};
+ghost use Rattle.hickory_wire.specs.declared.op.header.Header.{Header};
 
 use crate::error::DecodeError;
 use crate::op::header::{Header, HeaderCounts, MessageType, Metadata};
@@ -44,14 +45,9 @@ fn metadata_of(id: u16, one: u8, two: u8) -> Metadata
 }
 
 impl<'a> BinDecoder<'a> {
-    /// The header at this place, of twelve bytes, with the low four bits of the response code. The unused bit of the
-    /// flags is not looked at.
-    ///
-    /// Then the place is the one behind it. The only error is `InsufficientBytes`, after which the place is left open.
-    /// It needs no memory.
     #[tactic(auto, unfolding(crate::specs::serialize::reading::SectionReading::header))]
-    pub fn read_header(&mut self) -> Result<Header, DecodeError>
-        ensures exact { Gives (λ h. h) result self.old self.new header }
+    fn next_header(&mut self) -> Result<Header, DecodeError>
+        ensures exact { Gives result self.old self.new header }
         ensures fault { IfErr result (λ e. e ≡ InsufficientBytes) }
         ensures low { IfOk result (λ h. h.metadata.response_code < 16) }
     {
@@ -71,5 +67,23 @@ impl<'a> BinDecoder<'a> {
                 additionals,
             },
         })
+    }
+
+    /// The header at this place, of twelve bytes, with the low four bits of the response code. The unused bit of the
+    /// flags is not looked at.
+    ///
+    /// Then the place is the one behind it. The only error is `InsufficientBytes`: there are fewer than twelve bytes from
+    /// this place on. The place is then left open. It needs no memory.
+    pub fn read_header(&mut self) -> Result<Header, DecodeError>
+        ensures exact { Gives result self.old self.new header }
+        ensures fault { IfErr result (λ e. (e ≡ InsufficientBytes) × (length self.old.bytes < self.old.place + 12)) }
+        ensures low { IfOk result (λ h. h.metadata.response_code < 16) }
+        // At the front of a message, what is read stands there (RFC 1035 section 4.1.1), and what stands there is read.
+        ensures found { self.old.place ≡ 0 → IfOk result (λ h. HeaderAt self.old.bytes h × (self.new.place ≡ 12)) }
+        ensures only { (h : Header) → self.old.place ≡ 0 → HeaderAt self.old.bytes h → (result ≡ Ok h) × (self.new.place ≡ 12) }
+    {
+        // That the message is made of bytes is known once it is looked at.
+        let _message = self.message();
+        self.next_header()
     }
 }

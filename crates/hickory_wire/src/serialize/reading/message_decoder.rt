@@ -2,11 +2,11 @@
 
 ghost use Rattle.std.specs.Prelude.{◌≡◌, ◌≢◌, ◌<◌, [], IfOk, IfErr, MatchResult};
 ghost use Rattle.hickory_wire.specs.serialize.reading.MessageFaults.{MessageFault};
-ghost use Rattle.hickory_wire.specs.serialize.layout.MessageLayout.{MessageAt};
-ghost use Rattle.hickory_wire.specs.serialize.reading.MessageReading.{message, high_code, with_high_code, Reads, Fault};
+ghost use Rattle.hickory_wire.specs.serialize.layout.MessageLayout.{MessageAt, high_code, with_high_code, is_for_additionals_alone};
+ghost use Rattle.hickory_wire.specs.serialize.reading.MessageReading.{message, Reads, Fault};
 ghost use Rattle.hickory_wire.specs.serialize.reading.Reading.{Gives};
 ghost use Rattle.hickory_wire.specs.serialize.reading.RecordReading.{question};
-ghost use Rattle.hickory_wire.specs.serialize.reading.SectionReading.{items, is_additional_type, section_record, additionals_after, no_additionals};
+ghost use Rattle.hickory_wire.specs.serialize.reading.SectionReading.{items, section_record, additionals_after, no_additionals};
 ghost use Rattle.hickory_wire.specs.declared.error.DecodeError.TheVariants.{Memory};
 ghost use Rattle.hickory_wire.specs.declared.op.message.Message.{Message};
 
@@ -23,8 +23,8 @@ use crate::serialize::reading::decoder::BinDecoder;
 use crate::values::items::Items;
 use std::alloc::Global;
 
-fn is_additional_type(kind: RecordType) -> bool
-    ensures { result ≡ is_additional_type kind }
+fn is_for_additionals_alone(kind: RecordType) -> bool
+    ensures { result ≡ is_for_additionals_alone kind }
 {
     kind == RecordType::OPT || kind == RecordType::TSIG || kind == RecordType::SIG
 }
@@ -48,7 +48,7 @@ impl<'a> BinDecoder<'a> {
     /// Then the place is the one behind the last. An error is the first fault of the first question that has one, or
     /// `Memory` where memory was refused. After an error the place is left open.
     pub fn read_queries(&mut self, alloc: Global, count: u16) -> Result<Items<Query>, DecodeError>
-        ensures { Gives (λ queries. queries) result self.old self.new (items question count []) }
+        ensures { Gives result self.old self.new (items question count []) }
     {
         let mut queries = Items::new(alloc);
         'queries: for _ in 0..count {
@@ -60,10 +60,10 @@ impl<'a> BinDecoder<'a> {
 
     #[tactic(auto, unfolding(crate::specs::serialize::reading::SectionReading::section_record))]
     fn read_section_record(&mut self, alloc: Global) -> Result<Record, DecodeError>
-        ensures { Gives (λ r. r) result self.old self.new section_record }
+        ensures { Gives result self.old self.new section_record }
     {
         let next = self.read_record(alloc)?;
-        if is_additional_type(next.rdata.record_type()) {
+        if is_for_additionals_alone(next.rdata.record_type()) {
             return Err(DecodeError::RecordNotInAdditionals);
         }
         Ok(next)
@@ -75,7 +75,7 @@ impl<'a> BinDecoder<'a> {
     /// of a record, or `RecordNotInAdditionals` where an OPT, TSIG or SIG record stands here; or it is `Memory` where memory
     /// was refused. After an error the place is left open.
     pub fn read_section(&mut self, alloc: Global, count: u16) -> Result<Items<Record>, DecodeError>
-        ensures { Gives (λ records. records) result self.old self.new (items section_record count []) }
+        ensures { Gives result self.old self.new (items section_record count []) }
     {
         let mut records = Items::new(alloc);
         'records: for _ in 0..count {
@@ -88,7 +88,7 @@ impl<'a> BinDecoder<'a> {
     /// So many records of an additional section, with its OPT and its TSIG apart.
     ///
     /// Memory is taken as records are read. Then the place is the one behind the last. An error is the first fault: those
-    /// of a record, and then, in this order, `RecordAfterSignature` behind a TSIG record (RFC 8945 section 5.1),
+    /// of a record, and then, in this order, `RecordAfterSignature` behind a TSIG record (RFC 8945 section 5.2),
     /// `EdnsNameNotRoot` and `DuplicateEdns` (RFC 6891 sections 6.1.1 and 6.1.2); or it is `Memory` where memory was refused.
     /// After an error the place is left open.
     pub fn read_additionals(
@@ -96,7 +96,7 @@ impl<'a> BinDecoder<'a> {
         alloc: Global,
         count: u16,
     ) -> Result<Additionals, DecodeError>
-        ensures { Gives (λ a. a) result self.old self.new (additionals_after count no_additionals) }
+        ensures { Gives result self.old self.new (additionals_after count no_additionals) }
     {
         let mut additionals = Additionals::new(alloc);
         'additionals: for _ in 0..count {
@@ -111,7 +111,7 @@ impl<'a> BinDecoder<'a> {
     /// Then the place is the one behind it. After an error the place is left open.
     #[tactic(auto, unfolding(crate::specs::serialize::reading::MessageReading::message))]
     pub fn read_message(&mut self, alloc: Global) -> Result<Message, DecodeError>
-        ensures exact { Gives (λ m. m) result self.old self.new message }
+        ensures exact { Gives result self.old self.new message }
     {
         let header = self.read_header()?;
         let queries = self.read_queries(alloc, header.counts.queries)?;

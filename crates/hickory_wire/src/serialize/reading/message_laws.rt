@@ -4,7 +4,7 @@ ghost use Rattle.std.specs.Prelude.{◌≡◌, ◌↔◌, ◌<◌, ◌%◌, ◌^
 ghost use Rattle.std.specs.List.{AllByRecursion};
 ghost use Rattle.hickory_wire.specs.serialize.layout.Bytes.{AreBytes, BytesAt};
 ghost use Rattle.hickory_wire.specs.serialize.layout.HeaderLayout.{AreCounts, HeaderAt, first_flags, header_octets, metadata_of, second_flags};
-ghost use Rattle.hickory_wire.specs.serialize.layout.MessageLayout.{AdditionalSection, IsSectionRecord, ItemsAt, MessageAt, QuestionRead};
+ghost use Rattle.hickory_wire.specs.serialize.layout.MessageLayout.{AdditionalSection, IsPlainRecord, ItemsAt, MessageAt, QuestionRead};
 ghost use Rattle.hickory_wire.specs.serialize.reading.MessageReading.{Fault, Reads, front_of, message};
 ghost use Rattle.hickory_wire.specs.op.Metadata.{bare_metadata};
 ghost use Rattle.hickory_wire.specs.serialize.layout.RecordLayout.{RecordAt};
@@ -38,12 +38,12 @@ pub fn items_readings()
     ensures questions { (bytes : List ℕ) (place n : ℕ) (queries : List Query) (next : ℕ) → AreBytes bytes →
         (ItemsAt (QuestionRead bytes) place queries next × (length queries ≡ n)) ↔ (items question n [] (record { bytes = bytes; place = place }) ≡ Ok (queries, record { bytes = bytes; place = next })) }
     ensures records { (bytes : List ℕ) (place n : ℕ) (records : List (Record RData)) (next : ℕ) → AreBytes bytes →
-        (ItemsAt (RecordAt bytes) place records next × AllByRecursion IsSectionRecord records × (length records ≡ n)) ↔
+        (ItemsAt (RecordAt bytes) place records next × AllByRecursion IsPlainRecord records × (length records ≡ n)) ↔
         (items section_record n [] (record { bytes = bytes; place = place }) ≡ Ok (records, record { bytes = bytes; place = next })) }
 {}
 
 /// The records of an additional section are read one behind the other exactly where they stand so and make an additional section
-/// (RFC 6891 section 6.1.1, RFC 8945 section 5.1).
+/// (RFC 6891 section 6.1.1, RFC 8945 section 5.2).
 pub fn additional_readings()
     ensures { (bytes : List ℕ) (place n : ℕ) (x : Additionals) (next : ℕ) → AreBytes bytes →
         ((all : List (Record RData)) × ItemsAt (RecordAt bytes) place all next × (length all ≡ n) × AdditionalSection all x.records x.edns x.signature) ↔

@@ -2,7 +2,7 @@
 
 ghost use Rattle.std.specs.Prelude.{◌≡◌, ◌≢◌, ◌+◌, ◌^◌, ◌<◌, ℕ, Ok, Err, IfOk, IfErr};
 ghost use Rattle.std.specs.Int.{w16};
-ghost use Rattle.hickory_wire.specs.serialize.reading.Reading.{Gives, octets};
+ghost use Rattle.hickory_wire.specs.serialize.reading.Reading.{Gives, GivesSeenBy, octets};
 ghost use Rattle.hickory_wire.specs.serialize.reading.RecordReading.{string, strings_until, counted_octets, soa, mx, tsig, form, record_data, resource, question};
 ghost use Rattle.hickory_wire.specs.serialize.layout.MessageLayout.{QuestionRead};
 ghost use Rattle.hickory_wire.specs.serialize.reading.RecordFaults.{QuestionFault, RecordFault};
@@ -30,7 +30,7 @@ use std::net::{Ipv4Addr, Ipv6Addr};
 impl<'a> BinDecoder<'a> {
     /// The next `N` bytes.
     fn read_array<const N: usize>(&mut self) -> Result<[u8; N], DecodeError>
-        ensures exact { Gives (λ bytes. bytes) result self.old self.new (octets N) }
+        ensures exact { Gives result self.old self.new (octets N) }
         ensures fault { IfErr result (λ e. e ≡ InsufficientBytes) }
     {
         let mut array = [0; N];
@@ -41,7 +41,7 @@ impl<'a> BinDecoder<'a> {
     /// A character string (RFC 1035 section 3.3).
     #[tactic(auto, unfolding(crate::specs::serialize::reading::RecordReading::string))]
     fn read_string(&mut self) -> Result<&'a [u8], DecodeError>
-        ensures exact { Gives (λ s. s.now) result self.old self.new string }
+        ensures exact { GivesSeenBy (λ s. s.now) result self.old self.new string }
         ensures fault { IfErr result (λ e. e ≡ InsufficientBytes) }
     {
         let len = self.read_u8()?;
@@ -50,7 +50,7 @@ impl<'a> BinDecoder<'a> {
 
     /// Character strings, until a place is reached or passed.
     fn read_strings(&mut self, alloc: Global, stop: usize) -> Result<Items<Octets>, DecodeError>
-        ensures { Gives (λ strings. strings) result self.old self.new (strings_until stop) }
+        ensures { Gives result self.old self.new (strings_until stop) }
     {
         let mut strings = Items::new(alloc);
         'strings: while self.index() < stop {
@@ -63,7 +63,7 @@ impl<'a> BinDecoder<'a> {
     /// Bytes behind their length in two bytes.
     #[tactic(auto, unfolding(crate::specs::serialize::reading::RecordReading::counted_octets))]
     fn read_counted_octets(&mut self, alloc: Global) -> Result<Octets, DecodeError>
-        ensures { Gives (λ o. o) result self.old self.new counted_octets }
+        ensures { Gives result self.old self.new counted_octets }
     {
         let len = self.read_u16()?;
         self.read_octets(alloc, len)
@@ -71,7 +71,7 @@ impl<'a> BinDecoder<'a> {
 
     /// So many bytes.
     fn read_octets(&mut self, alloc: Global, len: u16) -> Result<Octets, DecodeError>
-        ensures { Gives (λ o. o) result self.old self.new (octets len) }
+        ensures { Gives result self.old self.new (octets len) }
     {
         let bytes = self.read_slice(usize::from(len))?;
         Ok(Octets::from_slice(alloc, bytes)?)
@@ -79,7 +79,7 @@ impl<'a> BinDecoder<'a> {
 
     #[tactic(auto, unfolding(crate::specs::serialize::reading::RecordReading::soa))]
     fn read_soa(&mut self, alloc: Global) -> Result<RData, DecodeError>
-        ensures { Gives (λ r. r) result self.old self.new soa }
+        ensures { Gives result self.old self.new soa }
     {
         let mname = self.read_name(alloc)?;
         let rname = self.read_name(alloc)?;
@@ -102,7 +102,7 @@ impl<'a> BinDecoder<'a> {
 
     #[tactic(auto, unfolding(crate::specs::serialize::reading::RecordReading::mx))]
     fn read_mx(&mut self, alloc: Global) -> Result<RData, DecodeError>
-        ensures { Gives (λ r. r) result self.old self.new mx }
+        ensures { Gives result self.old self.new mx }
     {
         let preference = self.read_u16()?;
         let exchange = self.read_name(alloc)?;
@@ -114,7 +114,7 @@ impl<'a> BinDecoder<'a> {
 
     #[tactic(auto, unfolding(crate::specs::serialize::reading::RecordReading::tsig))]
     fn read_tsig(&mut self, alloc: Global) -> Result<RData, DecodeError>
-        ensures { Gives (λ r. r) result self.old self.new tsig }
+        ensures { Gives result self.old self.new tsig }
     {
         let algorithm = self.read_name(alloc)?;
         let high = self.read_u16()?;
@@ -141,7 +141,7 @@ impl<'a> BinDecoder<'a> {
     #[tactic(auto, unfolding(crate::specs::serialize::reading::RecordReading::form))]
     fn read_form(&mut self, alloc: Global, kind: RecordType, len: u16) -> Result<RData, DecodeError>
         requires { self.old.place + len < 2 ^ 64 }
-        ensures { Gives (λ r. r) result self.old self.new (form kind len) }
+        ensures { Gives result self.old self.new (form kind len) }
     {
         match kind {
             RecordType::A => Ok(RData::A(Ipv4Addr::from_octets(self.read_array()?))),
@@ -176,7 +176,7 @@ impl<'a> BinDecoder<'a> {
         kind: RecordType,
         len: u16,
     ) -> Result<RData, DecodeError>
-        ensures { Gives (λ r. r) result self.old self.new (record_data kind len) }
+        ensures { Gives result self.old self.new (record_data kind len) }
     {
         if self.remaining() < usize::from(len) {
             return Err(DecodeError::InsufficientBytes);
@@ -197,7 +197,7 @@ impl<'a> BinDecoder<'a> {
 
     #[tactic(auto, unfolding(crate::specs::serialize::reading::RecordReading::resource))]
     fn next_record(&mut self, alloc: Global) -> Result<Record, DecodeError>
-        ensures { Gives (λ r. r) result self.old self.new resource }
+        ensures { Gives result self.old self.new resource }
     {
         let name = self.read_name(alloc)?;
         let kind = self.read_u16()?;
@@ -226,7 +226,7 @@ impl<'a> BinDecoder<'a> {
     /// `IncorrectDataLength` where the data end elsewhere than their length says, or a TSIG record has none. `Memory`
     /// comes only where memory was refused. After an error the place is left open.
     pub fn read_record(&mut self, alloc: Global) -> Result<Record, DecodeError>
-        ensures exact { Gives (λ r. r) result self.old self.new resource }
+        ensures exact { Gives result self.old self.new resource }
         ensures found { IfOk result (λ r. RecordAt self.old.bytes self.old.place r self.new.place) }
         ensures only { (r : ResourceRecord Data) (next : ℕ) → RecordAt self.old.bytes self.old.place r next → result ≢ Err Memory → (result ≡ Ok r) × (self.new.place ≡ next) }
         ensures fault { IfErr result (λ e. e ≢ Memory → RecordFault self.old.bytes self.old.place e) }
@@ -238,7 +238,7 @@ impl<'a> BinDecoder<'a> {
 
     #[tactic(auto, unfolding(crate::specs::serialize::reading::RecordReading::question))]
     fn next_query(&mut self, alloc: Global) -> Result<Query, DecodeError>
-        ensures { Gives (λ q. q) result self.old self.new question }
+        ensures { Gives result self.old self.new question }
     {
         let name = self.read_name(alloc)?;
         let kind = self.read_u16()?;
@@ -255,7 +255,7 @@ impl<'a> BinDecoder<'a> {
     /// Then the place is the one behind it. An error is the first fault from left to right, those of a name or
     /// `InsufficientBytes`, or it is `Memory` where memory was refused. After an error the place is left open.
     pub fn read_query(&mut self, alloc: Global) -> Result<Query, DecodeError>
-        ensures exact { Gives (λ q. q) result self.old self.new question }
+        ensures exact { Gives result self.old self.new question }
         ensures found { IfOk result (λ q. QuestionRead self.old.bytes self.old.place q self.new.place) }
         ensures only { (q : Question) (next : ℕ) → QuestionRead self.old.bytes self.old.place q next → result ≢ Err Memory → (result ≡ Ok q) × (self.new.place ≡ next) }
         ensures fault { IfErr result (λ e. e ≢ Memory → QuestionFault self.old.bytes self.old.place e) }

@@ -15,7 +15,7 @@ ghost use Rattle.hickory_wire.specs.serialize.writing.ReadingBack.{ReadsBack};
 ghost use Rattle.hickory_wire.specs.rr.RecordData.{OptionsOf};
 ghost use Rattle.hickory_wire.specs.serialize.layout.RecordLayout.{FormAt, IsFormedRecord, RecordAt};
 ghost use Rattle.hickory_wire.specs.serialize.reading.RecordReading.{options_of, question, resource};
-ghost use Rattle.hickory_wire.specs.serialize.writing.RecordSize.{form_fault, full_size};
+ghost use Rattle.hickory_wire.specs.serialize.writing.RecordSize.{unwritable_reason, full_size};
 ghost use Rattle.hickory_wire.specs.declared.op.edns.EdnsOption.{EdnsOption};
 ghost use Rattle.hickory_wire.specs.declared.op.query.Query.{Query};
 ghost use Rattle.hickory_wire.specs.declared.rr.rdata.RData.{RData};
@@ -70,7 +70,7 @@ pub fn read_is_question_at()
 /// (RFC 1035 section 4.1.3).
 pub fn full_forms()
     ensures size { (r : Record RData) → length (record_octets r) ≡ full_size r }
-    ensures stands { (bytes : List ℕ) (floor place : ℕ) (r : Record RData) → AreLabels r.name.labels → HasNames r.rdata → form_fault r.rdata ≡ None → floor ≤ place →
+    ensures stands { (bytes : List ℕ) (floor place : ℕ) (r : Record RData) → AreLabels r.name.labels → HasNames r.rdata → unwritable_reason r.rdata ≡ None → floor ≤ place →
         BytesAt bytes place (record_octets r) → FormAt floor bytes place r (place + full_size r) }
 {}
 
@@ -86,7 +86,7 @@ pub fn question_forms()
 /// of every record that was written; names are fully qualified; and octets are read as data of their type.
 pub fn reading_back()
     ensures parts { (r : Record RData) → IsFormedRecord r ↔ (IsRecordInRange r × IsFullyQualified r.name × IsReadAsItsType r.rdata × (r.proof ≡ Indeterminate)) }
-    ensures records { (r : Record RData) → ReadsBack r ↔ (IsFormedRecord r × AreLabels r.name.labels × HasNames r.rdata × (form_fault r.rdata ≡ None)) }
+    ensures records { (r : Record RData) → ReadsBack r ↔ (IsFormedRecord r × AreLabels r.name.labels × HasNames r.rdata × (unwritable_reason r.rdata ≡ None)) }
 {}
 
 /// A question that was read behind the header of a request, with no byte of its name in the header, stands at that place in a reply that

@@ -8,7 +8,7 @@ ghost use Rattle.hickory_wire.specs.serialize.layout.FieldRanges.{IsInRange};
 ghost use Rattle.hickory_wire.specs.serialize.writing.WrittenParts.{rdata_of};
 ghost use Rattle.hickory_wire.specs.serialize.writing.FullForm.{name_octets, soa_octets, tsig_octets, data_octets, HasNames, HasLength};
 ghost use Rattle.hickory_wire.specs.rr.RecordData.{character_string, option_octets, soa_numbers, tsig_fields, type_of};
-ghost use Rattle.hickory_wire.specs.serialize.writing.RecordSize.{data_len, form_fault, length_fault};
+ghost use Rattle.hickory_wire.specs.serialize.writing.RecordSize.{data_len, unwritable_reason, length_fault};
 ghost use Rattle.hickory_wire.specs.declared.rr.rdata.RData.TheVariants as rdata_form;
 
 use crate::error::ProtoError;
@@ -135,7 +135,7 @@ impl Data<'_> {
 
     /// Puts the data behind the bytes, with every name in full.
     pub(crate) fn write(self, bytes: &mut Vec<u8>) -> Result<(), AllocError>
-        requires form { form_fault (rdata_of self) ≡ None }
+        requires form { unwritable_reason (rdata_of self) ≡ None }
         requires kind { type_of (rdata_of self) < 2 ^ 16 }
         ensures bytes { OnOk result (bytes.new.items ≡ bytes.old.items ++ data_octets (rdata_of self.entry)) }
         ensures in_range { OnOk result (IsInRange (rdata_of self.entry)) }
@@ -215,7 +215,7 @@ fn write_soa(bytes: &mut Vec<u8>, soa: &SOA) -> Result<(), AllocError>
 }
 
 fn write_strings(bytes: &mut Vec<u8>, strings: &[Octets]) -> Result<(), AllocError>
-    requires { form_fault (rdata_form.TXT strings.now) ≡ None }
+    requires { unwritable_reason (rdata_form.TXT strings.now) ≡ None }
     ensures bytes { OnOk result (bytes.new.items ≡ bytes.old.items ++ flat_map character_string strings.now) }
     ensures in_range { OnOk result (IsInRange (rdata_form.TXT strings.now)) }
 {
@@ -227,7 +227,7 @@ fn write_strings(bytes: &mut Vec<u8>, strings: &[Octets]) -> Result<(), AllocErr
 }
 
 fn write_options(bytes: &mut Vec<u8>, options: &[EdnsOption]) -> Result<(), AllocError>
-    requires { form_fault (rdata_form.OPT options.now) ≡ None }
+    requires { unwritable_reason (rdata_form.OPT options.now) ≡ None }
     ensures bytes { OnOk result (bytes.new.items ≡ bytes.old.items ++ flat_map option_octets options.now) }
     ensures in_range { OnOk result (IsInRange (rdata_form.OPT options.now)) }
 {
@@ -239,7 +239,7 @@ fn write_options(bytes: &mut Vec<u8>, options: &[EdnsOption]) -> Result<(), Allo
 }
 
 fn write_signature_data(bytes: &mut Vec<u8>, signature: &TSIG) -> Result<(), AllocError>
-    requires { form_fault (rdata_form.TSIG signature.now) ≡ None }
+    requires { unwritable_reason (rdata_form.TSIG signature.now) ≡ None }
     ensures bytes { OnOk result (bytes.new.items ≡ bytes.old.items ++ tsig_octets signature.now) }
     ensures in_range { OnOk result (IsInRange (rdata_form.TSIG signature.now)) }
 {
@@ -254,7 +254,7 @@ fn write_signature_data(bytes: &mut Vec<u8>, signature: &TSIG) -> Result<(), All
 }
 
 fn write_data(bytes: &mut Vec<u8>, rdata: &RData) -> Result<(), AllocError>
-    requires form { form_fault rdata.now ≡ None }
+    requires form { unwritable_reason rdata.now ≡ None }
     requires kind { type_of rdata.now < 2 ^ 16 }
     ensures bytes { OnOk result (bytes.new.items ≡ bytes.old.items ++ data_octets rdata.now) }
     ensures in_range { OnOk result (IsInRange rdata.now) }

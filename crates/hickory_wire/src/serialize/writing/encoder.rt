@@ -23,6 +23,7 @@ impl<'a> BinEncoder<'a> {
         ensures same_reference { result.buffer.ghost_name ≡ buffer.entry.ghost_name }
         ensures empty { written_bytes result ≡ [] }
         ensures limit { max_size result ≡ 65535 }
+        ensures alloc { result.alloc ≡ alloc }
     {
         buffer.clear();
         BinEncoder {
@@ -37,12 +38,15 @@ impl<'a> BinEncoder<'a> {
         ensures same_reference { IsSameVector self.old self.new }
         ensures bytes { written_bytes self.new ≡ written_bytes self.old }
         ensures limit { self.new.max_size ≡ max_size }
+        ensures alloc { self.new.alloc ≡ self.old.alloc }
     {
         self.max_size = max_size;
     }
 
     /// The allocator that it was made with.
-    pub fn allocator(&self) -> Global {
+    pub fn allocator(&self) -> Global
+        ensures { result ≡ self.now.alloc }
+    {
         self.alloc
     }
 

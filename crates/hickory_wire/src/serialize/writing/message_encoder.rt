@@ -6,7 +6,7 @@ ghost use Rattle.hickory_wire.specs.serialize.layout.Bytes.{AreBytes};
 ghost use Rattle.hickory_wire.specs.serialize.writing.Encoder.{written_bytes, max_size, IsSameVector};
 ghost use Rattle.hickory_wire.specs.serialize.layout.HeaderLayout.{header_octets};
 ghost use Rattle.hickory_wire.specs.serialize.writing.Writing.{fallback_header, header_with};
-ghost use Rattle.hickory_wire.specs.serialize.writing.ReplyParts.{GivesLists, RecordLists, Refused, ReplyEncoded, ReplyWritten, WritesLists, fronts_of, reply_of};
+ghost use Rattle.hickory_wire.specs.serialize.writing.ReplyParts.{GivesLists, RecordLists, CannotBeWritten, ReplyEncoded, ReplyWritten, WritesLists, fronts_of, reply_of};
 
 use crate::error::ProtoError;
 use crate::op::edns::Edns;
@@ -192,7 +192,7 @@ where
     ensures too_large { (result ≡ Err ProtoError.MaxSizeExceeded) ↔ (limit < 12 + length parts.entry.question.now) }
     ensures refused { IfErr result (λ e. e ≢ ProtoError.Memory → (lists : RecordLists) ×
         GivesLists A.next_gives N.next_gives S.next_gives D.next_gives parts.entry lists ×
-        Refused limit (reply_of parts.entry lists) e) }
+        CannotBeWritten limit (reply_of parts.entry lists) e) }
 {
     if !question_fits(limit, parts.question.len()) {
         drain_lists(parts);
@@ -232,6 +232,7 @@ where
     requires empty { written_bytes encoder.old ≡ [] }
     ensures same_vector { IsSameVector encoder.old encoder.new }
     ensures limit { max_size encoder.new ≡ max_size encoder.old }
+    ensures alloc { encoder.new.alloc ≡ encoder.old.alloc }
     ensures written { IfOk result (λ header. (lists : RecordLists) ×
         GivesLists A.next_gives N.next_gives S.next_gives D.next_gives parts.entry lists ×
         ReplyWritten (max_size encoder.old) (reply_of parts.entry lists) (written_bytes encoder.new) header) }
@@ -239,7 +240,7 @@ where
         (max_size encoder.old < 12 + length parts.entry.question.now) }
     ensures refused { IfErr result (λ e. e ≢ ProtoError.Memory → (lists : RecordLists) ×
         GivesLists A.next_gives N.next_gives S.next_gives D.next_gives parts.entry lists ×
-        Refused (max_size encoder.old) (reply_of parts.entry lists) e) }
+        CannotBeWritten (max_size encoder.old) (reply_of parts.entry lists) e) }
     ensures err { OnErr result (written_bytes encoder.new ≡ []) }
 {
     let limit = encoder.max_size;

@@ -40,7 +40,7 @@ advance bytes w i place e h =
     let count : get_or bytes place 0 ≡ length (get_or (cut bytes) i []) = ap (λ xs. get_or xs place 0) (sym w.whole) ∙ ap (λ k. get_or (wire_form (cut bytes)) k 0) e ∙ s.count in
     record { below = s.below; next = omega (arith, s.next); fits = omega (arith, s.next, s.fits) }
 
-last : (xs : List (List ℕ)) (i : ℕ) → i < length xs → reverse (take (i + 1) xs) ≡ get_or xs i [] ∷ reverse (take i xs)
+pub last : (xs : List (List ℕ)) (i : ℕ) → i < length xs → reverse (take (i + 1) xs) ≡ get_or xs i [] ∷ reverse (take i xs)
 last xs i h = ap reverse (take_more xs i [] h) ∙ reverse-append (take i xs) (get_or xs i [] ∷ [])
 
 pub back_step : (R : List ℕ → List ℕ → Ordering) (xs ys : List (List ℕ)) (i j : ℕ) → 0 < i → 0 < j → i ≤ length xs → j ≤ length ys

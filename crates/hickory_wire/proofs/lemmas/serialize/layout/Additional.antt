@@ -4,10 +4,10 @@ use Rattle.std.specs.Prelude.{filter, option_to_list}
 use Rattle.std.proofs.lemmas.Bool.{ne_eqb}
 use Rattle.std.proofs.lemmas.List.{append-nil}
 use Rattle.hickory_wire.specs.op.EdnsFields.{EdnsFields}
-use Rattle.hickory_wire.specs.serialize.layout.MessageLayout.{is_opt, is_tsig, SaysEdns, HasEdns, tsig_record, AdditionalSection}
+use Rattle.hickory_wire.specs.serialize.layout.MessageLayout.{is_opt, is_tsig, SaysEdns, HasEdns, tsig_record, AdditionalSection, edns_of}
 use Rattle.hickory_wire.specs.serialize.reading.Reading.{◌>>=◌}
 use Rattle.hickory_wire.specs.rr.RecordData.{type_of}
-use Rattle.hickory_wire.specs.serialize.reading.SectionReading.{Additionals, edns_of, with_data, placed, add_record, no_additionals}
+use Rattle.hickory_wire.specs.serialize.reading.SectionReading.{Additionals, with_data, placed, add_record, no_additionals}
 use Rattle.hickory_wire.specs.declared.op.edns.EdnsOption.{EdnsOption}
 use Rattle.hickory_wire.specs.declared.error.DecodeError.{DecodeError}
 use Rattle.hickory_wire.specs.declared.error.DecodeError.TheVariants.{DuplicateEdns, EdnsNameNotRoot}

@@ -12,7 +12,7 @@ use Rattle.hickory_wire.specs.serialize.layout.Bytes.{AreBytes}
 use Rattle.hickory_wire.specs.serialize.layout.FieldRanges.{IsInRange, IsRecordInRange, IsReadAsItsType}
 use Rattle.hickory_wire.specs.serialize.layout.NameLayout.{IsFullyQualified}
 use Rattle.hickory_wire.specs.serialize.layout.RecordLayout.{IsFormed, IsFormedRecord}
-use Rattle.hickory_wire.specs.serialize.writing.RecordSize.{data_len, form_fault, length_fault}
+use Rattle.hickory_wire.specs.serialize.writing.RecordSize.{data_len, unwritable_reason, length_fault}
 use Rattle.hickory_wire.specs.declared.error.ProtoError.{ProtoError}
 use Rattle.hickory_wire.specs.declared.error.ProtoError.TheVariants.{CharacterDataTooLong}
 use Rattle.hickory_wire.specs.declared.rr.rdata.RData.{RData}
@@ -88,7 +88,7 @@ pub texts_short : (texts : List (List ℕ)) → list_any (λ text. nat_lt 255 (l
 texts_short [] h = tt
 texts_short (t ∷ ts) h = let both = none_of (nat_lt 255 (length t)) (list_any (λ text. nat_lt 255 (length text)) ts) h in (short_text (length t) both.0, texts_short ts both.1)
 
-pub no_long_text : (texts : List (List ℕ)) → form_fault (rdata.TXT texts) ≡ None → list_any (λ text. nat_lt 255 (length text)) texts ≡ false
+pub no_long_text : (texts : List (List ℕ)) → unwritable_reason (rdata.TXT texts) ≡ None → list_any (λ text. nat_lt 255 (length text)) texts ≡ false
 no_long_text texts h = not_first (list_any (λ text. nat_lt 255 (length text)) texts) CharacterDataTooLong (length_fault (data_len (rdata.TXT texts))) h
 
 -- what is put behind bytes is bytes where all of them are

@@ -12,8 +12,8 @@ use Rattle.hickory_wire.specs.serialize.layout.NameLayout.{NameAt, NameFault, Is
 use Rattle.hickory_wire.specs.serialize.reading.NameReading.{name, qualified}
 use Rattle.hickory_wire.specs.serialize.reading.Reading.{Read, ◌>>=◌, number, octets}
 use Rattle.hickory_wire.specs.rr.RecordData.{type_of}
-use Rattle.hickory_wire.specs.serialize.reading.RecordFaults.{EndsItself, FormFault, DataFault}
-use Rattle.hickory_wire.specs.serialize.reading.RecordFaults.FormFault.{ipv4_missing, ipv6_missing, ns_faulty, cname_faulty, ptr_faulty, preference_missing, exchange_faulty, mname_faulty, rname_faulty, numbers_missing, string_missing, string_too_long, algorithm_faulty, mac_size_missing, other_len_missing, other_missing, ends_elsewhere}
+use Rattle.hickory_wire.specs.serialize.reading.RecordFaults.{EndsItself, DataFormFault, DataFault}
+use Rattle.hickory_wire.specs.serialize.reading.RecordFaults.DataFormFault.{ipv4_missing, ipv6_missing, ns_faulty, cname_faulty, ptr_faulty, preference_missing, exchange_faulty, mname_faulty, rname_faulty, numbers_missing, string_missing, string_too_long, algorithm_faulty, mac_size_missing, other_len_missing, other_missing, ends_elsewhere}
 use Rattle.hickory_wire.specs.serialize.reading.RecordFaults.DataFault.{no_octets, form_faulty}
 use Rattle.hickory_wire.specs.serialize.layout.RecordLayout.{OctetsAt, DataRead}
 use Rattle.hickory_wire.specs.serialize.reading.RecordReading.{soa, mx, tsig, form, record_data, strings_until, counted_octets, options_of}
@@ -65,16 +65,16 @@ octets_pass bytes k len p e within h =
 -- ---- the data of each type fail as they say
 
 -- a form that failed, failed in a part of it, or the data end elsewhere
-ended_err : (bytes : List ℕ) (r : Read RData) (kind len p : ℕ) (e : DecodeError) → (r >>= ended (p + len)) ≡ Err e → (r ≡ Err e → FormFault bytes p len kind e)
-    → ((x : RData × Cursor) → r ≡ Ok x → EndsItself x.0 × DataRead bytes p x.0 x.1.place × (type_of x.0 ≡ kind)) → FormFault bytes p len kind e
+ended_err : (bytes : List ℕ) (r : Read RData) (kind len p : ℕ) (e : DecodeError) → (r >>= ended (p + len)) ≡ Err e → (r ≡ Err e → DataFormFault bytes p len kind e)
+    → ((x : RData × Cursor) → r ≡ Ok x → EndsItself x.0 × DataRead bytes p x.0 x.1.place × (type_of x.0 ≡ kind)) → DataFormFault bytes p len kind e
 ended_err bytes r kind len p e h part stands =
-    let G = FormFault bytes p len kind e in
+    let G = DataFormFault bytes p len kind e in
     bind_err r (ended (p + len)) e G h part (λ x f g.
     let s = stands x f in
     branch_err (eqb x.1.place (p + len)) (Ok x) (Err IncorrectDataLength) e G g (λ _ bad. absurd cc) (λ test is.
     let same : IncorrectDataLength ≡ e = fail_is IncorrectDataLength e is in
-    let at : FormFault bytes p len (type_of x.0) IncorrectDataLength = ends_elsewhere x.0 s.0 s.1 (ne_of x.1.place (p + len) test) in
-    subst (λ (d : DecodeError). FormFault bytes p len kind d) same (subst (λ (n : ℕ). FormFault bytes p len n IncorrectDataLength) s.2 at)))
+    let at : DataFormFault bytes p len (type_of x.0) IncorrectDataLength = ends_elsewhere x.0 s.0 s.1 (ne_of x.1.place (p + len) test) in
+    subst (λ (d : DecodeError). DataFormFault bytes p len kind d) same (subst (λ (n : ℕ). DataFormFault bytes p len n IncorrectDataLength) s.2 at)))
 
 -- what stands where data were read
 abbrev Stands : List ℕ → ℕ → ℕ → RData × Cursor → Type 0
@@ -104,19 +104,19 @@ name_stands bytes a kind p k x h each =
 
 -- data of the octets that they take
 octets_err : (bytes : List ℕ) → AreBytes bytes → (kind len j p : ℕ) (k : List ℕ → RData) (e : DecodeError) → p ≤ length bytes → ((octets j (here bytes p) >>= λ o. Ok (k o.0, o.1)) >>= ended (p + len)) ≡ Err e
-    → (length bytes < p + j → FormFault bytes p len kind InsufficientBytes)
-    → ((o : List ℕ) (next : ℕ) → length o ≡ j → AreBytes o → OctetsAt 0 bytes p o next → EndsItself (k o) × DataRead bytes p (k o) next × (type_of (k o) ≡ kind)) → FormFault bytes p len kind e
+    → (length bytes < p + j → DataFormFault bytes p len kind InsufficientBytes)
+    → ((o : List ℕ) (next : ℕ) → length o ≡ j → AreBytes o → OctetsAt 0 bytes p o next → EndsItself (k o) × DataRead bytes p (k o) next × (type_of (k o) ≡ kind)) → DataFormFault bytes p len kind e
 octets_err bytes a kind len j p k e within h short each =
     ended_err bytes (octets j (here bytes p) >>= λ o. Ok (k o.0, o.1)) kind len p e h
-    (λ f. run_err bytes (octets j) (λ o. Ok (k o.0, o.1)) j p e (FormFault bytes p len kind e) (octets_run bytes j p within) f (λ lt is. subst (FormFault bytes p len kind) (sym is) (short lt)) (λ x le g k. absurd cc))
+    (λ f. run_err bytes (octets j) (λ o. Ok (k o.0, o.1)) j p e (DataFormFault bytes p len kind e) (octets_run bytes j p within) f (λ lt is. subst (DataFormFault bytes p len kind) (sym is) (short lt)) (λ x le g k. absurd cc))
     (λ x f. octets_stand bytes a kind j p k x within f each)
 
 -- data of a name
-named_err : (bytes : List ℕ) → AreBytes bytes → (kind len p : ℕ) (k : DomainName → RData) (e : DecodeError) → ((name (here bytes p) >>= λ n. Ok (k n.0, n.1)) >>= ended (p + len)) ≡ Err e → (NameFault bytes p e → FormFault bytes p len kind e)
-    → ((n : DomainName) (next : ℕ) → NameAt 0 bytes p n next → IsFullyQualified n → EndsItself (k n) × DataRead bytes p (k n) next × (type_of (k n) ≡ kind)) → FormFault bytes p len kind e
+named_err : (bytes : List ℕ) → AreBytes bytes → (kind len p : ℕ) (k : DomainName → RData) (e : DecodeError) → ((name (here bytes p) >>= λ n. Ok (k n.0, n.1)) >>= ended (p + len)) ≡ Err e → (NameFault bytes p e → DataFormFault bytes p len kind e)
+    → ((n : DomainName) (next : ℕ) → NameAt 0 bytes p n next → IsFullyQualified n → EndsItself (k n) × DataRead bytes p (k n) next × (type_of (k n) ≡ kind)) → DataFormFault bytes p len kind e
 named_err bytes a kind len p k e h faulty each =
     ended_err bytes (name (here bytes p) >>= λ n. Ok (k n.0, n.1)) kind len p e h
-    (λ f. name_err bytes (λ n. Ok (k n.0, n.1)) p e (FormFault bytes p len kind e) f faulty (λ n next at within g. absurd cc))
+    (λ f. name_err bytes (λ n. Ok (k n.0, n.1)) p e (DataFormFault bytes p len kind e) f faulty (λ n next at within g. absurd cc))
     (λ x f. name_stands bytes a kind p k x f each)
 
 -- data that end themselves are all that is read
@@ -152,12 +152,12 @@ tsig_only c =
 -- ---- MX
 
 -- a mail exchange that fails
-mx_err : (bytes : List ℕ) → AreBytes bytes → (len p : ℕ) (e : DecodeError) → p ≤ length bytes → (mx (here bytes p) >>= ended (p + len)) ≡ Err e → FormFault bytes p len 15 e
+mx_err : (bytes : List ℕ) → AreBytes bytes → (len p : ℕ) (e : DecodeError) → p ≤ length bytes → (mx (here bytes p) >>= ended (p + len)) ≡ Err e → DataFormFault bytes p len 15 e
 unfolding mx Gave
 mx_err bytes a len p e within h =
     ended_err bytes (mx (here bytes p)) 15 len p e h
-    (λ f. run_err bytes (number w16) _ 2 p e (FormFault bytes p len 15 e) (number_run bytes w16 p within) f (λ lt is. subst (FormFault bytes p len 15) (sym is) (preference_missing lt)) (λ preference le g k.
-    name_err bytes _ (p + 2) e (FormFault bytes p len 15 e) k (exchange_faulty le) (λ n next at fits bad. absurd cc)))
+    (λ f. run_err bytes (number w16) _ 2 p e (DataFormFault bytes p len 15 e) (number_run bytes w16 p within) f (λ lt is. subst (DataFormFault bytes p len 15) (sym is) (preference_missing lt)) (λ preference le g k.
+    name_err bytes _ (p + 2) e (DataFormFault bytes p len 15 e) k (exchange_faulty le) (λ n next at fits bad. absurd cc)))
     (λ x f. let g = mx_in bytes a (here bytes p) x (refl, within) f in (mx_only (here bytes p) x f, g.0, g.1))
 
 -- ---- SOA
@@ -177,38 +177,38 @@ numbers_run bytes m r p within =
     then_run bytes (number w32) _ 4 0 (p + 4 + 4 + 4 + 4) (number_run bytes w32 (p + 4 + 4 + 4 + 4) le4) (λ z le5. done_run bytes _ (p + 4 + 4 + 4 + 4 + 4) le5)))))
 
 -- the start of a zone that fails
-soa_err : (bytes : List ℕ) → AreBytes bytes → (len p : ℕ) (e : DecodeError) → p ≤ length bytes → (soa (here bytes p) >>= ended (p + len)) ≡ Err e → FormFault bytes p len 6 e
+soa_err : (bytes : List ℕ) → AreBytes bytes → (len p : ℕ) (e : DecodeError) → p ≤ length bytes → (soa (here bytes p) >>= ended (p + len)) ≡ Err e → DataFormFault bytes p len 6 e
 unfolding soa Gave
 soa_err bytes a len p e within h =
     ended_err bytes (soa (here bytes p)) 6 len p e h
-    (λ f. name_err bytes _ p e (FormFault bytes p len 6 e) f mname_faulty (λ m one at_m fits g.
-    name_err bytes _ one e (FormFault bytes p len 6 e) g (rname_faulty at_m) (λ r two at_r fits_r k.
+    (λ f. name_err bytes _ p e (DataFormFault bytes p len 6 e) f mname_faulty (λ m one at_m fits g.
+    name_err bytes _ one e (DataFormFault bytes p len 6 e) g (rname_faulty at_m) (λ r two at_r fits_r k.
     let s = run_short bytes (soa_numbers_of m r) 20 two e (numbers_run bytes m r two fits_r) k in
-    subst (FormFault bytes p len 6) (sym s.1) (numbers_missing at_m at_r s.0))))
+    subst (DataFormFault bytes p len 6) (sym s.1) (numbers_missing at_m at_r s.0))))
     (λ x f. let g = soa_in bytes a (here bytes p) x (refl, within) f in (soa_only (here bytes p) x f, g.0, g.1))
 
 -- ---- TXT
 
 -- strings that fail
-text_err : (bytes : List ℕ) (len p : ℕ) (e : DecodeError) → p + len ≤ length bytes → ((strings_until (p + len) (here bytes p) >>= λ t. Ok (rdata.TXT t.0, t.1)) >>= ended (p + len)) ≡ Err e → FormFault bytes p len 16 e
+text_err : (bytes : List ℕ) (len p : ℕ) (e : DecodeError) → p + len ≤ length bytes → ((strings_until (p + len) (here bytes p) >>= λ t. Ok (rdata.TXT t.0, t.1)) >>= ended (p + len)) ≡ Err e → DataFormFault bytes p len 16 e
 unfolding strings_until
 text_err bytes len p e within h =
-    let G = FormFault bytes p len 16 e in
+    let G = DataFormFault bytes p len 16 e in
     bind_err (strings_until (p + len) (here bytes p) >>= λ t. Ok (rdata.TXT t.0, t.1)) (ended (p + len)) e G h
     (λ f. bind_err (strings_until (p + len) (here bytes p)) (λ t. Ok (rdata.TXT t.0, t.1)) e G f
-    (λ g. let t = texts_err bytes (p + len - p) (p + len) p e within g in subst (FormFault bytes p len 16) (sym t.2) (string_missing t.0.begins t.1)) (λ t g k. absurd cc))
+    (λ g. let t = texts_err bytes (p + len - p) (p + len) p e within g in subst (DataFormFault bytes p len 16) (sym t.2) (string_missing t.0.begins t.1)) (λ t g k. absurd cc))
     (λ x f g. bind_then (strings_until (p + len) (here bytes p)) (λ t. Ok (rdata.TXT t.0, t.1)) x G f (λ t k l.
     let y : RData × Cursor = (rdata.TXT t.0, t.1) in
     let place : t.1.place ≡ x.1.place = ap (λ (z : RData × Cursor). z.1.place) (ok_is y x l) in
     branch_err (eqb x.1.place (p + len)) (Ok x) (Err IncorrectDataLength) e G g (λ _ bad. absurd cc) (λ test is.
     let same : IncorrectDataLength ≡ e = fail_is IncorrectDataLength e is in
     let past = texts_past bytes (p + len - p) (p + len) p t within (omega arith) (omega arith) k (λ stops. ne_of x.1.place (p + len) test (sym place ∙ stops)) in
-    subst (FormFault bytes p len 16) same (string_too_long past.0.begins past.1 past.2))))
+    subst (DataFormFault bytes p len 16) same (string_too_long past.0.begins past.1 past.2))))
 
 -- ---- TSIG
 
 -- a signature that fails
-tsig_err : (bytes : List ℕ) → AreBytes bytes → (len p : ℕ) (e : DecodeError) → p ≤ length bytes → (tsig (here bytes p) >>= ended (p + len)) ≡ Err e → FormFault bytes p len 250 e
+tsig_err : (bytes : List ℕ) → AreBytes bytes → (len p : ℕ) (e : DecodeError) → p ≤ length bytes → (tsig (here bytes p) >>= ended (p + len)) ≡ Err e → DataFormFault bytes p len 250 e
 unfolding tsig Gave
 tsig_err bytes a len p e within h =
     ended_err bytes (tsig (here bytes p)) 250 len p e h (tsig_part bytes a len p e)
@@ -221,10 +221,10 @@ stage : (k kind : ℕ) (P : ℕ → Type 0) → P k → ((kind ≢ k) → P kind
 stage k kind P this others = elim (cases_eq kind k) [ inl e ↦ subst P (sym e) this | inr n ↦ others n ]
 
 -- data of a type that fail
-form_err : (bytes : List ℕ) → AreBytes bytes → (kind len p : ℕ) (e : DecodeError) → p + len ≤ length bytes → 0 < len → formed kind len (here bytes p) ≡ Err e → FormFault bytes p len kind e
+form_err : (bytes : List ℕ) → AreBytes bytes → (kind len p : ℕ) (e : DecodeError) → p + len ≤ length bytes → 0 < len → formed kind len (here bytes p) ≡ Err e → DataFormFault bytes p len kind e
 unfolding form
 form_err bytes a kind len p e within some =
-    let P : ℕ → Type 0 = λ n. formed n len (here bytes p) ≡ Err e → FormFault bytes p len n e in
+    let P : ℕ → Type 0 = λ n. formed n len (here bytes p) ≡ Err e → DataFormFault bytes p len n e in
     let fits : p ≤ length bytes = omega arith in
     stage 1 kind P (λ h. octets_err bytes a 1 len 4 p (λ o. rdata.A (ipv4_of o)) e fits h ipv4_missing (λ o next s b t. (tt, (t, record { four = s }), refl))) (λ n1.
     stage 28 kind P (λ h. octets_err bytes a 28 len 16 p (λ o. rdata.AAAA (ipv6_of o)) e fits h ipv6_missing (λ o next s b t. (tt, aaaa_is o p next s b t, refl))) (λ n28.
@@ -261,7 +261,7 @@ own_read bytes p len next (rdata.Update0 code) own at = absurd own
 own_read bytes p len next (rdata.Unknown code o) own at = absurd own
 
 -- the fault of a form fails so
-err_form : {bytes : List ℕ} {kind len p : ℕ} {e : DecodeError} → p + len ≤ length bytes → 0 < len → FormFault bytes p len kind e → formed kind len (here bytes p) ≡ Err e
+err_form : {bytes : List ℕ} {kind len p : ℕ} {e : DecodeError} → p + len ≤ length bytes → 0 < len → DataFormFault bytes p len kind e → formed kind len (here bytes p) ≡ Err e
 unfolding form mx soa tsig
 err_form {bytes} {kind} {len} {p} {e} within some (ipv4_missing lt) = rw (short_is bytes (octets 4) 4 p (octets_run bytes 4 p (omega arith)) lt) refl
 err_form {bytes} {kind} {len} {p} {e} within some (ipv6_missing lt) = rw (short_is bytes (octets 16) 16 p (octets_run bytes 16 p (omega arith)) lt) refl

@@ -21,15 +21,15 @@ abbrev fault : {A : Type 0} → DecodeError → Result A DecodeError
 fault e = Err e
 
 module _ {A : Type 0} (read : Cursor → Read A) (At : ℕ → A → ℕ → Type 0) (Fault : DecodeError → Type 0) (old : Cursor) where
-  gives_found : ((x : A) (stop : Cursor) → read old ≡ Ok (x, stop) → At old.place x stop.place) → (r : Result A DecodeError) (new : Cursor) → Gives (λ x. x) r old new read → IfOk r (λ x. At old.place x new.place)
+  gives_found : ((x : A) (stop : Cursor) → read old ≡ Ok (x, stop) → At old.place x stop.place) → (r : Result A DecodeError) (new : Cursor) → Gives r old new read → IfOk r (λ x. At old.place x new.place)
   gives_found found (Ok x) new h = found x new h.0
   gives_found found (Err e) new h = tt
 
-  gives_fault : ((e : DecodeError) → read old ≡ Err e → Fault e) → (r : Result A DecodeError) (new : Cursor) → Gives (λ x. x) r old new read → IfErr r (λ e. e ≢ Memory → Fault e)
+  gives_fault : ((e : DecodeError) → read old ≡ Err e → Fault e) → (r : Result A DecodeError) (new : Cursor) → Gives r old new read → IfErr r (λ e. e ≢ Memory → Fault e)
   gives_fault faulty (Ok x) new h = tt
   gives_fault faulty (Err e) new h = λ ne. faulty e (h.0 ne)
 
-  gives_only : ((x : A) (next : ℕ) → At old.place x next → read old ≡ Ok (x, here old.bytes next)) → (r : Result A DecodeError) (new : Cursor) → Gives (λ x. x) r old new read
+  gives_only : ((x : A) (next : ℕ) → At old.place x next → read old ≡ Ok (x, here old.bytes next)) → (r : Result A DecodeError) (new : Cursor) → Gives r old new read
       → (x : A) (next : ℕ) → At old.place x next → r ≢ Err Memory → (r ≡ Ok x) × (new.place ≡ next)
   gives_only reach (Ok y) new h x next at ne =
       let u : A × Cursor = (y, new) in
@@ -39,23 +39,23 @@ module _ {A : Type 0} (read : Cursor → Read A) (At : ℕ → A → ℕ → Typ
   gives_only reach (Err f) new h x next at ne = absurd (cc (h.0 (λ k. ne (ap fault k)), reach x next at))
 
 -- questions
-pub query_found : (old : Cursor) → AreBytes old.bytes → (r : Result Query DecodeError) (new : Cursor) → Gives (λ q. q) r old new question → IfOk r (λ q. QuestionRead old.bytes old.place q new.place)
+pub query_found : (old : Cursor) → AreBytes old.bytes → (r : Result Query DecodeError) (new : Cursor) → Gives r old new question → IfOk r (λ q. QuestionRead old.bytes old.place q new.place)
 query_found old a = gives_found question (QuestionRead old.bytes) (QuestionFault old.bytes old.place) old (λ q stop e. (questions_find old.bytes a old.place q stop e).0)
 
-pub query_fault : (old : Cursor) (r : Result Query DecodeError) (new : Cursor) → Gives (λ q. q) r old new question → IfErr r (λ e. e ≢ Memory → QuestionFault old.bytes old.place e)
+pub query_fault : (old : Cursor) (r : Result Query DecodeError) (new : Cursor) → Gives r old new question → IfErr r (λ e. e ≢ Memory → QuestionFault old.bytes old.place e)
 query_fault old = gives_fault question (QuestionRead old.bytes) (QuestionFault old.bytes old.place) old (question_err old.bytes old.place)
 
-pub query_only : (old : Cursor) → AreBytes old.bytes → (r : Result Query DecodeError) (new : Cursor) → Gives (λ q. q) r old new question
+pub query_only : (old : Cursor) → AreBytes old.bytes → (r : Result Query DecodeError) (new : Cursor) → Gives r old new question
     → (q : Query) (next : ℕ) → QuestionRead old.bytes old.place q next → r ≢ Err Memory → (r ≡ Ok q) × (new.place ≡ next)
 query_only old a = gives_only question (QuestionRead old.bytes) (QuestionFault old.bytes old.place) old (λ q next at. questions_reach old.bytes a old.place q next at)
 
 -- records
-pub record_is_found : (old : Cursor) → AreBytes old.bytes → (r : Result (Record RData) DecodeError) (new : Cursor) → Gives (λ x. x) r old new resource → IfOk r (λ x. RecordAt old.bytes old.place x new.place)
+pub record_is_found : (old : Cursor) → AreBytes old.bytes → (r : Result (Record RData) DecodeError) (new : Cursor) → Gives r old new resource → IfOk r (λ x. RecordAt old.bytes old.place x new.place)
 record_is_found old a = gives_found resource (RecordAt old.bytes) (RecordFault old.bytes old.place) old (λ x stop e. (records_find old.bytes a old.place x stop e).0)
 
-pub record_fault : (old : Cursor) → AreBytes old.bytes → (r : Result (Record RData) DecodeError) (new : Cursor) → Gives (λ x. x) r old new resource → IfErr r (λ e. e ≢ Memory → RecordFault old.bytes old.place e)
+pub record_fault : (old : Cursor) → AreBytes old.bytes → (r : Result (Record RData) DecodeError) (new : Cursor) → Gives r old new resource → IfErr r (λ e. e ≢ Memory → RecordFault old.bytes old.place e)
 record_fault old a = gives_fault resource (RecordAt old.bytes) (RecordFault old.bytes old.place) old (resource_err old.bytes a old.place)
 
-pub record_only : (old : Cursor) → AreBytes old.bytes → (r : Result (Record RData) DecodeError) (new : Cursor) → Gives (λ x. x) r old new resource
+pub record_only : (old : Cursor) → AreBytes old.bytes → (r : Result (Record RData) DecodeError) (new : Cursor) → Gives r old new resource
     → (x : Record RData) (next : ℕ) → RecordAt old.bytes old.place x next → r ≢ Err Memory → (r ≡ Ok x) × (new.place ≡ next)
 record_only old a = gives_only resource (RecordAt old.bytes) (RecordFault old.bytes old.place) old (λ x next at. records_reach old.bytes a old.place x next at)

@@ -1,32 +1,20 @@
 -- Bytes have a first fault exactly where reading a message meets it.
 use Rattle.std.proofs.Common.{◌≡◌, ℕ, List, [], Ok, Err, refl, sym, ap, subst, ◌∙◌, arith}
-use Rattle.std.specs.Int.{w16}
 use Rattle.hickory_wire.specs.serialize.layout.Bytes.{AreBytes}
 use Rattle.hickory_wire.specs.serialize.reading.Cursor.{Cursor}
 use Rattle.hickory_wire.specs.serialize.reading.MessageFaults.{MessageFault}
 use Rattle.hickory_wire.specs.serialize.reading.MessageFaults.MessageFault.{header_missing, in_questions, in_answers, in_authorities, in_additionals}
 use Rattle.hickory_wire.specs.serialize.reading.MessageReading.{message, front_of}
-use Rattle.hickory_wire.specs.serialize.reading.Reading.{Read, number}
-use Rattle.hickory_wire.specs.serialize.reading.RecordReading.{byte, question}
+use Rattle.hickory_wire.specs.serialize.reading.Reading.{Read}
+use Rattle.hickory_wire.specs.serialize.reading.RecordReading.{question}
 use Rattle.hickory_wire.specs.serialize.reading.SectionReading.{header, items, section_record, additionals_after, no_additionals}
 use Rattle.hickory_wire.specs.declared.error.DecodeError.{DecodeError}
 use Rattle.hickory_wire.proofs.lemmas.serialize.layout.ByteTexts.{here}
 use Rattle.hickory_wire.proofs.lemmas.serialize.reading.CountedItems.{is_here}
-use Rattle.hickory_wire.proofs.lemmas.serialize.reading.FaultSteps.{Runs, bind_err, byte_run, number_run, done_run, then_run, run_err, short_is}
+use Rattle.hickory_wire.proofs.lemmas.serialize.reading.FaultSteps.{bind_err, run_err, short_is}
 use Rattle.hickory_wire.proofs.lemmas.serialize.reading.HeaderLaws.{header_here, header_found}
+use Rattle.hickory_wire.proofs.lemmas.serialize.reading.HeaderReadings.{header_run}
 use Rattle.hickory_wire.proofs.lemmas.serialize.reading.SectionFaults.{questions_err, err_questions, questions_stand, stand_questions, records_err, err_records, records_stand, stand_records, additionals_err, err_additionals}
-
--- a header takes twelve octets
-header_run : (bytes : List ℕ) → Runs bytes header 12 0
-unfolding header
-header_run bytes =
-    then_run bytes (number w16) _ 2 10 0 (number_run bytes w16 0 (omega arith)) (λ id le1.
-    then_run bytes byte _ 1 9 2 (byte_run bytes 2 le1) (λ one le2.
-    then_run bytes byte _ 1 8 3 (byte_run bytes 3 le2) (λ two le3.
-    then_run bytes (number w16) _ 2 6 4 (number_run bytes w16 4 le3) (λ q le4.
-    then_run bytes (number w16) _ 2 4 6 (number_run bytes w16 6 le4) (λ a le5.
-    then_run bytes (number w16) _ 2 2 8 (number_run bytes w16 8 le5) (λ u le6.
-    then_run bytes (number w16) _ 2 0 10 (number_run bytes w16 10 le6) (λ d le7. done_run bytes _ 12 le7)))))))
 
 -- items of a section fail at the same place of the bytes
 moved_here : {A : Type 0} {bytes : List ℕ} (read : Cursor → Read A) (c : Cursor) (e : DecodeError) → c.bytes ≡ bytes → read c ≡ Err e → read (here bytes c.place) ≡ Err e
@@ -41,7 +29,7 @@ pub message_err : (bytes : List ℕ) → AreBytes bytes → (e : DecodeError) �
 unfolding message
 message_err bytes a e h =
     let F : DecodeError → Type 0 = MessageFault bytes in
-    run_err bytes header _ 12 0 e (F e) (header_run bytes) h (λ lt is. subst F (sym is) (header_missing lt)) (λ head le f g.
+    run_err bytes header _ 12 0 e (F e) (header_run bytes 0 (omega arith)) h (λ lt is. subst F (sym is) (header_missing lt)) (λ head le f g.
     let at = (header_found bytes head (here bytes 12) a f).0 in
     let counts = head.counts in
     bind_err (items question counts.queries [] (here bytes 12)) _ e (F e) g (λ k. in_questions at (questions_err bytes a counts.queries 12 e k)) (λ q f1 g1.
@@ -58,7 +46,7 @@ message_err bytes a e h =
 -- the fault of bytes fails so
 pub err_message : {bytes : List ℕ} {e : DecodeError} → AreBytes bytes → MessageFault bytes e → message (front_of bytes) ≡ Err e
 unfolding message
-err_message {bytes} a (header_missing lt) = rw (short_is bytes header 12 0 (header_run bytes) lt) refl
+err_message {bytes} a (header_missing lt) = rw (short_is bytes header 12 0 (header_run bytes 0 (omega arith)) lt) refl
 err_message {bytes} a (in_questions {h = h} at f) = rw (header_here bytes h at, err_questions a f) refl
 err_message {bytes} a (in_answers {h = h} at q f) = rw (header_here bytes h at, stand_questions a q, err_records a f) refl
 err_message {bytes} a (in_authorities {h = h} at q r f) = rw (header_here bytes h at, stand_questions a q, stand_records a r, err_records a f) refl

@@ -48,15 +48,15 @@ pub fault_name : (c : Cursor) (f : DecodeError) → NameFault c.bytes c.place f 
 unfolding name
 fault_name c f h = rw (from_LabelsFault h (omega arith)) refl
 
-pub gives_found : (r : Result DomainName DecodeError) (old new : Cursor) → Gives (λ n. n) r old new name → IfOk r (λ n. NameAt 0 old.bytes old.place n new.place × IsFullyQualified n)
+pub gives_found : (r : Result DomainName DecodeError) (old new : Cursor) → Gives r old new name → IfOk r (λ n. NameAt 0 old.bytes old.place n new.place × IsFullyQualified n)
 gives_found (Ok n) old new h = name_found old n new h.0
 gives_found (Err e) old new h = tt
 
-pub gives_fault : (r : Result DomainName DecodeError) (old new : Cursor) → Gives (λ n. n) r old new name → IfErr r (λ e. e ≢ Memory → NameFault old.bytes old.place e)
+pub gives_fault : (r : Result DomainName DecodeError) (old new : Cursor) → Gives r old new name → IfErr r (λ e. e ≢ Memory → NameFault old.bytes old.place e)
 gives_fault (Ok n) old new h = tt
 gives_fault (Err e) old new h = λ ne. name_fault old e (h.0 ne)
 
-pub gives_only : (r : Result DomainName DecodeError) (old new : Cursor) → Gives (λ n. n) r old new name → (n : DomainName) (next : ℕ) → NameAt 0 old.bytes old.place n next → IsFullyQualified n → r ≢ Err Memory → (r ≡ Ok n) × (new.place ≡ next)
+pub gives_only : (r : Result DomainName DecodeError) (old new : Cursor) → Gives r old new name → (n : DomainName) (next : ℕ) → NameAt 0 old.bytes old.place n next → IsFullyQualified n → r ≢ Err Memory → (r ≡ Ok n) × (new.place ≡ next)
 gives_only (Ok m) old new h n next at q ne =
     let x : DomainName × Cursor = (m, new) in
     let y : DomainName × Cursor = (n, record old { place = next }) in

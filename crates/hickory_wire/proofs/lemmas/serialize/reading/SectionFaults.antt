@@ -7,12 +7,12 @@ use Rattle.hickory_wire.specs.serialize.reading.Cursor.{Cursor}
 use Rattle.hickory_wire.specs.serialize.reading.MessageFaults.{QuestionsStand, RecordsStand, QuestionsFault, MisplacedOrFaulty, RecordsFault, UnfitOrFaulty, AdditionalsFault}
 use Rattle.hickory_wire.specs.serialize.reading.MessageFaults.MisplacedOrFaulty.{faulty as faulty_itself, misplaced}
 use Rattle.hickory_wire.specs.serialize.reading.MessageFaults.UnfitOrFaulty.{faulty, after_signature, not_at_root, second_opt}
-use Rattle.hickory_wire.specs.serialize.layout.MessageLayout.{QuestionRead, is_opt}
+use Rattle.hickory_wire.specs.serialize.layout.MessageLayout.{QuestionRead, is_opt, is_for_additionals_alone, edns_of}
 use Rattle.hickory_wire.specs.serialize.reading.Reading.{Read, ◌>>=◌}
 use Rattle.hickory_wire.specs.rr.RecordData.{type_of}
 use Rattle.hickory_wire.specs.serialize.layout.RecordLayout.{RecordAt}
 use Rattle.hickory_wire.specs.serialize.reading.RecordReading.{resource, question}
-use Rattle.hickory_wire.specs.serialize.reading.SectionReading.{Additionals, items, section_record, is_additional_type, placed, edns_of, with_data, add_record, additionals_after, no_additionals}
+use Rattle.hickory_wire.specs.serialize.reading.SectionReading.{Additionals, items, section_record, placed, with_data, add_record, additionals_after, no_additionals}
 use Rattle.hickory_wire.specs.declared.op.edns.EdnsOption.{EdnsOption}
 use Rattle.hickory_wire.specs.declared.error.DecodeError.{DecodeError}
 use Rattle.hickory_wire.specs.declared.error.DecodeError.TheVariants.{RecordNotInAdditionals, RecordAfterSignature, EdnsNameNotRoot, DuplicateEdns}
@@ -93,9 +93,9 @@ err_questions {bytes} {n} {p} {e} a q = err_items question q.before n [] q.stand
 pub section_record_err : (bytes : List ℕ) → AreBytes bytes → (p : ℕ) (e : DecodeError) → section_record (here bytes p) ≡ Err e → MisplacedOrFaulty bytes p e
 unfolding section_record
 section_record_err bytes a p e h =
-    bind_err (resource (here bytes p)) (λ r. cond (is_additional_type (type_of r.0.rdata)) (Err RecordNotInAdditionals) (Ok r)) e (MisplacedOrFaulty bytes p e) h
+    bind_err (resource (here bytes p)) (λ r. cond (is_for_additionals_alone (type_of r.0.rdata)) (Err RecordNotInAdditionals) (Ok r)) e (MisplacedOrFaulty bytes p e) h
     (λ f. faulty_itself (resource_err bytes a p e f))
-    (λ r f g. branch_err (is_additional_type (type_of r.0.rdata)) (Err RecordNotInAdditionals) (wrap r) e (MisplacedOrFaulty bytes p e) g
+    (λ r f g. branch_err (is_for_additionals_alone (type_of r.0.rdata)) (Err RecordNotInAdditionals) (wrap r) e (MisplacedOrFaulty bytes p e) g
     (λ test is. subst (MisplacedOrFaulty bytes p) (fail_is RecordNotInAdditionals e is) (misplaced (records_find bytes a p r.0 r.1 f).0 test)) (λ _ bad. absurd cc))
 
 -- the fault of such a record fails so

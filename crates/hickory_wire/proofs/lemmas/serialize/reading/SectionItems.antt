@@ -3,11 +3,11 @@ use Rattle.std.proofs.Common.{◌≡◌, ℕ, List, [], ◌∷◌, cond, Ok, Err
 use Rattle.std.specs.List.{AllByRecursion}
 use Rattle.hickory_wire.specs.serialize.layout.Bytes.{AreBytes}
 use Rattle.hickory_wire.specs.serialize.reading.Cursor.{Cursor}
-use Rattle.hickory_wire.specs.serialize.layout.MessageLayout.{ItemsAt, QuestionRead, IsSectionRecord}
+use Rattle.hickory_wire.specs.serialize.layout.MessageLayout.{ItemsAt, QuestionRead, IsPlainRecord, is_for_additionals_alone}
 use Rattle.hickory_wire.specs.rr.RecordData.{type_of}
 use Rattle.hickory_wire.specs.serialize.layout.RecordLayout.{RecordAt}
 use Rattle.hickory_wire.specs.serialize.reading.RecordReading.{resource, question}
-use Rattle.hickory_wire.specs.serialize.reading.SectionReading.{is_additional_type, section_record}
+use Rattle.hickory_wire.specs.serialize.reading.SectionReading.{section_record}
 use Rattle.hickory_wire.specs.declared.error.DecodeError.TheVariants.{RecordNotInAdditionals}
 use Rattle.hickory_wire.specs.declared.rr.rdata.RData.{RData}
 use Rattle.hickory_wire.specs.declared.rr.record.Record.{Record}
@@ -19,7 +19,7 @@ use Rattle.hickory_wire.proofs.lemmas.serialize.reading.StringSteps.{wrap, guard
 -- a record that may stand in any section
 pub record PlainAt (bytes : List ℕ) (place : ℕ) (r : Record RData) (next : ℕ) : Type 0 where
   pub stands : RecordAt bytes place r next
-  pub plain : IsSectionRecord r
+  pub plain : IsPlainRecord r
 
 -- a question that is read stands there
 pub questions_find : (bytes : List ℕ) → AreBytes bytes → Finds bytes question (QuestionRead bytes)
@@ -43,11 +43,11 @@ records_reach bytes a place r next at = record_read bytes place next r a at
 pub plain_find : (bytes : List ℕ) → AreBytes bytes → Finds bytes section_record (PlainAt bytes)
 unfolding section_record
 plain_find bytes a place r next e =
-    let b = bind_ok (resource (here bytes place)) (λ r. cond (is_additional_type (type_of r.0.rdata)) (Err RecordNotInAdditionals) (wrap r)) (r, next) e in
-    let g = guard_ok (is_additional_type (type_of b.0.0.rdata)) RecordNotInAdditionals b.0 (r, next) b.2 in
+    let b = bind_ok (resource (here bytes place)) (λ r. cond (is_for_additionals_alone (type_of r.0.rdata)) (Err RecordNotInAdditionals) (wrap r)) (r, next) e in
+    let g = guard_ok (is_for_additionals_alone (type_of b.0.0.rdata)) RecordNotInAdditionals b.0 (r, next) b.2 in
     let read : resource (here bytes place) ≡ Ok (r, next) = b.1 ∙ ap wrap g.1 in
     let f = records_find bytes a place r next read in
-    (record { stands = f.0; plain = ap (λ (z : Record RData × Cursor). is_additional_type (type_of z.0.rdata)) (sym g.1) ∙ g.0 }, f.1)
+    (record { stands = f.0; plain = ap (λ (z : Record RData × Cursor). is_for_additionals_alone (type_of z.0.rdata)) (sym g.1) ∙ g.0 }, f.1)
 
 -- such a record that stands there is read
 pub plain_reach : (bytes : List ℕ) → AreBytes bytes → Reaches bytes section_record (PlainAt bytes)
@@ -55,11 +55,11 @@ unfolding section_record
 plain_reach bytes a place r next at = rw (records_reach bytes a place r next at.stands, at.plain) refl
 
 -- items that stand and are plain, taken apart
-pub plain_parts : (bytes : List ℕ) (place : ℕ) (rs : List (Record RData)) (next : ℕ) → ItemsAt (PlainAt bytes) place rs next → ItemsAt (RecordAt bytes) place rs next × AllByRecursion IsSectionRecord rs
+pub plain_parts : (bytes : List ℕ) (place : ℕ) (rs : List (Record RData)) (next : ℕ) → ItemsAt (PlainAt bytes) place rs next → ItemsAt (RecordAt bytes) place rs next × AllByRecursion IsPlainRecord rs
 plain_parts bytes place [] next e = (e, tt)
 plain_parts bytes place (r ∷ rs) next (middle, at, more) = let p = plain_parts bytes middle rs next more in ((middle, at.stands, p.0), (at.plain, p.1))
 
 -- and put together
-pub plain_whole : (bytes : List ℕ) (place : ℕ) (rs : List (Record RData)) (next : ℕ) → ItemsAt (RecordAt bytes) place rs next → AllByRecursion IsSectionRecord rs → ItemsAt (PlainAt bytes) place rs next
+pub plain_whole : (bytes : List ℕ) (place : ℕ) (rs : List (Record RData)) (next : ℕ) → ItemsAt (RecordAt bytes) place rs next → AllByRecursion IsPlainRecord rs → ItemsAt (PlainAt bytes) place rs next
 plain_whole bytes place [] next e p = e
 plain_whole bytes place (r ∷ rs) next (middle, at, more) p = (middle, record { stands = at; plain = p.0 }, plain_whole bytes middle rs next more p.1)

@@ -3,8 +3,8 @@ use Rattle.std.proofs.Common.{◌≡◌, ℕ, List, [], ◌++◌, length, Ok, re
 use Rattle.hickory_wire.specs.serialize.layout.Bytes.{AreBytes}
 use Rattle.hickory_wire.specs.serialize.reading.Cursor.{Cursor}
 use Rattle.hickory_wire.specs.serialize.layout.HeaderLayout.{HeaderAt}
-use Rattle.hickory_wire.specs.serialize.layout.MessageLayout.{ItemsAt, QuestionRead, MessageAt}
-use Rattle.hickory_wire.specs.serialize.reading.MessageReading.{high_code, with_high_code, message, front_of}
+use Rattle.hickory_wire.specs.serialize.layout.MessageLayout.{ItemsAt, QuestionRead, MessageAt, high_code, with_high_code}
+use Rattle.hickory_wire.specs.serialize.reading.MessageReading.{message, front_of}
 use Rattle.hickory_wire.specs.serialize.reading.Reading.{Read, ◌>>=◌}
 use Rattle.hickory_wire.specs.serialize.reading.RecordReading.{question}
 use Rattle.hickory_wire.specs.serialize.reading.SectionReading.{Additionals, header, items, section_record, additionals_after, no_additionals}

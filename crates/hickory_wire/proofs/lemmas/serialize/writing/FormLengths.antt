@@ -1,7 +1,7 @@
 -- Data that have a form in bytes fit the length field of sixteen bits.
 use Rattle.std.proofs.Common.{◌≡◌, ℕ, ◌^◌, ◌<◌, Bool, true, false, Option, None, Some, arith}
 use Rattle.std.specs.Prelude.{if◌then◌else◌}
-use Rattle.hickory_wire.specs.serialize.writing.RecordSize.{data_len, form_fault, length_fault}
+use Rattle.hickory_wire.specs.serialize.writing.RecordSize.{data_len, unwritable_reason, length_fault}
 use Rattle.hickory_wire.proofs.lemmas.serialize.writing.OctetLengths.{fitted}
 use Rattle.hickory_wire.specs.declared.error.ProtoError.{ProtoError}
 use Rattle.hickory_wire.specs.declared.rr.rdata.RData.{RData}
@@ -16,7 +16,7 @@ pub second_none : (b : Bool) (e : ProtoError) (x : Option ProtoError) → (if b 
 second_none true e x h = absurd (cc)
 second_none false e x h = h
 
-pub small_form : (d : RData) → form_fault d ≡ None → data_len d < 2 ^ 16
+pub small_form : (d : RData) → unwritable_reason d ≡ None → data_len d < 2 ^ 16
 small_form (rdata.A a) h = small_len _ h
 small_form (rdata.AAAA a) h = small_len _ h
 small_form (rdata.NS n) h = small_len _ h

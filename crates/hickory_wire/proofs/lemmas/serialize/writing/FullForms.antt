@@ -14,7 +14,7 @@ use Rattle.hickory_wire.specs.serialize.writing.QuestionForm.{question_octets}
 use Rattle.hickory_wire.specs.serialize.layout.QuestionLayout.{QuestionAt}
 use Rattle.hickory_wire.specs.rr.RecordData.{soa_numbers, tsig_fields, type_of}
 use Rattle.hickory_wire.specs.serialize.layout.RecordLayout.{OctetsAt, DataAt, FormAt, fixed_fields}
-use Rattle.hickory_wire.specs.serialize.writing.RecordSize.{data_len, full_size, form_fault}
+use Rattle.hickory_wire.specs.serialize.writing.RecordSize.{data_len, full_size, unwritable_reason}
 use Rattle.hickory_wire.specs.serialize.writing.Writing.{Puts}
 use Rattle.hickory_wire.specs.declared.op.query.Query.{Query}
 use Rattle.hickory_wire.specs.declared.rr.rdata.RData.{RData}
@@ -143,7 +143,7 @@ ends_in_full (rdata.TSIG signature) front = (front, refl)
 ends_in_full content front = tt
 
 -- a record that is put in full is put
-pub puts_full : (limit : ℕ) (old new : List ℕ) (r : Record RData) → 12 ≤ length old → AreLabels r.name.labels → HasNames r.rdata → form_fault r.rdata ≡ None → IsRecordInRange r → data_len r.rdata < 2 ^ 16 → new ≡ old ++ record_octets r → length old + full_size r ≤ limit → Puts limit old r new
+pub puts_full : (limit : ℕ) (old new : List ℕ) (r : Record RData) → 12 ≤ length old → AreLabels r.name.labels → HasNames r.rdata → unwritable_reason r.rdata ≡ None → IsRecordInRange r → data_len r.rdata < 2 ^ 16 → new ≡ old ++ record_octets r → length old + full_size r ≤ limit → Puts limit old r new
 puts_full limit old new r low owner names formed in_range small e within =
     let size = record_octets-len r in
     let all : length new ≡ length old + full_size r = omega (arith, ap length e, length-append old (record_octets r), size) in
@@ -159,7 +159,7 @@ puts_full limit old new r low owner names formed in_range small e within =
     }
 
 -- a record whose parts are put one behind the other is put
-pub put_parts : (limit : ℕ) (old named fixed new : List ℕ) (r : Record RData) (kind class ttl len : ℕ) → 12 ≤ length old → AreLabels r.name.labels → HasNames r.rdata → (form_fault r.rdata ≡ None) × (len ≡ data_len r.rdata) → IsRecordInRange r → len < 2 ^ 16
+pub put_parts : (limit : ℕ) (old named fixed new : List ℕ) (r : Record RData) (kind class ttl len : ℕ) → 12 ≤ length old → AreLabels r.name.labels → HasNames r.rdata → (unwritable_reason r.rdata ≡ None) × (len ≡ data_len r.rdata) → IsRecordInRange r → len < 2 ^ 16
     → named ≡ old ++ name_octets r.name.labels → fixed ≡ named ++ (to_be_bytes w16 kind ++ to_be_bytes w16 class ++ to_be_bytes w32 ttl ++ to_be_bytes w16 len) → new ≡ fixed ++ data_octets r.rdata
     → kind ≡ type_of r.rdata → class ≡ r.dns_class → ttl ≡ r.ttl → length old + (name_len r.name.labels + 10 + len) ≤ limit → Puts limit old r new
 put_parts limit old named fixed new r kind class ttl len low owner names formed in_range small e1 e2 e3 ek ec et fit =

@@ -15,7 +15,7 @@ use Rattle.hickory_wire.specs.serialize.writing.ReadingBack.{ReadsBack, ReplyRea
 use Rattle.hickory_wire.specs.rr.RecordData.{IsOption, OptionsOf}
 use Rattle.hickory_wire.specs.rr.RecordData.OptionsOf.{well_formed, malformed}
 use Rattle.hickory_wire.specs.serialize.layout.RecordLayout.{DataRead, IsFormed, IsFormedRecord}
-use Rattle.hickory_wire.specs.serialize.writing.RecordSize.{data_len, form_fault}
+use Rattle.hickory_wire.specs.serialize.writing.RecordSize.{data_len, unwritable_reason}
 use Rattle.hickory_wire.specs.serialize.writing.Reply.{Reply, reply_lists}
 use Rattle.hickory_wire.specs.serialize.writing.WholeReply.{HasForm}
 use Rattle.hickory_wire.specs.serialize.writing.Writing.{Encoded, Fronts, GetsStuck, ListFront, ListsWritten, Written, written_header}
@@ -93,7 +93,7 @@ no_long [] h = refl
 no_long (t ∷ ts) h = let short : nat_lt 255 (length t) ≡ false = le-ltb _ _ (omega (arith, h.0)) in rw (short, no_long ts h.1) refl
 
 -- data that are read, and whose length has 16 bits, have a form
-has_form : (d : RData) → IsFormed d → data_len d < 2 ^ 16 → form_fault d ≡ None
+has_form : (d : RData) → IsFormed d → data_len d < 2 ^ 16 → unwritable_reason d ≡ None
 has_form (rdata.A x) f small = fits _ (omega arith)
 has_form (rdata.AAAA x) f small = fits _ (omega arith)
 has_form (rdata.NS x) f small = fits _ (omega arith)
@@ -113,13 +113,13 @@ has_form (rdata.Unknown x o) f small = fits _ (omega arith)
 whole_text : (bytes : List ℕ) → BytesAt bytes 0 bytes
 whole_text bytes = record { fits = omega arith; same = λ k lt. ap (λ i. slice_index bytes i) (omega arith) }
 
-pub reads_back : (r : Record RData) → IsFormedRecord r → AreLabels r.name.labels → HasNames r.rdata → form_fault r.rdata ≡ None → ReadsBack r
+pub reads_back : (r : Record RData) → IsFormedRecord r → AreLabels r.name.labels → HasNames r.rdata → unwritable_reason r.rdata ≡ None → ReadsBack r
 reads_back r f owner names formed =
     let octets = record_octets r in
     formed_record 0 octets 0 (length octets) r f
     (record_stands octets 0 0 (length octets) r owner names (small_form r.rdata formed) (omega arith) (whole_text octets) (omega (arith, record_octets-len r)))
 
-pub back_is_formed : (r : Record RData) → ReadsBack r → IsFormedRecord r × AreLabels r.name.labels × HasNames r.rdata × (form_fault r.rdata ≡ None)
+pub back_is_formed : (r : Record RData) → ReadsBack r → IsFormedRecord r × AreLabels r.name.labels × HasNames r.rdata × (unwritable_reason r.rdata ≡ None)
 back_is_formed r at =
     let octets = record_octets r in
     let f = data_formed octets (at.middle + 10) (length octets) r.rdata at.rdata in

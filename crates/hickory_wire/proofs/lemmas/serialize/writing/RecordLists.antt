@@ -25,11 +25,11 @@ puts_more : (limit : ℕ) (rs : List (Record RData)) (r : Record RData) (old mid
 puts_more limit [] r old mid new e p = (new, subst (λ m. Puts limit m r new) e p, refl)
 puts_more limit (q ∷ rs) r old mid new (between, one, rest) p = (between, one, puts_more limit rs r between mid new rest p)
 
-pub list_none : (limit : ℕ) (old : List ℕ) → ListWritten limit old [] old 0 writing.Ending.whole
+pub list_none : (limit : ℕ) (old : List ℕ) → ListWritten limit old [] old 0 writing.ListEnding.whole
 list_none limit old = record { counted = omega arith; puts = refl; ends = refl }
 
 module _ (limit : ℕ) (old : List ℕ) (rs : List (Record RData)) (r : Record RData) (mid : List ℕ) (count : ℕ) where
-  pub list_put : (new : List ℕ) → ListWritten limit old rs mid count writing.Ending.whole → Puts limit mid r new → ListWritten limit old (rs ++ r ∷ []) new (count + 1) writing.Ending.whole
+  pub list_put : (new : List ℕ) → ListWritten limit old rs mid count writing.ListEnding.whole → Puts limit mid r new → ListWritten limit old (rs ++ r ∷ []) new (count + 1) writing.ListEnding.whole
   list_put new w p =
       let more = length-append rs (r ∷ []) in
       let all : take (count + 1) (rs ++ r ∷ []) ≡ rs ++ r ∷ [] = take_all (count + 1) (rs ++ r ∷ []) (omega (arith, more, w.ends)) in
@@ -41,7 +41,7 @@ module _ (limit : ℕ) (old : List ℕ) (rs : List (Record RData)) (r : Record R
       }
 
   -- the same front, with another end
-  ended : (was now : writing.Ending) → ListWritten limit old rs mid count was → Ends limit (rs ++ r ∷ []) count mid now → ListWritten limit old (rs ++ r ∷ []) mid count now
+  ended : (was now : writing.ListEnding) → ListWritten limit old rs mid count was → Ends limit (rs ++ r ∷ []) count mid now → ListWritten limit old (rs ++ r ∷ []) mid count now
   ended was now w e = record {
     counted = omega (arith, w.counted, length-append rs (r ∷ []));
     puts = subst (λ xs. PutsAll limit old xs mid) (sym (take-append-le count rs (r ∷ []) w.counted)) w.puts;
@@ -52,14 +52,14 @@ module _ (limit : ℕ) (old : List ℕ) (rs : List (Record RData)) (r : Record R
   last_left e = drop_at rs (r ∷ []) count (sym e)
 
   -- the next record is left out
-  pub list_ends : (new : List ℕ) (ending : Ending) → ending ≢ Whole → ListWritten limit old rs mid count writing.Ending.whole → RecordEnds limit mid r new ending → ListWritten limit old (rs ++ r ∷ []) new count (seen_ending ending)
+  pub list_ends : (new : List ℕ) (ending : Ending) → ending ≢ Whole → ListWritten limit old rs mid count writing.ListEnding.whole → RecordEnds limit mid r new ending → ListWritten limit old (rs ++ r ∷ []) new count (seen_ending ending)
   list_ends new Whole ne w h = absurd (ne refl)
   list_ends new Cut ne w h =
-      subst (λ b. ListWritten limit old (rs ++ r ∷ []) b count writing.Ending.cut) (sym h.0)
-      (ended writing.Ending.whole writing.Ending.cut w (record { next = r; rest = []; is = last_left w.ends; formed = h.1; large = h.2 }))
+      subst (λ b. ListWritten limit old (rs ++ r ∷ []) b count writing.ListEnding.cut) (sym h.0)
+      (ended writing.ListEnding.whole writing.ListEnding.cut w (record { next = r; rest = []; is = last_left w.ends; formed = h.1; large = h.2 }))
   list_ends new (Stuck e) ne w h =
-      subst (λ b. ListWritten limit old (rs ++ r ∷ []) b count (writing.Ending.stuck e)) (sym h.0)
-      (ended writing.Ending.whole (writing.Ending.stuck e) w (record { next = r; rest = []; is = last_left w.ends; formless = h.1 }))
+      subst (λ b. ListWritten limit old (rs ++ r ∷ []) b count (writing.ListEnding.stuck e)) (sym h.0)
+      (ended writing.ListEnding.whole (writing.ListEnding.stuck e) w (record { next = r; rest = []; is = last_left w.ends; formless = h.1 }))
 
   still_left : (next : Record RData) (rest : List (Record RData)) → count ≤ length rs → drop count rs ≡ next ∷ rest → drop count (rs ++ r ∷ []) ≡ next ∷ (rest ++ r ∷ [])
   still_left next rest h e = drop-append-le count rs (r ∷ []) h ∙ ap (λ xs. xs ++ r ∷ []) e
@@ -68,9 +68,9 @@ module _ (limit : ℕ) (old : List ℕ) (rs : List (Record RData)) (r : Record R
   pub list_skips : (ending : Ending) → ending ≢ Whole → ListWritten limit old rs mid count (seen_ending ending) → ListWritten limit old (rs ++ r ∷ []) mid count (seen_ending ending)
   list_skips Whole ne w = absurd (ne refl)
   list_skips Cut ne w = let k = w.ends in
-      ended writing.Ending.cut writing.Ending.cut w (record { next = k.next; rest = k.rest ++ r ∷ []; is = still_left k.next k.rest w.counted k.is; formed = k.formed; large = k.large })
+      ended writing.ListEnding.cut writing.ListEnding.cut w (record { next = k.next; rest = k.rest ++ r ∷ []; is = still_left k.next k.rest w.counted k.is; formed = k.formed; large = k.large })
   list_skips (Stuck e) ne w = let k = w.ends in
-      ended (writing.Ending.stuck e) (writing.Ending.stuck e) w (record { next = k.next; rest = k.rest ++ r ∷ []; is = still_left k.next k.rest w.counted k.is; formless = k.formless })
+      ended (writing.ListEnding.stuck e) (writing.ListEnding.stuck e) w (record { next = k.next; rest = k.rest ++ r ∷ []; is = still_left k.next k.rest w.counted k.is; formless = k.formless })
 
 -- the records that references point to
 abbrev pub nows : List (Bor (Record RData)) → List (Record RData)
@@ -94,7 +94,7 @@ lists_more records new front (stuck_list one) e w = absurd cc
 
 -- a list that gets stuck behind others
 lists_stuck : {limit : ℕ} {lists : List (List (Record RData))} {start mid : List ℕ} {fronts : List ListFront} {fault : Option ProtoError} (records : List (Record RData)) (new : List ℕ) (count : ℕ) (e : ProtoError) → ListsWritten limit lists start mid fronts fault → fault ≡ None
-    → ListWritten limit mid records new count (writing.Ending.stuck e) → ListsWritten limit (lists ++ records ∷ []) start new fronts (Some e)
+    → ListWritten limit mid records new count (writing.ListEnding.stuck e) → ListsWritten limit (lists ++ records ∷ []) start new fronts (Some e)
 lists_stuck records new count e none_left h w = stuck_list w
 lists_stuck records new count e (next_list one more) h w = next_list one (lists_stuck records new count e more h w)
 lists_stuck records new count e (stuck_list one) h w = absurd cc
@@ -104,7 +104,7 @@ lists_done : {limit : ℕ} {lists : List (List (Record RData))} {start mid : Lis
 lists_done records e none_left h = absurd cc
 lists_done records e (next_list one more) h = next_list one (lists_done records e more h)
 lists_done {limit} {start = start} {mid = mid} records e (stuck_list {records = before} {lists = others} {count = n} {e = d} one) h =
-    stuck_list {records = before} {lists = others ++ records ∷ []} {count = n} (subst (λ x. ListWritten limit start before mid n (writing.Ending.stuck x)) (some_is d e h) one)
+    stuck_list {records = before} {lists = others ++ records ∷ []} {count = n} (subst (λ x. ListWritten limit start before mid n (writing.ListEnding.stuck x)) (some_is d e h) one)
 
 -- what a run says, behind lists that were not stuck
 pub follows_run : (limit : ℕ) (old new : List ℕ) (records : List (Record RData)) (count : ℕ) (ending : Ending) → ListWritten limit old records new count (seen_ending ending) → ListFollows limit None old records new (front_of_ending count ending)

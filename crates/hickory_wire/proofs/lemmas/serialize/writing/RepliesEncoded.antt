@@ -5,8 +5,8 @@ use Rattle.std.proofs.lemmas.List.{get_or_past}
 use Rattle.hickory_wire.specs.serialize.layout.Bytes.{AreBytes}
 use Rattle.hickory_wire.specs.serialize.layout.HeaderLayout.{header_octets}
 use Rattle.hickory_wire.specs.serialize.writing.Reply.{Reply}
-use Rattle.hickory_wire.specs.serialize.writing.ReplyParts.{ReplyWritten, ReplyEncoded, Refused}
-use Rattle.hickory_wire.specs.serialize.writing.ReplyParts.Refused.{too_large as refused_large, formless as refused_formless}
+use Rattle.hickory_wire.specs.serialize.writing.ReplyParts.{ReplyWritten, ReplyEncoded, CannotBeWritten}
+use Rattle.hickory_wire.specs.serialize.writing.ReplyParts.CannotBeWritten.{too_large as refused_large, formless as refused_formless}
 use Rattle.hickory_wire.specs.serialize.writing.Writing.{Encoded, fallback_header}
 use Rattle.hickory_wire.specs.serialize.writing.Writing.Encoded.{written, too_large, formless}
 use Rattle.hickory_wire.specs.declared.error.ProtoError.{ProtoError}
@@ -16,11 +16,11 @@ use Rattle.hickory_wire.proofs.lemmas.serialize.writing.WrittenMessage.{message_
 pub encoded_written : (limit : ℕ) (reply : Reply) (bytes : List ℕ) (header : Header) → ReplyWritten limit reply bytes header → Encoded limit reply bytes header
 encoded_written limit reply bytes header w = subst (λ (h : Header). Encoded limit reply bytes h) (sym w.header_is) (written w.written)
 
-instead : (limit : ℕ) (reply : Reply) (bytes : List ℕ) (e : ProtoError) → bytes ≡ header_octets (fallback_header reply.metadata.id) → Refused limit reply e → Encoded limit reply bytes (fallback_header reply.metadata.id)
+instead : (limit : ℕ) (reply : Reply) (bytes : List ℕ) (e : ProtoError) → bytes ≡ header_octets (fallback_header reply.metadata.id) → CannotBeWritten limit reply e → Encoded limit reply bytes (fallback_header reply.metadata.id)
 instead limit reply bytes e is (refused_large large) = too_large large is
 instead limit reply bytes e is (refused_formless stuck) = formless stuck is
 
-pub encoded_fallback : (limit : ℕ) (reply : Reply) (bytes : List ℕ) (header : Header) (e : ProtoError) → header ≡ fallback_header reply.metadata.id → bytes ≡ header_octets (fallback_header reply.metadata.id) → Refused limit reply e → Encoded limit reply bytes header
+pub encoded_fallback : (limit : ℕ) (reply : Reply) (bytes : List ℕ) (header : Header) (e : ProtoError) → header ≡ fallback_header reply.metadata.id → bytes ≡ header_octets (fallback_header reply.metadata.id) → CannotBeWritten limit reply e → Encoded limit reply bytes header
 encoded_fallback limit reply bytes header e h is r = subst (λ (x : Header). Encoded limit reply bytes x) (sym h) (instead limit reply bytes e is r)
 
 pub reply_encoded : (limit : ℕ) (reply : Reply) (bytes : List ℕ) (header : Header) → limit < 2 ^ 16 → AreBytes bytes → Encoded limit reply bytes header → ReplyEncoded limit reply bytes header

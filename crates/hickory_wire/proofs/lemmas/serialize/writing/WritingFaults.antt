@@ -3,7 +3,7 @@ use Rattle.std.proofs.Common.{◌≡◌, ◌⊎◌, inl, inr, ℕ, List, Bool, t
 use Rattle.std.proofs.lemmas.Bool.{cases_lt}
 use Rattle.std.specs.Prelude.{if◌then◌else◌, nat_lt, nat_le, length, ◌^◌}
 use Rattle.std.specs.List.{list_any}
-use Rattle.hickory_wire.specs.serialize.writing.RecordSize.{length_fault, form_fault, data_len}
+use Rattle.hickory_wire.specs.serialize.writing.RecordSize.{length_fault, unwritable_reason, data_len}
 use Rattle.hickory_wire.specs.serialize.writing.Writing.{ListFront, ListsWritten}
 use Rattle.hickory_wire.specs.serialize.writing.Writing.ListsWritten.{none_left, next_list, stuck_list}
 use Rattle.hickory_wire.specs.declared.error.ProtoError.{ProtoError}
@@ -30,7 +30,7 @@ either true kind e others k rest (h) = let same : e ≡ kind = some_is kind e h 
 either false kind e others k rest h = rest h
 
 -- a record has no form for one of two reasons
-pub fault_kinds : (d : RData) (e : ProtoError) → form_fault d ≡ Some e → IsFormFault e
+pub fault_kinds : (d : RData) (e : ProtoError) → unwritable_reason d ≡ Some e → IsFormFault e
 fault_kinds (rdata.TXT strings) e h = either (list_any (λ text. nat_lt 255 (length text)) strings) CharacterDataTooLong e _ (inl refl) (length_kind (data_len (rdata.TXT strings)) e) h
 fault_kinds (rdata.TSIG signature) e h = either (nat_le (2 ^ 48) signature.time) DataTooLong e _ (inr refl) (length_kind (data_len (rdata.TSIG signature)) e) h
 fault_kinds (rdata.A address) e h = length_kind _ e h

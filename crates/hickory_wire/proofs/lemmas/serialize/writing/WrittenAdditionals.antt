@@ -8,11 +8,10 @@ use Rattle.hickory_wire.specs.serialize.writing.Decoding.{without_proof, front_o
 use Rattle.hickory_wire.specs.op.EdnsFields.{EdnsFields}
 use Rattle.hickory_wire.specs.serialize.layout.FieldRanges.{IsRecordInRange}
 use Rattle.hickory_wire.specs.serialize.layout.HeaderLayout.{flag}
-use Rattle.hickory_wire.specs.serialize.layout.MessageLayout.{ItemsAt, IsSectionRecord, is_opt, is_tsig, HasEdns, AdditionalSection, tsig_record}
+use Rattle.hickory_wire.specs.serialize.layout.MessageLayout.{ItemsAt, IsPlainRecord, is_opt, is_tsig, HasEdns, AdditionalSection, tsig_record, edns_of}
 use Rattle.hickory_wire.specs.rr.RecordData.{type_of}
 use Rattle.hickory_wire.specs.serialize.layout.RecordLayout.{FormAt, RecordAt, IsFormedRecord}
 use Rattle.hickory_wire.specs.serialize.writing.Reply.{opt_record}
-use Rattle.hickory_wire.specs.serialize.reading.SectionReading.{edns_of}
 use Rattle.hickory_wire.specs.declared.rr.rdata.RData.{RData}
 use Rattle.hickory_wire.specs.declared.rr.record.Record.{Record}
 use Rattle.hickory_wire.specs.declared.rr.tsig.TSIG.{TSIG}
@@ -100,7 +99,7 @@ record Sorted (rs : List (Record RData)) : Type 0 where
   no_opt : filter is_opt rs ≡ []
   all_other : filter (λ r. not (is_opt r)) rs ≡ rs
 
-section_sorted : (rs : List (Record RData)) → AllByRecursion IsSectionRecord rs → Sorted rs
+section_sorted : (rs : List (Record RData)) → AllByRecursion IsPlainRecord rs → Sorted rs
 section_sorted [] h = record { unsigned = refl; no_opt = refl; all_other = refl }
 section_sorted (r ∷ rs) h =
     let p = or_parts (eqb (type_of r.rdata) 41) (eqb (type_of r.rdata) 250) (eqb (type_of r.rdata) 24) h.0 in
@@ -112,7 +111,7 @@ section_sorted (r ∷ rs) h =
     }
 
 -- the section of these records, the OPT and the TSIG
-pub section_made : (bytes : List ℕ) (place next n : ℕ) (rs opts : List (Record RData)) (edns : Option EdnsFields) (signature : Option (Record TSIG)) → AllByRecursion IsSectionRecord rs → OptWritten bytes place opts edns n next
+pub section_made : (bytes : List ℕ) (place next n : ℕ) (rs opts : List (Record RData)) (edns : Option EdnsFields) (signature : Option (Record TSIG)) → AllByRecursion IsPlainRecord rs → OptWritten bytes place opts edns n next
     → AdditionalSection (rs ++ opts ++ map tsig_record (option_to_list signature)) rs edns signature
 section_made bytes place next n rs opts edns signature plain o =
     let s = section_sorted rs plain in

@@ -5,7 +5,7 @@ use Rattle.hickory_wire.specs.serialize.layout.Bytes.{KeepsFrom}
 use Rattle.hickory_wire.specs.serialize.writing.Decoding.{without_proof, IsReadable}
 use Rattle.hickory_wire.specs.serialize.layout.FieldRanges.{IsRecordInRange, IsReadAsItsType}
 use Rattle.hickory_wire.specs.serialize.layout.NameLayout.{IsFullyQualified}
-use Rattle.hickory_wire.specs.serialize.layout.MessageLayout.{ItemsAt, IsSectionRecord, QuestionRead}
+use Rattle.hickory_wire.specs.serialize.layout.MessageLayout.{ItemsAt, IsPlainRecord, QuestionRead}
 use Rattle.hickory_wire.specs.serialize.layout.QuestionLayout.{QuestionAt, IsFormedQuestion}
 use Rattle.hickory_wire.specs.serialize.layout.RecordLayout.{FormAt, IsFormedRecord, RecordAt}
 use Rattle.hickory_wire.specs.serialize.writing.Writing.{Puts, PutsAll}
@@ -60,7 +60,7 @@ readable_stand bytes [] place next h i e = e
 readable_stand bytes (r ∷ rs) place next h i (middle, one, more) =
     (middle, formed_record 12 bytes place middle (without_proof r) (readable_formed r i.0 h.0.name h.0.rdata) (form_without_proof r one), readable_stand bytes rs middle next h.1 i.1 more)
 
-pub readable_plain : (rs : List (Record RData)) → AllByRecursion IsReadable rs → AllByRecursion IsSectionRecord (map without_proof rs)
+pub readable_plain : (rs : List (Record RData)) → AllByRecursion IsReadable rs → AllByRecursion IsPlainRecord (map without_proof rs)
 readable_plain [] h = tt
 readable_plain (r ∷ rs) h = (h.0.section, readable_plain rs h.1)
 

@@ -10,7 +10,7 @@ use Rattle.hickory_wire.specs.serialize.reading.MessageReading.{Reads}
 use Rattle.hickory_wire.specs.serialize.layout.RecordLayout.{RecordAt}
 use Rattle.hickory_wire.specs.serialize.writing.Reply.{Reply, opt_record}
 use Rattle.hickory_wire.specs.serialize.writing.Writing as writing
-use Rattle.hickory_wire.specs.serialize.writing.Writing.{PutsAll, ListWritten, ListFront, ListsWritten, Fronts, fronts_list, ending_of, Written, asked_bytes, written_header}
+use Rattle.hickory_wire.specs.serialize.writing.Writing.{PutsAll, ListWritten, ListFront, ListsWritten, Fronts, fronts_list, ending_of, Written, header_and_questions, written_header}
 use Rattle.hickory_wire.specs.serialize.writing.Writing.ListsWritten.{none_left, next_list, stuck_list}
 use Rattle.hickory_wire.specs.declared.op.query.Query.{Query}
 use Rattle.hickory_wire.specs.declared.rr.rdata.RData.{RData}
@@ -30,7 +30,7 @@ record Part (limit : ℕ) (old : List ℕ) (records : List (Record RData)) (new 
   longer : length old + count ≤ length new
   within : length old ≤ limit → length new ≤ limit
 
-part : (limit : ℕ) (old : List ℕ) (records : List (Record RData)) (new : List ℕ) (count : ℕ) (ending : writing.Ending) → ListWritten limit old records new count ending → Part limit old records new count
+part : (limit : ℕ) (old : List ℕ) (records : List (Record RData)) (new : List ℕ) (count : ℕ) (ending : writing.ListEnding) → ListWritten limit old records new count ending → Part limit old records new count
 part limit old records new count ending w =
     let front = take count records in
     record {
@@ -68,7 +68,7 @@ front_len n rs h = omega (arith, length-map (take n rs) (without_proof {R = RDat
 
 module _ (limit : ℕ) (reply : Reply) (bytes : List ℕ) (f : Fronts) (queries : List Query) (low : limit < 2 ^ 16) (w : Written limit reply bytes f) (d : IsDecodable reply queries) where
   abbrev start : List ℕ
-  start = asked_bytes reply
+  start = header_and_questions reply
 
   abbrev edns_list : List (Record RData)
   edns_list = option_to_list (option_map opt_record reply.edns)

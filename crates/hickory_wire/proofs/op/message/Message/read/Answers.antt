@@ -13,15 +13,15 @@ use Rattle.hickory_wire.proofs.lemmas.serialize.reading.MessageFaultLaws.{messag
 use Rattle.hickory_wire.proofs.lemmas.serialize.reading.WholeMessage.{message_found, message_here}
 use Rattle.hickory_wire.proofs.op.message.Message.read.Goals as goal
 
-reads_from_gives : (result : Result Message DecodeError) (bytes : List ℕ) (old new : Cursor) → old ≡ front_of bytes → Gives (λ (m : Message). m) result old new message → IfOk result (λ m. Reads bytes m)
+reads_from_gives : (result : Result Message DecodeError) (bytes : List ℕ) (old new : Cursor) → old ≡ front_of bytes → Gives result old new message → IfOk result (λ m. Reads bytes m)
 reads_from_gives (Ok m) bytes old new front given = record { stop = new; reads = ap message (sym front) ∙ given.0 }
 reads_from_gives (Err e) bytes old new front given = tt
 
-stands_from_gives : (result : Result Message DecodeError) (bytes : List ℕ) (old new : Cursor) → AreBytes bytes → old ≡ front_of bytes → Gives (λ (m : Message). m) result old new message → IfOk result (λ m. MessageAt bytes m)
+stands_from_gives : (result : Result Message DecodeError) (bytes : List ℕ) (old new : Cursor) → AreBytes bytes → old ≡ front_of bytes → Gives result old new message → IfOk result (λ m. MessageAt bytes m)
 stands_from_gives (Ok m) bytes old new a front given = message_found bytes a m new (ap message (sym front) ∙ given.0)
 stands_from_gives (Err e) bytes old new a front given = tt
 
-fault_from_gives : (result : Result Message DecodeError) (bytes : List ℕ) (old new : Cursor) → AreBytes bytes → old ≡ front_of bytes → Gives (λ (m : Message). m) result old new message → IfErr result (λ e. e ≢ Memory → MessageFault bytes e)
+fault_from_gives : (result : Result Message DecodeError) (bytes : List ℕ) (old new : Cursor) → AreBytes bytes → old ≡ front_of bytes → Gives result old new message → IfErr result (λ e. e ≢ Memory → MessageFault bytes e)
 fault_from_gives (Ok m) bytes old new a front given = tt
 fault_from_gives (Err e) bytes old new a front given = λ other. message_err bytes a e (ap message (sym front) ∙ given.0 other)
 

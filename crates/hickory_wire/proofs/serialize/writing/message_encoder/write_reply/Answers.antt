@@ -4,7 +4,7 @@ use Rattle.hickory_wire.specs.serialize.layout.HeaderLayout.{header_octets}
 use Rattle.hickory_wire.specs.serialize.writing.Decoding.{IsDecodable, decoded_message}
 use Rattle.hickory_wire.specs.serialize.reading.MessageReading.{Reads}
 use Rattle.hickory_wire.specs.serialize.writing.ReplyParts.{reply_of, fronts_of}
-use Rattle.hickory_wire.specs.serialize.writing.ReplyParts.Refused.{too_large, formless}
+use Rattle.hickory_wire.specs.serialize.writing.ReplyParts.CannotBeWritten.{too_large, formless}
 use Rattle.hickory_wire.specs.serialize.writing.Writing.{Written}
 use Rattle.hickory_wire.specs.declared.error.ProtoError.TheVariants.{MaxSizeExceeded, CharacterDataTooLong, DataTooLong}
 use Rattle.hickory_wire.specs.declared.op.query.Query.{Query}

@@ -1,0 +1,71 @@
+//! Names in a form that is compared byte by byte.
+
+ghost use Rattle.std.specs.Prelude.{◌≡◌, ◌+◌, ◌*◌, ◌<◌, ◌≤◌, ◌∷◌, ◌++◌, length, drop, IfOk};
+ghost use Rattle.hickory_wire.specs.rr.domain.DomainName.{IsWire, cut};
+ghost use Rattle.hickory_wire.specs.rr.domain.NameBytes.{wire_bytes};
+ghost use Rattle.hickory_wire.specs.rr.domain.OrderKey.{escaped, order_key};
+
+use crate::rr::domain::wire::Wire;
+use std::alloc::{AllocError, Global};
+
+/// At least as many bytes as the key of any name has: each byte of a label takes two at most, and each label one more.
+const KEY_ROOM: usize = 512;
+
+/// Puts a label, and the byte that ends it, in front of what stands in the room from a place on. Returns where it begins.
+fn put_label(room: &mut [u8; KEY_ROOM], end: usize, label: &[u8]) -> usize
+    requires enough { 2 * length label.now < end }
+    requires within { end ≤ 512 }
+    ensures put { drop result room.new ≡ escaped label.now ++ 0 ∷ drop end room.old }
+    ensures before { result < end }
+    ensures few { end ≤ result + 2 * length label.now + 1 }
+{
+    let mut start = end - 1;
+    room[start] = 0;
+    let mut left = label.len();
+    while left > 0 {
+        left -= 1;
+        let byte = label[left];
+        start -= 1;
+        if byte < 2 {
+            room[start] = byte + 1;
+            start -= 1;
+            room[start] = 1;
+        } else {
+            room[start] = byte;
+        }
+    }
+    start
+}
+
+/// How many bytes a label takes in a key, without the byte that ends it.
+pub(crate) fn escaped_len(label: &[u8]) -> usize
+    requires { length label.now < 256 }
+    ensures { result ≡ length (escaped label.now) }
+{
+    let mut count = label.len();
+    let mut left = label.len();
+    while left > 0 {
+        left -= 1;
+        if label[left] < 2 {
+            count += 1;
+        }
+    }
+    count
+}
+
+/// The key of the name whose labels these are. Keys compare as the labels of the names do, from the last one on.
+pub(crate) fn make_order_key(alloc: Global, wire: &[u8]) -> Result<Wire, AllocError>
+    requires { IsWire wire.now }
+    ensures { IfOk result (λ key. wire_bytes key ≡ order_key (cut wire.now)) }
+{
+    let mut room = [0; KEY_ROOM];
+    let mut start = KEY_ROOM;
+    let mut place = 0;
+    while place < wire.len() {
+        let first = place + 1;
+        let next = first + usize::from(wire[place]);
+        start = put_label(&mut room, start, &wire[first..next]);
+        place = next;
+    }
+    Wire::from_slice(alloc, &room[start..])
+}
