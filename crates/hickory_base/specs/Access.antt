@@ -36,11 +36,18 @@ abbrev pub first_bits : Address → ℕ → ℕ
 first_bits address count = address.bits / 2 ^ (width address.family - count)
 
 -- A network of addresses (RFC 4632, section 3.1; RFC 4291, section 2.3): its family, its prefix length in bits, and the
--- bits of the prefix as a number. Two networks are the same where these are.
+-- bits of the prefix as a number.
 pub record Network : Type 0 where
   pub family : Family
   pub prefix_length : ℕ
   pub prefix : ℕ
+
+-- Two networks are the same: they are of one family, and their prefixes are of one length and have the same bits. So a
+-- network of IPv4 is never one of IPv6, and 0.0.0.0/0 is another network than 0.0.0.0/8.
+pub record SameNetwork (a b : Network) : Type 0 where
+  pub family : a.family ≡ b.family
+  pub prefix_length : a.prefix_length ≡ b.prefix_length
+  pub prefix : a.prefix ≡ b.prefix
 
 -- the network of this prefix length that the address lies in
 abbrev pub network_of : Address → ℕ → Network

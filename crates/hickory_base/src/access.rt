@@ -5,7 +5,7 @@
 
 ghost use Rattle.std.specs.Prelude.{◌≡◌, ◌≤◌, ◌<◌, ◌^◌, ◌+◌, ◌-◌, ◌/◌, ◌%◌, ◌++◌, ◌∷◌, [], ◌↔◌, List, Contains, IsTrue, OnOk, OnErr};
 ghost use Rattle.std.specs.Option.{SomeIff};
-ghost use Rattle.hickory_base.specs.Access.{Network, AccessSets, width, address_of, canonical, first_bits, network_of, first_address, Matches, IsLongestMatch, HasFamily, IsAllowed, Inserts, InsertsFirst, SameNetworks, MappedFormIsAllowedAlike, OnlyMembersDecide};
+ghost use Rattle.hickory_base.specs.Access.{Network, AccessSets, width, address_of, canonical, first_bits, network_of, first_address, Matches, IsLongestMatch, HasFamily, IsAllowed, Inserts, InsertsFirst, SameNetwork, SameNetworks, MappedFormIsAllowedAlike, OnlyMembersDecide};
 ghost use Rattle.hickory_base.specs.Prefixes.{LiesIn, IsCommon, IsOfFamily};
 ghost use Rattle.hickory_base.specs.declared.access.Family.TheVariants.{Ipv4, Ipv6};
 
@@ -373,4 +373,10 @@ impl AccessControl {
 pub fn rule_laws()
     ensures mapped_form { MappedFormIsAllowedAlike }
     ensures members { OnlyMembersDecide }
+{}
+
+/// `==` on networks compares all that they are: networks are equal exactly where they are of one family, and their
+/// prefixes are of one length and have the same bits.
+pub fn network_comparisons()
+    ensures { (a b : Network) → IsTrue (⟦<IpNet as PartialEq>⟧.eq a b) ↔ SameNetwork a b }
 {}

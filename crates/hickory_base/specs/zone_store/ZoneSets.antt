@@ -30,7 +30,7 @@ abbrev pub AreDistinct : List (Record RData) → Type 0
 AreDistinct [] = Unit {0}
 AreDistinct (r ∷ rs) = AllByRecursion (λ q. ¬ (SameRecord r q)) rs × AreDistinct rs
 
--- the data of an SOA record, with a serial of 32 bits (RFC 1035 section 3.3.13)
+-- The data of an SOA record. Its serial is a number of 32 bits (RFC 1035 section 3.3.13), on which the arithmetic of serials rests (RFC 1982 section 3).
 abbrev pub IsSoaData : RData → Type 0
 IsSoaData (rdata.SOA soa) = soa.serial < 2 ^ 32
 IsSoaData other = ⊥

@@ -3,7 +3,7 @@
 ghost use Rattle.std.specs.Prelude.{◌≡◌, ◌≢◌, ◌↔◌, ◌+◌, ◌<◌, [], length, IfOk, IfErr, OnErr};
 ghost use Rattle.hickory_base.specs.requests.RequestForm.{questions_form, written_form};
 ghost use Rattle.hickory_wire.specs.serialize.writing.Encoder.{IsSameVector, max_size, written_bytes};
-ghost use Rattle.hickory_wire.specs.serialize.writing.ReplyParts.{Refused, ReplyWritten};
+ghost use Rattle.hickory_wire.specs.serialize.writing.ReplyParts.{CannotBeWritten, ReplyWritten};
 ghost use Rattle.hickory_wire.specs.declared.op.header.Header.{Header as MessageHeader};
 
 use crate::requests::message_request::MessageRequest;
@@ -43,7 +43,7 @@ impl MessageRequest {
         ensures written { IfOk result (ReplyWritten (max_size encoder.old) (written_form self.now) (written_bytes encoder.new)) }
         ensures too_large { IfErr result (λ e. e ≢ ProtoError.Memory →
             (e ≡ ProtoError.MaxSizeExceeded) ↔ (max_size encoder.old < 12 + length (questions_form self.now.queries.queries))) }
-        ensures refused { IfErr result (λ e. e ≢ ProtoError.Memory → Refused (max_size encoder.old) (written_form self.now) e) }
+        ensures refused { IfErr result (λ e. e ≢ ProtoError.Memory → CannotBeWritten (max_size encoder.old) (written_form self.now) e) }
         ensures err { OnErr result (written_bytes encoder.new ≡ []) }
     {
         let question = question_bytes(encoder.allocator(), self.queries.queries())?;
@@ -80,7 +80,7 @@ impl Request {
         ensures source { IfOk result (λ r. (r.source ≡ src) × (r.protocol ≡ protocol)) }
         ensures too_large { IfErr result (λ e. e ≢ ProtoError.Memory →
             (e ≡ ProtoError.MaxSizeExceeded) ↔ (65535 < 12 + length (questions_form message.queries.queries))) }
-        ensures refused { IfErr result (λ e. e ≢ ProtoError.Memory → Refused 65535 (written_form message) e) }
+        ensures refused { IfErr result (λ e. e ≢ ProtoError.Memory → CannotBeWritten 65535 (written_form message) e) }
     {
         let mut bytes = Vec::new(alloc);
         message.emit(&mut BinEncoder::new(alloc, &mut bytes))?;

@@ -2,8 +2,9 @@
 
 ghost use Rattle.std.specs.Prelude.{◌≡◌, ◌≢◌, ◌<◌, ◌≤◌, [], length, IfOk, IfErr, MatchResult, OnOk};
 ghost use Rattle.hickory_base.specs.requests.RequestReading.{FollowsHeader, IsFaultOf, IsQuestionSection, message_of, question_section};
-ghost use Rattle.hickory_wire.specs.serialize.reading.MessageReading.{Fault, Reads, high_code, message, with_high_code};
-ghost use Rattle.hickory_wire.specs.serialize.reading.Reading.{Gives};
+ghost use Rattle.hickory_wire.specs.serialize.layout.MessageLayout.{high_code, with_high_code};
+ghost use Rattle.hickory_wire.specs.serialize.reading.MessageReading.{Fault, Reads, message};
+ghost use Rattle.hickory_wire.specs.serialize.reading.Reading.{Gives, GivesSeenBy};
 ghost use Rattle.hickory_wire.specs.serialize.reading.RecordReading.{question};
 ghost use Rattle.hickory_wire.specs.serialize.reading.SectionReading.{items};
 ghost use Rattle.hickory_wire.specs.declared.error.DecodeError.{DecodeError};
@@ -25,7 +26,7 @@ fn read_lower_queries(
     decoder: &mut BinDecoder<'_>,
     count: u16,
 ) -> Result<Items<LowerQuery>, DecodeError>
-    ensures exact { Gives (λ queries. queries) result decoder.old decoder.new (items question count []) }
+    ensures exact { Gives result decoder.old decoder.new (items question count []) }
     ensures number { IfOk result (λ queries. length queries ≤ count) }
 {
     let mut queries = Items::new(alloc);
@@ -49,7 +50,7 @@ impl Queries {
         decoder: &mut BinDecoder<'_>,
         count: u16,
     ) -> Result<Queries, DecodeError>
-        ensures { Gives (λ q. q) result decoder.old decoder.new (question_section count) }
+        ensures { Gives result decoder.old decoder.new (question_section count) }
     {
         let start = decoder.index();
         let queries = read_lower_queries(alloc, decoder, count)?;
@@ -79,7 +80,7 @@ impl MessageRequest {
         alloc: Global,
         decoder: &mut BinDecoder<'_>,
     ) -> Result<MessageRequest, DecodeError>
-        ensures exact { Gives message_of result decoder.old decoder.new message }
+        ensures exact { GivesSeenBy message_of result decoder.old decoder.new message }
         ensures questions { IfOk result (λ m. FollowsHeader decoder.old m.queries) }
     {
         let header = decoder.read_header()?;

@@ -6,7 +6,7 @@ ghost use Rattle.std.specs.Iterator.{IsFinite};
 ghost use Rattle.hickory_wire.specs.serialize.writing.Reply.{Reply, size_limit};
 ghost use Rattle.hickory_wire.specs.serialize.writing.ReplyParts.{ReplyEncoded};
 ghost use Rattle.hickory_base.specs.responses.EncodingSinks.{IsEncodingOf, TellsEncoding};
-ghost use Rattle.hickory_base.specs.responses.Responses.{GivesBy, IsReplyOf, header_of};
+ghost use Rattle.hickory_base.specs.responses.Responses.{IsReplyBy, header_of};
 
 use crate::responses::message_response::{MessageResponse, ResponseInfo};
 use crate::responses::response_encoding::encode_response;
@@ -134,7 +134,7 @@ impl ResponseHandler for EncodingSink {
         requires soa { S.can_next response.soa × IsFinite (S.remaining response.soa) }
         requires additionals { D.can_next response.additionals × IsFinite (D.remaining response.additionals) }
         ensures kept { IfOk result (λ info. (reply : Reply) × (bytes : List ℕ) ×
-            IsReplyOf (GivesBy A.next_gives A.Item.record_of) (GivesBy N.next_gives N.Item.record_of) (GivesBy S.next_gives S.Item.record_of) (GivesBy D.next_gives D.Item.record_of) response.entry reply ×
+            IsReplyBy A.next_gives A.Item.record_of N.next_gives N.Item.record_of S.next_gives S.Item.record_of D.next_gives D.Item.record_of response.entry reply ×
             ReplyEncoded (size_limit self.old.protocol reply.edns) reply bytes (header_of info) ×
             (self.new ≡ record self.old { replies = self.old.replies ++ bytes ∷ [] })) }
         ensures unkept { OnErr result (self.new ≡ record self.old { failures = (self.old.failures + 1) % 2 ^ 64 }) }

@@ -7,7 +7,7 @@ ghost use Rattle.std.specs.Option.{option_copied};
 ghost use Rattle.hickory_wire.specs.serialize.writing.Encoder.{IsSameVector, max_size, written_bytes};
 ghost use Rattle.hickory_wire.specs.serialize.writing.Endings.{GivesRecords};
 ghost use Rattle.hickory_wire.specs.serialize.writing.Reply.{Reply, size_limit};
-ghost use Rattle.hickory_wire.specs.serialize.writing.ReplyParts.{Refused, ReplyEncoded, ReplyWritten};
+ghost use Rattle.hickory_wire.specs.serialize.writing.ReplyParts.{CannotBeWritten, ReplyEncoded, ReplyWritten};
 ghost use Rattle.std.specs.Borrow.{sem};
 ghost use Rattle.hickory_base.specs.responses.Lending.{LendsMetadata};
 ghost use Rattle.hickory_base.specs.responses.Responses.{HasNoRecords, IsBuilt, IsReplyOf, base_of, error_metadata, header_of};
@@ -53,8 +53,8 @@ impl From<Header> for ResponseInfo {
     }
 }
 
-/// The type of an iterator that gives no record.
-pub type NoRecords<'a> = iter::Once<&'a Record>;
+/// An iterator for a section without records: that of `iter::empty`.
+pub type EmptySection<'a> = iter::Once<&'a Record>;
 
 /// A reply to a request: it borrows the request's questions, and its records are given by four iterators over `&'a Record`.
 #[derive(Drop)]
@@ -146,7 +146,7 @@ where
             (max_size encoder.old < 12 + length self.entry.queries.now.bytes) }
         ensures refused { IfErr result (λ e. e ≢ ProtoError.Memory → (reply : Reply) ×
             IsReplyOf (GivesRecords A.next_gives) (GivesRecords N.next_gives) (GivesRecords S.next_gives) (GivesRecords D.next_gives) self.entry reply ×
-            Refused (max_size encoder.old) reply e) }
+            CannotBeWritten (max_size encoder.old) reply e) }
         ensures err { OnErr result (written_bytes encoder.new ≡ []) }
     {
         let MessageResponse {
@@ -178,9 +178,9 @@ where
     /// The bytes of the reply over a transport, and what is told of it.
     ///
     /// Over UDP the limit is the payload that the reply's OPT record tells, 512 bytes without one (RFC 1035 section
-    /// 4.2.1, RFC 6891 section 6.2.5); else 65,535. Where header and questions pass the limit, or a record is reached
-    /// that has no form in bytes, the bytes are a header of the same id that says ServFail, and nothing else. Only want
-    /// of memory is an `Err`.
+    /// 4.2.1, RFC 6891 sections 6.2.3 and 6.2.4); else 65,535. Where header and questions pass the limit, or a record is
+    /// reached that has no form in bytes, the bytes are a header of the same id that says ServFail, and nothing else.
+    /// Only want of memory is an `Err`.
     pub fn encode(
         self,
         alloc: Global,
@@ -293,7 +293,14 @@ impl<'q> MessageResponseBuilder<'q> {
     pub fn build_no_records<'a>(
         self,
         metadata: Metadata,
-    ) -> MessageResponse<'q, 'a, NoRecords<'a>, NoRecords<'a>, NoRecords<'a>, NoRecords<'a>>
+    ) -> MessageResponse<
+        'q,
+        'a,
+        EmptySection<'a>,
+        EmptySection<'a>,
+        EmptySection<'a>,
+        EmptySection<'a>,
+    >
         ensures parts { IsBuilt (base_of self.entry) metadata result }
         ensures empty { HasNoRecords result }
     {
@@ -316,7 +323,14 @@ impl<'q> MessageResponseBuilder<'q> {
         self,
         request_meta: &Metadata,
         response_code: ResponseCode,
-    ) -> MessageResponse<'q, 'a, NoRecords<'a>, NoRecords<'a>, NoRecords<'a>, NoRecords<'a>>
+    ) -> MessageResponse<
+        'q,
+        'a,
+        EmptySection<'a>,
+        EmptySection<'a>,
+        EmptySection<'a>,
+        EmptySection<'a>,
+    >
         ensures parts { IsBuilt (base_of self.entry) (error_metadata request_meta.now response_code) result }
         ensures empty { HasNoRecords result }
     {

@@ -4,7 +4,7 @@ ghost use Rattle.std.specs.Prelude.{◌≡◌, IfOk, OnErr, map};
 ghost use Rattle.std.specs.Iterator.{IsFinite};
 ghost use Rattle.hickory_wire.specs.serialize.writing.Reply.{Reply, size_limit};
 ghost use Rattle.hickory_wire.specs.serialize.writing.ReplyParts.{RecordLists, ReplyEncoded, reply_of};
-ghost use Rattle.hickory_base.specs.responses.Responses.{GivesBy, IsReplyOf, header_of};
+ghost use Rattle.hickory_base.specs.responses.Responses.{GivesBy, IsReplyBy, header_of};
 
 use crate::responses::message_response::{MessageResponse, ResponseInfo, borrowed, size_limit};
 use crate::responses::response_handler::RecordRef;
@@ -113,7 +113,7 @@ where
     requires soa { S.can_next response.soa × IsFinite (S.remaining response.soa) }
     requires additionals { D.can_next response.additionals × IsFinite (D.remaining response.additionals) }
     ensures encoded { IfOk result (λ made. (reply : Reply) ×
-        IsReplyOf (GivesBy A.next_gives A.Item.record_of) (GivesBy N.next_gives N.Item.record_of) (GivesBy S.next_gives S.Item.record_of) (GivesBy D.next_gives D.Item.record_of) response.entry reply ×
+        IsReplyBy A.next_gives A.Item.record_of N.next_gives N.Item.record_of S.next_gives S.Item.record_of D.next_gives D.Item.record_of response.entry reply ×
         ReplyEncoded (size_limit protocol reply.edns) reply made.1.items (header_of made.0)) }
     ensures err { OnErr result (result ≡ Err ProtoError.Memory) }
 {

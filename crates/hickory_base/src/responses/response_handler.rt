@@ -41,7 +41,7 @@ pub trait ResponseHandler {
     ghost use Rattle.std.specs.Iterator.{IsFinite};
     ghost use Rattle.hickory_wire.specs.serialize.writing.Reply.{Reply};
     ghost use Rattle.hickory_wire.specs.declared.op.header.Header.{Header};
-    ghost use Rattle.hickory_base.specs.responses.Responses.{GivesBy, IsReplyOf, header_of};
+    ghost use Rattle.hickory_base.specs.responses.Responses.{IsReplyBy, header_of};
     ghost use Rattle.hickory_base.specs.responses.Sinks.{AddsEntry};
 
     /// What the sink keeps of a reply.
@@ -82,11 +82,11 @@ pub trait ResponseHandler {
         requires soa { S.can_next response.soa × IsFinite (S.remaining response.soa) }
         requires additionals { D.can_next response.additionals × IsFinite (D.remaining response.additionals) }
         ensures ok { IfOk result (λ info. (reply : Reply) ×
-            IsReplyOf (GivesBy A.next_gives A.Item.record_of) (GivesBy N.next_gives N.Item.record_of) (GivesBy S.next_gives S.Item.record_of) (GivesBy D.next_gives D.Item.record_of) response.entry reply ×
+            IsReplyBy A.next_gives A.Item.record_of N.next_gives N.Item.record_of S.next_gives S.Item.record_of D.next_gives D.Item.record_of response.entry reply ×
             AddsEntry (λ entry. shows (settings self.old) reply entry × informs (settings self.old) reply entry (header_of info)) (entries self.old) (entries self.new)) }
         ensures uncounted { OnOk result (failures self.new ≡ failures self.old) }
         ensures err { OnErr result (((reply : Reply) ×
-            IsReplyOf (GivesBy A.next_gives A.Item.record_of) (GivesBy N.next_gives N.Item.record_of) (GivesBy S.next_gives S.Item.record_of) (GivesBy D.next_gives D.Item.record_of) response.entry reply ×
+            IsReplyBy A.next_gives A.Item.record_of N.next_gives N.Item.record_of S.next_gives S.Item.record_of D.next_gives D.Item.record_of response.entry reply ×
             AddsEntry (shows (settings self.old) reply) (entries self.old) (entries self.new)) ⊎ (entries self.new ≡ entries self.old)) }
         ensures counted { OnErr result (failures self.new ≡ (failures self.old + 1) % 2 ^ 64) }
         ensures settled { settings self.new ≡ settings self.old };

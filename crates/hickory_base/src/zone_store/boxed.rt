@@ -116,6 +116,8 @@ impl ZoneHandler for Box<dyn ZoneHandler> {
         info: Nsec3QueryInfo<'_>,
         options: LookupOptions,
     ) -> LookupControlFlow<AuthLookup> {
+        // Made anew, so that the argument keeps the lifetime that the signature gives it: lent to the handler inside as it
+        // is, it would have that of the call.
         let info = Nsec3QueryInfo {
             qtype: info.qtype,
             ..info

@@ -31,7 +31,7 @@ pub enum AxfrPolicy {
 }
 
 /// By which records a zone shows that a name or a type does not exist.
-#[derive(Drop, PartialEq, Eq)]
+#[derive(Drop)]
 pub enum NxProofKind {
     /// NSEC (RFC 4034 section 4).
     Nsec,

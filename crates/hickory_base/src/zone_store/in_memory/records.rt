@@ -35,29 +35,7 @@ fn append_others(
     Ok(())
 }
 
-/// Puts copies of all records last. Where memory is refused, those of a front of them may have been put.
-fn append_all(
-    all: &mut Vec<Record>,
-    sets: &BTreeMap<RrKey, Rc<RecordSet>>,
-) -> Result<(), AllocError>
-    ensures { OnOk result (all.new.items ≡ all.old.items ++ zone_records (sets_of sets.now)) }
-{
-    for set in sets.values() {
-        append_copies(all, set.records())?;
-    }
-    Ok(())
-}
-
 impl InMemoryZoneHandler {
-    /// Copies of all records, in the order of the sets.
-    pub fn copied_records(&self, alloc: Global) -> Result<Vec<Record>, AllocError>
-        ensures { IfOk result (λ all. all.items ≡ zone_records self.now.sets) }
-    {
-        let mut all = Vec::new(alloc);
-        append_all(&mut all, &self.records)?;
-        Ok(all)
-    }
-
     /// The records of a name and type (RFC 2181 section 5), if there are any. It needs no memory, and time by the depth
     /// of the zone's map.
     pub fn record_set(&self, key: &RrKey) -> Option<&[Record]>

@@ -1,7 +1,7 @@
 use Rattle.std.proofs.Common.{◌≡◌, arith, ap, sym, subst, ◌∙◌, IfOk, Result, Ok, Err, List, ℕ}
 use Rattle.hickory_wire.specs.serialize.reading.Cursor.{Cursor}
 use Rattle.hickory_wire.specs.serialize.reading.MessageReading.{message, front_of, Reads}
-use Rattle.hickory_wire.specs.serialize.reading.Reading.{Gives}
+use Rattle.hickory_wire.specs.serialize.reading.Reading.{GivesSeenBy}
 use Rattle.hickory_wire.specs.declared.error.DecodeError.{DecodeError}
 use Rattle.hickory_wire.specs.serialize.layout.Bytes.{AreBytes}
 use Rattle.hickory_base.specs.requests.RequestReading.{FollowsHeader, IsQuestionSection, message_of}
@@ -9,7 +9,7 @@ use Rattle.hickory_base.specs.declared.requests.message_request.MessageRequest.{
 use Rattle.hickory_base.proofs.lemmas.requests.RequestParts.{section_stands}
 use Rattle.hickory_base.proofs.requests.request_reading.read_message.Goals as goal
 
-reads_from_gives : (result : Result MessageRequest DecodeError) (bytes : List ℕ) (old new : Cursor) → old ≡ front_of bytes → Gives message_of result old new message → IfOk result (λ m. Reads bytes (message_of m))
+reads_from_gives : (result : Result MessageRequest DecodeError) (bytes : List ℕ) (old new : Cursor) → old ≡ front_of bytes → GivesSeenBy message_of result old new message → IfOk result (λ m. Reads bytes (message_of m))
 reads_from_gives (Ok m) bytes old new front given = record { stop = new; reads = ap message (sym front) ∙ given.0 }
 reads_from_gives (Err e) bytes old new front given = tt
 
