@@ -2,6 +2,7 @@ pub mod Adding
 pub mod BlockAnswers
 pub mod Blocked
 pub mod Changes
+pub mod ConfigSameness
 pub mod Entries
 pub mod Identity
 pub mod LendingZone

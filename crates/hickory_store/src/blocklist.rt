@@ -2,11 +2,13 @@
 
 mod answers;
 mod config;
+mod config_sameness;
 mod entries;
 mod handler;
 mod lines;
 mod reader;
 
 pub use config::{BlocklistConfig, BlocklistConsultAction};
+pub use config_sameness::{action_comparisons, config_comparisons};
 pub use handler::{AddError, BlocklistZoneHandler};
 pub use reader::{CountedReader, ListReader};
