@@ -96,7 +96,7 @@ pub update_belongs : {H : Type 0} (server : Server H) (request : ReceivedRequest
 update_belongs server request edns now reply zones (unnamed _ is _) = error_belongs request edns reply 1 is
 update_belongs server request edns now reply zones (no_apex _ _ is _) = error_belongs request edns reply 9 is
 update_belongs server request edns now reply zones (no_handler _ _ is _) = error_belongs request edns reply 2 is
-update_belongs server request edns now reply zones (answered _ _ _ s) = signed_belongs request edns server.signer _ reply (record { id = refl; untruncated = refl }) s
+update_belongs server request edns now reply zones (answered _ _ _ _ s) = signed_belongs request edns server.signer _ reply (record { id = refl; untruncated = refl }) s
 
 module _ (identifier : Option (List ℕ)) (request : ReceivedRequest) (reply : Reply) where
   -- from the reply's EDNS to that of the request

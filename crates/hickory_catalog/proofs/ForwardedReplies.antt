@@ -1,6 +1,6 @@
 -- What can be seen of a reply of a server that asked elsewhere.
 use Rattle.std.proofs.Common.{◌≡◌, ◌≢◌, refl, sym, ap, subst, ℕ, Bool, true, false, cond, not, ◌&&◌, ◌||◌, List, [], ◌∷◌, ◌++◌, filter, Option, Some, None, Result, Ok, Err, arith}
-use Rattle.std.specs.Prelude.{◌==◌, IsSome, OnErr, option_to_list}
+use Rattle.std.specs.Prelude.{◌==◌, IfSome, IsSome, OnErr, option_to_list}
 use Rattle.std.specs.List.{AllByRecursion, list_all, list_any}
 use Rattle.std.proofs.lemmas.Bool.Decides.{nat_tests}
 use Rattle.hickory_wire.specs.rr.domain.DomainName.{DomainName}
@@ -19,8 +19,8 @@ use Rattle.hickory_base.specs.declared.errors.LookupError.TheVariants.{Net, Resp
 use Rattle.hickory_base.specs.declared.requests.message_request.MessageRequest.{MessageRequest}
 use Rattle.hickory_base.specs.declared.zone_store.lookup.AuthLookup.{AuthLookup}
 use Rattle.hickory_base.specs.declared.zone_store.lookup.AuthLookup.TheVariants.{Empty, Resolved, Records}
-use Rattle.hickory_catalog.specs.Forwarded.{Findings, code_alone, findings_contents, findings_of, forwarded_contents, forwarded_metadata, is_authentic, is_bogus, is_bogus_proof, is_dnssec_bogus, is_dnssec_type, is_no_record, is_passed_on, is_secure, is_secure_proof, judged_records, nothing_found, passed_on, records_found, validated, without_bogus}
-use Rattle.hickory_catalog.specs.ForwardedLaws.{HasJudgedRecords, HasSoa, IsAuthenticated, IsNotBogus, IsPlainOrAskedFor, IsProved}
+use Rattle.hickory_catalog.specs.Forwarded.{Findings, code_alone, findings_contents, findings_of, forwarded_contents, forwarded_metadata, has_name, is_authentic, is_bogus, is_bogus_proof, is_dnssec_bogus, is_dnssec_type, is_no_record, is_no_soa, is_passed_on, is_secure, is_secure_proof, judged_records, nothing_found, passed_on, records_found, validated, without_bogus}
+use Rattle.hickory_catalog.specs.ForwardedLaws.{CarriesSoa, HasJudgedRecords, HasSoa, IsAuthenticated, IsNotBogus, IsPlainOrAskedFor, IsProved, IsSoa}
 use Rattle.hickory_catalog.specs.Replies.{Contents, bare_contents}
 
 abbrev Resources : Type 0
@@ -159,6 +159,29 @@ module _ (f : Findings) where
       judged true false c v h d = absurd cc
       judged true true true v h d = absurd cc
 
+no_soa : (r : Record RData) → is_no_soa r ≡ true → ¬ (IsSoa r)
+no_soa r h is = let k : not (6 == 6) ≡ true = subst (λ (n : ℕ). not (n == 6) ≡ true) is h in cc
+
+-- what is found where there is nothing: no SOA but the one that came with it, and none with ServFail
+module _ (name : DomainName) where
+  abbrev negative : Bool → Bool → ℕ
+  negative a b = cond a 0 (cond b 3 0)
+
+  no_failure : (a b : Bool) → negative a b ≢ 2
+  no_failure true b h = cc
+  no_failure false true h = cc
+  no_failure false false h = cc
+
+  abbrev KeepsSoa : LookupError → Findings → Type 0
+  KeepsSoa e f = AllByRecursion (λ r. ¬ (IsSoa r)) f.authorities × (f.soa ≡ soa_of e) × (f.code ≡ 2 → f.soa ≡ None)
+
+  keeps_soa : (e : LookupError) → KeepsSoa e (findings_of name (Err e))
+  keeps_soa (Net (NoRecords code authorities soa)) =
+      (all_passing (λ r. ¬ (IsSoa r)) is_no_soa no_soa authorities, refl, λ two. absurd (no_failure (has_name name authorities) (code == 3) two))
+  keeps_soa (ResponseCode code) =
+      elim (code == 3) as (λ b. KeepsSoa (ResponseCode code) (cond b (nothing_found name (ResponseCode code)) (code_alone 2 false))) [ true ↦ (tt, refl, λ two. refl) | false ↦ (tt, refl, λ two. refl) ]
+  keeps_soa other = (tt, refl, λ two. refl)
+
 module _ (request : MessageRequest) (query : Query) where
   kept : (P : Record RData → Type 0) (rs : Resources) → AllByRecursion P rs → AllByRecursion P (passed_on request query rs)
   kept P rs h = all_kept P (is_passed_on (asks_for_dnssec request.edns) query.query_type) rs h
@@ -249,3 +272,45 @@ module _ (request : MessageRequest) (query : Query) where
       shown false sound =
           subst (λ (g : Findings). NoneBogus result (findings_contents request query (is_authentic validates request (findings_of query.name result)) g)) (sym (unchanged (findings_of query.name result) validates request.metadata sound))
           (λ differs. sound_contents result sound)
+
+  -- the SOA of a negative answer
+  soa_passes : (d b : Bool) (n : ℕ) → n ≡ 6 → (d || not (is_dnssec_type n) || b) ≡ true
+  soa_passes true b n is = refl
+  soa_passes false b n is = rw is refl
+
+  soa_passed : (soa : Option (Record RData)) → IfSome soa IsSoa → passed_on request query (option_to_list soa) ≡ option_to_list soa
+  soa_passed None h = refl
+  soa_passed (Some r) h = rw (soa_passes (asks_for_dnssec request.edns) (type_of r.rdata == query.query_type) (type_of r.rdata) h) refl
+
+  module _ (authentic : Bool) where
+    carried : (f : Findings) → AllByRecursion (λ r. ¬ (IsSoa r)) f.authorities → IfSome f.soa IsSoa → CarriesSoa f.soa (findings_contents request query authentic f).authorities
+    carried f none soa = record {
+      others = passed_on request query f.authorities;
+      first = ap (λ (rs : Resources). rs ++ passed_on request query f.authorities) (soa_passed f.soa soa);
+      no_other = kept (λ r. ¬ (IsSoa r)) f.authorities none;
+    }
+
+    dropped : (f : Findings) → AllByRecursion (λ r. ¬ (IsSoa r)) f.authorities → CarriesSoa None (findings_contents request query authentic (without_bogus f)).authorities
+    dropped f none = by_soa f.soa where
+      by_soa : (o : Option (Record RData)) → CarriesSoa None (findings_contents request query authentic (without_bogus (record f { soa = o }))).authorities
+      by_soa None = carried (without_bogus (record f { soa = None })) none tt
+      by_soa (Some soa) = carried (without_bogus (record f { soa = Some soa })) none tt
+
+    abbrev CarriesOf : LookupError → Contents → Type 0
+    CarriesOf e contents = (contents.metadata.response_code ≢ 2 → CarriesSoa (soa_of e) contents.authorities) × (contents.metadata.response_code ≡ 2 → CarriesSoa None contents.authorities)
+
+    carries : (e : LookupError) (f : Findings) → KeepsSoa query.name e f → IfSome (soa_of e) IsSoa → (b : Bool) → CarriesOf e (findings_contents request query authentic (cond b (without_bogus f) f))
+    carries e f keeps soa true = (λ differs. absurd (differs (is_failure f)), λ two. dropped f keeps.0)
+    carries e f keeps soa false =
+        let here = carried f keeps.0 (subst (λ (o : Option (Record RData)). IfSome o IsSoa) (sym keeps.1) soa) in (
+          λ differs. subst (λ (o : Option (Record RData)). CarriesSoa o (findings_contents request query authentic f).authorities) keeps.1 here,
+          λ two. subst (λ (o : Option (Record RData)). CarriesSoa o (findings_contents request query authentic f).authorities) (keeps.2 two) here,
+        )
+
+  pub carries_soa : (validates : Bool) (e : LookupError) → request.metadata.recursion_desired ≡ true → IfSome (soa_of e) IsSoa
+      → CarriesOf (is_authentic validates request (findings_of query.name (Err e))) e (forwarded_contents request query validates (Err e))
+  carries_soa validates e recursion soa =
+      let found = findings_of query.name (Err e) in
+      let authentic = is_authentic validates request found in
+      subst (λ (b : Bool). CarriesOf authentic e (cond b (findings_contents request query authentic (validated validates request.metadata found)) (bare_contents (forwarded_metadata request.metadata false 5)))) (sym recursion)
+      (carries authentic e found (keeps_soa query.name e) soa (validates && is_bogus found && not request.metadata.checking_disabled))

@@ -1,9 +1,10 @@
--- Each reply to a query is a reply to its request.
+-- Each reply to a query or an update is a reply to its request.
 use Rattle.std.proofs.Common.{◌≡◌, ℕ, ◌<◌, ◌^◌, ◌||◌, nat_eq, Bool, true, false, cond, List, [], ◌∷◌, Option, Result, Ok, Err, refl, sym, ap, subst, ◌∙◌, arith}
 use Rattle.std.specs.Prelude.{◌==◌}
 use Rattle.std.specs.List.{AllByRecursion}
 use Rattle.std.proofs.lemmas.Bool.Decides.{nat_tests}
 use Rattle.hickory_wire.specs.op.EdnsFields.{EdnsFields}
+use Rattle.hickory_wire.specs.rr.domain.DomainName.{DomainName}
 use Rattle.hickory_wire.specs.serialize.writing.Reply.{Reply}
 use Rattle.hickory_wire.specs.declared.op.header.Metadata.{Metadata}
 use Rattle.hickory_wire.specs.declared.op.query.Query.{Query}
@@ -28,6 +29,7 @@ use Rattle.hickory_catalog.specs.Replies.{Contents, bare_contents, error_reply, 
 use Rattle.hickory_catalog.specs.Server.{Server}
 use Rattle.hickory_catalog.specs.Signing.{SignedReply, Signer, failed, plain, signed}
 use Rattle.hickory_catalog.specs.Transfers.{transfer_contents, transfer_fault}
+use Rattle.hickory_catalog.specs.Updates.{UpdateReply, answered, no_apex, no_handler, unnamed}
 
 -- codes of twelve bits
 small_code : (codes : List ℕ) (code : ℕ) → AllByRecursion (λ c. c < 2 ^ 12) codes → is_one_of codes code ≡ true → code < 2 ^ 12
@@ -117,3 +119,12 @@ module _ {H : Type 0} (server : Server H) (forwarded : ForwardedCodes) (codes : 
   query_fits (other_count _ is) = error_is request.message edns reply 1 (omega arith) is
   query_fits (no_zone _ _ is) = error_is request.message edns reply 5 (omega arith) is
   query_fits (zone _ _ r) = zone_fits _ _ r
+
+-- so is the reply to an update
+pub update_fits : {H : Type 0} (server : Server H) (request : ReceivedRequest) (edns : Option EdnsFields) (now : ℕ) (reply : Reply) (zones : List (DomainName × List H))
+    → request.message.metadata.op_code ≡ 5 → UpdateReply server request edns now reply zones → RepliesTo request.message edns reply
+update_fits server request edns now reply zones updates (unnamed _ is _) = error_is request.message edns reply 1 (omega arith) is
+update_fits server request edns now reply zones updates (no_apex _ _ is _) = error_is request.message edns reply 9 (omega arith) is
+update_fits server request edns now reply zones updates (no_handler _ _ is _) = error_is request.message edns reply 2 (omega arith) is
+update_fits server request edns now reply zones updates (answered _ _ _ small s) =
+    signed_fits request.message edns server.signer _ _ reply s (record { id = refl; op_code = sym updates; response_code = small; untruncated = refl })

@@ -2,7 +2,7 @@
 use Rattle.std.proofs.Common.{◌≡◌, ◌≢◌, Result, Ok, Err, ℕ, ◌+◌, ◌%◌, ◌^◌, ◌⊎◌, inl, inr, false, List, [], ◌∷◌, ◌++◌, length, Option, None, Bor, map, ◌∙◌, sym, ap, subst, refl}
 use Rattle.std.specs.Option.{option_copied}
 use Rattle.std.specs.Prelude.{IfOk, IfErr, OnOk}
-use Rattle.hickory_wire.specs.serialize.writing.ReplyParts.{Refused, ReplyWritten}
+use Rattle.hickory_wire.specs.serialize.writing.ReplyParts.{CannotBeWritten, ReplyWritten}
 use Rattle.hickory_wire.specs.serialize.writing.Writing.{Fronts, Written}
 use Rattle.hickory_wire.specs.declared.error.ProtoError.{ProtoError}
 use Rattle.hickory_wire.specs.declared.error.ProtoError.TheVariants.{Memory}
@@ -92,7 +92,7 @@ module _ {P : Reply → Type 0} {expected : Reply} (so : (r : Reply) → P r →
   emitted bytes (Ok info) header w = (w.2.fronts, subst (λ (r : Reply). Written limit r bytes w.2.fronts) (so w.0 w.1) w.2.written)
   emitted bytes (Err e) header w = w
 
-  pub not_emitted : {T : Type 0} (result : Result T ProtoError) → IfErr result (λ e. e ≢ Memory → (reply : Reply) × P reply × Refused limit reply e)
-      → IfErr result (λ e. e ≢ Memory → Refused limit expected e)
+  pub not_emitted : {T : Type 0} (result : Result T ProtoError) → IfErr result (λ e. e ≢ Memory → (reply : Reply) × P reply × CannotBeWritten limit reply e)
+      → IfErr result (λ e. e ≢ Memory → CannotBeWritten limit expected e)
   not_emitted (Ok info) w = w
-  not_emitted (Err e) w = λ other. let r = w other in subst (λ (x : Reply). Refused limit x e) (so r.0 r.1) r.2
+  not_emitted (Err e) w = λ other. let r = w other in subst (λ (x : Reply). CannotBeWritten limit x e) (so r.0 r.1) r.2

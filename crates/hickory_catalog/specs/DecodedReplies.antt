@@ -2,6 +2,7 @@
 use Rattle.std.specs.Prelude.{◌≡◌, ℕ, ◌+◌, ◌<◌, ◌≤◌, ◌^◌, false, List, [], length, take, slice_range, Option, IfSome}
 use Rattle.std.specs.List.{AllByRecursion}
 use Rattle.hickory_wire.specs.op.EdnsFields.{EdnsFields}
+use Rattle.hickory_wire.specs.rr.domain.DomainName.{DomainName}
 use Rattle.hickory_wire.specs.serialize.layout.MessageLayout.{ItemsAt}
 use Rattle.hickory_wire.specs.serialize.layout.QuestionLayout.{QuestionAt, IsFormedQuestion}
 use Rattle.hickory_wire.specs.serialize.reading.MessageReading.{Reads}
@@ -23,6 +24,7 @@ use Rattle.hickory_catalog.specs.Replies.{Contents, error_reply}
 use Rattle.hickory_catalog.specs.ReplyEdns.{reply_edns, with_high_code}
 use Rattle.hickory_catalog.specs.Server.{server_of}
 use Rattle.hickory_catalog.specs.Signing.{Signer, SignedReply}
+use Rattle.hickory_catalog.specs.Updates.{UpdateReply}
 use Rattle.hickory_catalog.specs.declared.catalog.Catalog.{Catalog}
 
 -- A header for a reply to this request: its id and opcode, a code of twelve bits (RFC 6891 section 6.1.3), and no TC.
@@ -46,7 +48,13 @@ abbrev pub QueryRepliesFit : {S H : Type 0} → Ghosts H → (S → Signer) → 
 QueryRepliesFit {S} {H} handler signature_for = (catalog : Catalog S H) (request : ReceivedRequest) (edns : Option EdnsFields) (now : ℕ) (reply : Reply)
     → QueryReply (server_of handler signature_for catalog) request edns now reply → RepliesTo request.message edns reply
 
--- So is each error reply,
+-- So is each reply to an update, which is a request of opcode Update, 5 (RFC 2136 section 1.3),
+abbrev pub UpdateRepliesFit : {S H : Type 0} → Ghosts H → (S → Signer) → Type 0
+UpdateRepliesFit {S} {H} handler signature_for = (catalog : Catalog S H) (request : ReceivedRequest) (edns : Option EdnsFields) (now : ℕ) (reply : Reply) (zones : List (DomainName × List H))
+    → request.message.metadata.op_code ≡ 5
+    → UpdateReply (server_of handler signature_for catalog) request edns now reply zones → RepliesTo request.message edns reply
+
+-- each error reply,
 abbrev pub ErrorRepliesFit : Type 0
 ErrorRepliesFit = (request : MessageRequest) (edns : Option EdnsFields) (code : ℕ) → code < 2 ^ 12 → RepliesTo request edns (error_reply request edns code)
 

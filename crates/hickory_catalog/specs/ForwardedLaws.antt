@@ -1,5 +1,5 @@
 -- Laws of the replies of a server that asked elsewhere: what anybody can see of such a reply.
-use Rattle.std.specs.Prelude.{◌≡◌, ◌≢◌, ◌||◌, nat_eq, ℕ, Bool, true, false, List, [], ◌∷◌, IsSome, OnErr, Result, Ok, Err}
+use Rattle.std.specs.Prelude.{◌≡◌, ◌≢◌, ◌||◌, nat_eq, ℕ, Bool, true, false, List, [], ◌∷◌, ◌++◌, Option, None, IfSome, IsSome, option_to_list, OnErr, Result, Ok, Err}
 use Rattle.std.specs.List.{AllByRecursion, list_any}
 use Rattle.hickory_wire.specs.rr.RecordData.{type_of}
 use Rattle.hickory_wire.specs.declared.op.header.Metadata.{Metadata}
@@ -100,3 +100,22 @@ DnssecRecordsOnDemand = (request : MessageRequest) (query : Query) (validates : 
     AllByRecursion (IsPlainOrAskedFor query.query_type) contents.answers
     × AllByRecursion (IsPlainOrAskedFor query.query_type) contents.authorities
     × AllByRecursion (IsPlainOrAskedFor query.query_type) contents.additionals
+
+-- the record is an SOA, which is of type 6
+abbrev pub IsSoa : Record RData → Type 0
+IsSoa r = type_of r.rdata ≡ 6
+
+-- An authority section begins with this SOA, where there is one, and has no other.
+pub record CarriesSoa (soa : Option (Record RData)) (authorities : List (Record RData)) : Type 0 where
+  pub others : List (Record RData)
+  pub first : authorities ≡ option_to_list soa ++ others
+  pub no_other : AllByRecursion (λ r. ¬ (IsSoa r)) others
+
+-- To a client with RD, a negative answer is passed on with the SOA that came with it, TTL and all, and with no other; where none came it has
+-- none (RFC 2308 sections 2.1 and 2.2). ServFail, for a wrong proof or any other failure, has no SOA.
+abbrev pub SoaOfNegativeAnswer : Type 0
+SoaOfNegativeAnswer = (request : MessageRequest) (query : Query) (validates : Bool) (e : LookupError)
+    → request.metadata.recursion_desired ≡ true → IfSome (soa_of e) IsSoa
+    → let contents = forwarded_contents request query validates (Err e) in
+    (contents.metadata.response_code ≢ 2 → CarriesSoa (soa_of e) contents.authorities)
+    × (contents.metadata.response_code ≡ 2 → CarriesSoa None contents.authorities)

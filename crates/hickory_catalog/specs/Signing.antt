@@ -2,7 +2,7 @@
 use Rattle.std.specs.Prelude.{◌≡◌, ℕ, List, Option, Some, None}
 use Rattle.hickory_wire.specs.op.EdnsFields.{EdnsFields}
 use Rattle.hickory_wire.specs.serialize.writing.Reply.{Reply}
-use Rattle.hickory_wire.specs.serialize.writing.ReplyParts.{Refused}
+use Rattle.hickory_wire.specs.serialize.writing.ReplyParts.{CannotBeWritten}
 use Rattle.hickory_wire.specs.serialize.writing.Writing.{Fronts, Written}
 use Rattle.hickory_wire.specs.declared.error.ProtoError.{ProtoError}
 use Rattle.hickory_wire.specs.declared.rr.record.Record.{Record}
@@ -23,7 +23,7 @@ pub data IsSignatureOf (signer : Signer) (context : TSigResponseContext) (unsign
   answered : {bytes : List ℕ} {fronts : Fronts} {answer : Option (Record TSIG)} → Written 65535 unsigned bytes fronts
       → signer context bytes ≡ answer → IsSignatureOf signer context unsigned answer
   -- There is none of a reply that cannot be written.
-  unwritable : {e : ProtoError} → Refused 65535 unsigned e → IsSignatureOf signer context unsigned None
+  unwritable : {e : ProtoError} → CannotBeWritten 65535 unsigned e → IsSignatureOf signer context unsigned None
 
 -- What becomes of a reply that has no signature yet, by the context with which the answer came.
 pub data IsSigned (signer : Signer) (failure unsigned reply : Reply) : Option TSigResponseContext → Type 0 where

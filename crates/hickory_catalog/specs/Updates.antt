@@ -1,5 +1,5 @@
 -- Dynamic updates (RFC 2136): which handler takes one, and which reply it gets.
-use Rattle.std.specs.Prelude.{◌≡◌, ◌==◌, ℕ, Bool, cond, List, [], ◌∷◌, Option, Some, None, Result, Ok, Err, OnErr}
+use Rattle.std.specs.Prelude.{◌≡◌, ◌==◌, ◌<◌, ◌^◌, ℕ, Bool, cond, List, [], ◌∷◌, Option, Some, None, Result, Ok, Err, OnErr}
 use Rattle.std.specs.List.{Any}
 use Rattle.hickory_wire.specs.rr.domain.DomainName.{DomainName}
 use Rattle.hickory_wire.specs.op.EdnsFields.{EdnsFields}
@@ -92,10 +92,10 @@ pub data UpdateReply {H : Type 0} (server : Server H) (request : ReceivedRequest
   -- Nobody answers for the zone: ServFail, which is 2.
   no_handler : {name : DomainName} → updated_zone request ≡ Some name → HasNoHandler server.zones name
       → reply ≡ error_reply request.message edns 2 → zones ≡ server.zones → UpdateReply server request edns now reply zones
-  -- The first handler of the zone answers.
+  -- The first handler of the zone answers, with a code of twelve bits (RFC 6891 section 6.1.3).
   answered : {name : DomainName} {answer : Result Bool UpdateFault} {context : Option TSigResponseContext} {code : ℕ} → updated_zone request ≡ Some name
       → ApexUpdated server.handler request now name server.zones answer context zones
-      → update_code answer ≡ Some code
+      → update_code answer ≡ Some code → code < 2 ^ 12
       → SignedReply server.signer request.message edns (update_contents request.message.metadata.id code) context reply
       → UpdateReply server request edns now reply zones
 

@@ -8,7 +8,7 @@ ghost use Rattle.hickory_base.specs.responses.Responses.{IsBuilt};
 ghost use Rattle.hickory_catalog.specs.Replies.{bare_contents, contents_of, error_contents};
 
 use hickory_base::message_request::MessageRequest;
-use hickory_base::message_response::{MessageResponse, MessageResponseBuilder, NoRecords};
+use hickory_base::message_response::{EmptySection, MessageResponse, MessageResponseBuilder};
 use hickory_wire::{Boxed, Edns, Items, Metadata, Record, ResponseCode};
 use std::alloc::Global;
 use std::iter::{self, Chain};
@@ -74,7 +74,7 @@ pub(crate) type Response<'q> = MessageResponse<
     'q,
     Iter<'q, Record>,
     Chain<Iter<'q, Record>, Chain<Iter<'q, Record>, Iter<'q, Record>>>,
-    NoRecords<'q>,
+    EmptySection<'q>,
     Iter<'q, Record>,
 >;
 

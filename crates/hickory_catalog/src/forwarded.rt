@@ -255,7 +255,19 @@ fn is_authentic(validates: bool, request: &MessageRequest, found: &Findings) -> 
 fn is_dnssec_type(record_type: RecordType) -> bool
     ensures { result ≡ is_dnssec_type record_type }
 {
-    [24, 25, 43, 46, 47, 48, 50, 51, 59, 60].contains(&record_type.value())
+    let types = [
+        RecordType::SIG.value(),
+        RecordType::KEY.value(),
+        RecordType::DS.value(),
+        RecordType::RRSIG.value(),
+        RecordType::NSEC.value(),
+        RecordType::DNSKEY.value(),
+        RecordType::NSEC3.value(),
+        RecordType::NSEC3PARAM.value(),
+        RecordType::CDS.value(),
+        RecordType::CDNSKEY.value(),
+    ];
+    types.contains(&record_type.value())
 }
 
 /// Whether a record is passed on.

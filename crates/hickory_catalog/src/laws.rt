@@ -1,8 +1,8 @@
 //! Laws of the definitions, each the contract of a function with nothing to do.
 
 ghost use Rattle.hickory_catalog.specs.AuthoritativeLaws.{AuthoritativeCodes, AuthoritativeHeaders, NegativeReplies, ReferralsAreNoAnswers};
-ghost use Rattle.hickory_catalog.specs.DecodedReplies.{CatalogReplyDecodes, ErrorRepliesFit, QueryRepliesFit, ReplyEdnsFits, SignedRepliesFit};
-ghost use Rattle.hickory_catalog.specs.ForwardedLaws.{AuthenticWhereProved, DnssecRecordsOnDemand, ForwardedCodes, ForwardedHeaders, NothingBogusPassedOn, RefusedWithoutRecursion};
+ghost use Rattle.hickory_catalog.specs.DecodedReplies.{CatalogReplyDecodes, ErrorRepliesFit, QueryRepliesFit, ReplyEdnsFits, SignedRepliesFit, UpdateRepliesFit};
+ghost use Rattle.hickory_catalog.specs.ForwardedLaws.{AuthenticWhereProved, DnssecRecordsOnDemand, ForwardedCodes, ForwardedHeaders, NothingBogusPassedOn, RefusedWithoutRecursion, SoaOfNegativeAnswer};
 ghost use Rattle.hickory_catalog.specs.OneReply.{OneReply};
 
 use crate::signer::ReplySigner;
@@ -11,8 +11,8 @@ use hickory_wire::encoder_laws::what_reads_back_is_written;
 use hickory_wire::record_laws::questions_of_replies;
 
 /// What a reply of a server that asked elsewhere may say: AA never, RA always, AD only where all is proved and it was asked for, no record
-/// with a wrong proof but to a client that checks for itself, no DNSSEC record that was not asked for, and nothing without RD (RFC 4035
-/// section 3.2, RFC 1034 section 4.3.2).
+/// with a wrong proof but to a client that checks for itself, no DNSSEC record that was not asked for, with a negative answer the SOA that
+/// came with it and no other, and nothing without RD (RFC 4035 section 3.2, RFC 2308 section 2, RFC 1034 section 4.3.2).
 pub fn forwarded_replies()
     ensures header { ForwardedHeaders }
     ensures codes { ForwardedCodes }
@@ -20,6 +20,7 @@ pub fn forwarded_replies()
     ensures authentic { AuthenticWhereProved }
     ensures bogus { NothingBogusPassedOn }
     ensures dnssec { DnssecRecordsOnDemand }
+    ensures soa { SoaOfNegativeAnswer }
 {}
 
 /// What a reply of a server that holds the zone may say: AA always, RA and AD never, RD as asked, one of four codes, no answers in a
@@ -31,10 +32,11 @@ pub fn authoritative_replies<H: ZoneHandler>()
     ensures negative { NegativeReplies H.ZoneHandler }
 {}
 
-/// What the replies of a catalog have of their requests: id, opcode, questions, and EDNS with the high bits of their code. None has TC of
-/// its own (RFC 1035 section 4.1.1, RFC 6891 section 6.1.3).
+/// What the replies of a catalog, to a query, to an update or with an error, have of their requests: id, opcode, questions, and EDNS with the
+/// high bits of their code. None has TC of its own (RFC 1035 section 4.1.1, RFC 6891 section 6.1.3).
 pub fn replies_of_requests<S: ReplySigner, H: ZoneHandler>()
     ensures queries { QueryRepliesFit H.ZoneHandler S.signature_for }
+    ensures updates { UpdateRepliesFit H.ZoneHandler S.signature_for }
     ensures errors { ErrorRepliesFit }
     ensures signed { SignedRepliesFit }
     ensures edns { ReplyEdnsFits }

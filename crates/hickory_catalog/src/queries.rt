@@ -26,6 +26,22 @@ use hickory_wire::{Edns, LowerQuery, RecordType, ResponseCode, TSigResponseConte
 use std::alloc::Global;
 use std::mem;
 
+/// A query of a zone, with what it takes to answer it.
+#[derive(Drop)]
+struct ZoneQuery<'q, S: ReplySigner, H: ZoneHandler> {
+    /// The catalog, which signs its replies.
+    catalog: &'q Catalog<S, H>,
+    /// The handlers of the zone.
+    chain: &'q [H],
+    alloc: Global,
+    /// The request.
+    request: &'q Request,
+    /// Its one question.
+    query: &'q LowerQuery,
+    /// The moment of the call, in seconds since 1970.
+    moment: u64,
+}
+
 /// Whether an answer says that memory was refused.
 fn is_out_of_memory<T>(outcome: &Result<T, LookupError>) -> bool
     ensures { result ≡ is_out_of_memory outcome.now }
@@ -64,28 +80,25 @@ fn handler_contents<H: ZoneHandler>(
 }
 
 /// Answers to what a chain answered in the end, whose records may be taken out, where this handler was asked.
-fn answer_outcome<H: ZoneHandler, S: ReplySigner, R: ResponseHandler>(
-    signer: &S,
+fn answer_outcome<S: ReplySigner, H: ZoneHandler, R: ResponseHandler>(
+    asked: &ZoneQuery<'_, S, H>,
     handler: &H,
-    alloc: Global,
-    request: &Request,
-    edns: &mut Option<Edns>,
-    query: &LowerQuery,
     outcome: &mut Result<AuthLookup, LookupError>,
     context: &Option<TSigResponseContext>,
+    edns: &mut Option<Edns>,
     sink: &mut R,
 ) -> Result<ResponseInfo, CatalogError>
     ensures replied { IfOk result (λ info. (contents : Contents) × (reply : Reply) × (is_out_of_memory outcome.old ≡ false) ×
-        HandlerReply H.ZoneHandler handler.now (H.zone_type_of handler.now) request.now query.now outcome.old contents ×
-        SignedReply (S.signature_for signer.now) request.now.message edns.old contents context.now reply ×
-        Sends R.ResponseHandler request.now.message.metadata sink.old sink.new reply (header_of info)) }
+        HandlerReply H.ZoneHandler handler.now (H.zone_type_of handler.now) asked.now.request.now asked.now.query.now outcome.old contents ×
+        SignedReply (S.signature_for asked.now.catalog.now.signer) asked.now.request.now.message edns.old contents context.now reply ×
+        Sends R.ResponseHandler asked.now.request.now.message.metadata sink.old sink.new reply (header_of info)) }
     ensures refused { IfErr result (λ e. (e ≡ CatalogError.Memory) × IsUntouched R.ResponseHandler sink.old sink.new) }
 {
-    let contents = handler_contents(handler, alloc, request, query, outcome)?;
+    let contents = handler_contents(handler, asked.alloc, asked.request, asked.query, outcome)?;
     let told = send_signed(
-        signer,
-        alloc,
-        request.message(),
+        &asked.catalog.signer,
+        asked.alloc,
+        asked.request.message(),
         edns,
         &contents,
         context,
@@ -130,29 +143,26 @@ fn answer_transferred<S: ReplySigner, R: ResponseHandler>(
 
 /// Answers a transfer of a zone by its handlers, and hands the reply over, with this EDNS.
 fn answer_transfer<S: ReplySigner, H: ZoneHandler, R: ResponseHandler>(
-    catalog: &Catalog<S, H>,
-    chain: &[H],
-    alloc: Global,
-    request: &Request,
+    asked: &ZoneQuery<'_, S, H>,
     edns: &mut Option<Edns>,
-    now: u64,
-    query: &LowerQuery,
     sink: &mut R,
 ) -> Result<ResponseInfo, CatalogError>
-    requires { (query.now.query_type == 252) ≡ true }
+    requires { (asked.now.query.now.query_type == 252) ≡ true }
     ensures replied { IfOk result (λ info. (reply : Reply) ×
-        ZoneReply (server_of H.ZoneHandler S.signature_for catalog.now) chain.now request.now edns.old now query.now reply ×
-        Sends R.ResponseHandler request.now.message.metadata sink.old sink.new reply (header_of info)) }
+        ZoneReply (server_of H.ZoneHandler S.signature_for asked.now.catalog.now) asked.now.chain.now asked.now.request.now edns.old asked.now.moment asked.now.query.now reply ×
+        Sends R.ResponseHandler asked.now.request.now.message.metadata sink.old sink.new reply (header_of info)) }
     ensures refused { IfErr result (λ e. (e ≡ CatalogError.Memory) × IsUntouched R.ResponseHandler sink.old sink.new) }
 {
-    match ask_for_transfer(chain, alloc, request, now) {
+    let alloc = asked.alloc;
+    let request = asked.request;
+    match ask_for_transfer(asked.chain, alloc, request, asked.moment) {
         None => {
             let message = request.message();
             Ok(send_error(sink, alloc, message, edns, ResponseCode::SERV_FAIL))
         }
         Some((outcome, context)) => {
             let told = answer_transferred(
-                &catalog.signer,
+                &asked.catalog.signer,
                 alloc,
                 request,
                 edns,
@@ -168,24 +178,26 @@ fn answer_transfer<S: ReplySigner, H: ZoneHandler, R: ResponseHandler>(
 
 /// Answers a query of a zone, but for a transfer, by its handlers, and hands the reply over, with this EDNS.
 fn answer_lookup<S: ReplySigner, H: ZoneHandler, R: ResponseHandler>(
-    catalog: &Catalog<S, H>,
-    chain: &[H],
-    alloc: Global,
-    request: &Request,
+    asked: &ZoneQuery<'_, S, H>,
     edns: &mut Option<Edns>,
-    now: u64,
-    query: &LowerQuery,
     sink: &mut R,
 ) -> Result<ResponseInfo, CatalogError>
-    requires { (query.now.query_type == 252) ≡ false }
+    requires { (asked.now.query.now.query_type == 252) ≡ false }
     ensures replied { IfOk result (λ info. (reply : Reply) ×
-        ZoneReply (server_of H.ZoneHandler S.signature_for catalog.now) chain.now request.now edns.old now query.now reply ×
-        Sends R.ResponseHandler request.now.message.metadata sink.old sink.new reply (header_of info)) }
+        ZoneReply (server_of H.ZoneHandler S.signature_for asked.now.catalog.now) asked.now.chain.now asked.now.request.now edns.old asked.now.moment asked.now.query.now reply ×
+        Sends R.ResponseHandler asked.now.request.now.message.metadata sink.old sink.new reply (header_of info)) }
     ensures refused { IfErr result (λ e. (e ≡ CatalogError.Memory) × IsUntouched R.ResponseHandler sink.old sink.new) }
 {
-    let info = RequestInfo::new(request.src(), request.protocol(), request.metadata(), query);
+    let alloc = asked.alloc;
+    let request = asked.request;
+    let info = RequestInfo::new(
+        request.src(),
+        request.protocol(),
+        request.metadata(),
+        asked.query,
+    );
     let options = LookupOptions::from_edns(edns.as_ref());
-    let answer = chain_answer(chain, alloc, request, &info, options);
+    let answer = chain_answer(asked.chain, alloc, request, &info, options);
     match answer.answer.map_result() {
         None => Ok(send_error(
             sink,
@@ -195,13 +207,10 @@ fn answer_lookup<S: ReplySigner, H: ZoneHandler, R: ResponseHandler>(
             ResponseCode::SERV_FAIL,
         )),
         Some(outcome) => {
-            let handler = &chain[answer.place];
+            let handler = &asked.chain[answer.place];
             let context = answer.context;
-            let signer = &catalog.signer;
             let mut rest = outcome;
-            let told = answer_outcome(
-                signer, handler, alloc, request, edns, query, &mut rest, &context, sink,
-            );
+            let told = answer_outcome(asked, handler, &mut rest, &context, edns, sink);
             drop(rest);
             drop(context);
             told
@@ -231,11 +240,18 @@ pub(crate) fn answer_query<S: ReplySigner, H: ZoneHandler, R: ResponseHandler>(
     match catalog.find(info.query.name())? {
         None => Ok(send_error(sink, alloc, message, edns, ResponseCode::REFUSED)),
         Some(chain) => {
-            let chain = chain.as_slice();
+            let asked = ZoneQuery {
+                catalog,
+                chain: chain.as_slice(),
+                alloc,
+                request,
+                query: info.query,
+                moment: now,
+            };
             if info.query.query_type().value() == RecordType::AXFR.value() {
-                answer_transfer(catalog, chain, alloc, request, edns, now, info.query, sink)
+                answer_transfer(&asked, edns, sink)
             } else {
-                answer_lookup(catalog, chain, alloc, request, edns, now, info.query, sink)
+                answer_lookup(&asked, edns, sink)
             }
         }
     }

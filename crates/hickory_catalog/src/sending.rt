@@ -4,7 +4,7 @@ ghost use Rattle.std.specs.Prelude.{◌≡◌};
 ghost use Rattle.std.specs.Iterator.{IsFinite};
 ghost use Rattle.std.specs.Option.{option_copied};
 ghost use Rattle.hickory_wire.specs.serialize.writing.Reply.{Reply};
-ghost use Rattle.hickory_base.specs.responses.Responses.{GivesBy, IsReplyOf, header_of};
+ghost use Rattle.hickory_base.specs.responses.Responses.{IsReplyBy, header_of};
 ghost use Rattle.hickory_catalog.specs.Replies.{contents_of, error_reply, plain_reply};
 ghost use Rattle.hickory_catalog.specs.Sending.{Sends, failure_header};
 
@@ -57,7 +57,7 @@ where
     requires soa { S.can_next response.soa × IsFinite (S.remaining response.soa) }
     requires additionals { D.can_next response.additionals × IsFinite (D.remaining response.additionals) }
     // The reply that is sent is the one that the response determines.
-    ensures { (reply : Reply) → ((r : Reply) → IsReplyOf (GivesBy A.next_gives A.Item.record_of) (GivesBy N.next_gives N.Item.record_of) (GivesBy S.next_gives S.Item.record_of) (GivesBy D.next_gives D.Item.record_of) response.entry r → r ≡ reply)
+    ensures { (reply : Reply) → ((r : Reply) → IsReplyBy A.next_gives A.Item.record_of N.next_gives N.Item.record_of S.next_gives S.Item.record_of D.next_gives D.Item.record_of response.entry r → r ≡ reply)
         → Sends R.ResponseHandler request.now sink.old sink.new reply (header_of result) }
 {
     match sink.send_response(alloc, response) {

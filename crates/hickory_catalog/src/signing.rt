@@ -4,7 +4,7 @@ ghost use Rattle.std.specs.Prelude.{◌≡◌, ◌≢◌, [], IfOk, IfErr, OnOk,
 ghost use Rattle.std.specs.Option.{option_copied};
 ghost use Rattle.hickory_wire.specs.serialize.writing.Encoder.{IsSameVector, max_size, written_bytes};
 ghost use Rattle.hickory_wire.specs.serialize.writing.Reply.{Reply};
-ghost use Rattle.hickory_wire.specs.serialize.writing.ReplyParts.{Refused};
+ghost use Rattle.hickory_wire.specs.serialize.writing.ReplyParts.{CannotBeWritten};
 ghost use Rattle.hickory_wire.specs.serialize.writing.Writing.{Fronts, Written};
 ghost use Rattle.hickory_base.specs.responses.Responses.{header_of};
 ghost use Rattle.hickory_catalog.specs.Replies.{contents_of, plain_reply};
@@ -33,7 +33,7 @@ fn emit(
     requires { written_bytes encoder.old ≡ [] }
     ensures same_vector { IsSameVector encoder.old encoder.new }
     ensures written { OnOk result ((fronts : Fronts) × Written (max_size encoder.old) (plain_reply request.now (option_copied edns.entry) (contents_of contents.now)) (written_bytes encoder.new) fronts) }
-    ensures refused { IfErr result (λ e. e ≢ ProtoError.Memory → Refused (max_size encoder.old) (plain_reply request.now (option_copied edns.entry) (contents_of contents.now)) e) }
+    ensures refused { IfErr result (λ e. e ≢ ProtoError.Memory → CannotBeWritten (max_size encoder.old) (plain_reply request.now (option_copied edns.entry) (contents_of contents.now)) e) }
 {
     response(request, edns, contents).destructive_emit(encoder)
 }
@@ -46,7 +46,7 @@ fn written(
     contents: &ReplyContents,
 ) -> Result<Vec<u8>, ProtoError>
     ensures written { IfOk result (λ bytes. (fronts : Fronts) × Written 65535 (plain_reply request.now (option_copied edns.entry) (contents_of contents.now)) bytes.items fronts) }
-    ensures refused { IfErr result (λ e. e ≢ ProtoError.Memory → Refused 65535 (plain_reply request.now (option_copied edns.entry) (contents_of contents.now)) e) }
+    ensures refused { IfErr result (λ e. e ≢ ProtoError.Memory → CannotBeWritten 65535 (plain_reply request.now (option_copied edns.entry) (contents_of contents.now)) e) }
 {
     let mut bytes = Vec::new(alloc);
     emit(

@@ -1,6 +1,6 @@
 //! From a dynamic update to its one reply (RFC 2136).
 
-ghost use Rattle.std.specs.Prelude.{◌≡◌, ℕ, IfOk, IfErr, Some};
+ghost use Rattle.std.specs.Prelude.{◌≡◌, ◌<◌, ◌^◌, ℕ, IfOk, IfErr, Some};
 ghost use Rattle.std.specs.Option.{option_copied};
 ghost use Rattle.hickory_wire.specs.serialize.writing.Reply.{Reply};
 ghost use Rattle.hickory_base.specs.responses.Responses.{header_of};
@@ -122,7 +122,7 @@ fn answer_updated<S: ReplySigner, R: ResponseHandler>(
     context: &Option<TSigResponseContext>,
     sink: &mut R,
 ) -> Result<ResponseInfo, CatalogError>
-    ensures replied { IfOk result (λ info. (reply : Reply) × (code : ℕ) × (update_code answer.now ≡ Some code) ×
+    ensures replied { IfOk result (λ info. (reply : Reply) × (code : ℕ) × (update_code answer.now ≡ Some code) × (code < 2 ^ 12) ×
         SignedReply (S.signature_for signer.now) request.now.message edns.old (update_contents request.now.message.metadata.id code) context.now reply ×
         Sends R.ResponseHandler request.now.message.metadata sink.old sink.new reply (header_of info)) }
     ensures refused { IfErr result (λ e. (e ≡ fault_after answer.now) × IsUntouched R.ResponseHandler sink.old sink.new) }

@@ -1,4 +1,4 @@
-use Rattle.hickory_catalog.proofs.ForwardedReplies.{authenticated, nothing_bogus, on_demand}
+use Rattle.hickory_catalog.proofs.ForwardedReplies.{authenticated, carries_soa, nothing_bogus, on_demand}
 use Rattle.hickory_catalog.proofs.laws.forwarded_replies.Goals as goal
 
 pub returns-clause-authentic : goal.returns-clause-authentic
@@ -9,3 +9,6 @@ returns-clause-bogus c = nothing_bogus
 
 pub returns-clause-dnssec : goal.returns-clause-dnssec
 returns-clause-dnssec c = on_demand
+
+pub returns-clause-soa : goal.returns-clause-soa
+returns-clause-soa c = carries_soa

@@ -24,7 +24,7 @@ returns-then-value-clause-replied g c =
     (λ info w. (
       w.0,
       zone c.in-Ok.ensures.query (finds_some c.args.catalog.now.zones (λ chain. chain.now.items) c.name.result.now _ c.in_ok-find.field-0 c.in-Some.chain c.in_ok-find.ensures.found c.in-Some.is c.name.ensures)
-          (rw c.as_slice-chain.ensures.value at w.1),
+          (rw c.as_slice.ensures.value at w.1),
       w.2,
     ))
 
@@ -34,6 +34,6 @@ returns-else-value-clause-replied g c =
     (λ info w. (
       w.0,
       zone c.in-Ok.ensures.query (finds_some c.args.catalog.now.zones (λ chain. chain.now.items) c.name.result.now _ c.in_ok-find.field-0 c.in-Some.chain c.in_ok-find.ensures.found c.in-Some.is c.name.ensures)
-          (rw c.as_slice-chain.ensures.value at w.1),
+          (rw c.as_slice.ensures.value at w.1),
       w.2,
     ))

@@ -6,7 +6,7 @@ use Rattle.hickory_catalog.proofs.queries.answer_transfer.Goals as goal
 
 pub returns-in-None-clause-replied : goal.returns-in-None-clause-replied
 returns-in-None-clause-replied g c = (
-  error_reply c.args.request.now.message c.args.edns.now 2,
+  error_reply c.args.asked.now.request.now.message c.args.edns.now 2,
   untransferred c.requires (rw c.in-None.is at c.ask_for_transfer.ensures) refl,
   search rules,
 )

@@ -17,4 +17,4 @@ returns-in-NoHandler-clause-replied g c =
 pub returns-in-Answered-clause-replied : goal.returns-in-Answered-clause-replied
 returns-in-Answered-clause-replied g c =
     let updated = rw c.in-Answered.is at c.update.ensures in
-    if_ok_map c.answer_updated-told.result _ _ c.answer_updated-told.ensures.replied (λ info w. (w.0, answered (search rules) updated w.2 w.3, w.4))
+    if_ok_map c.answer_updated-told.result _ _ c.answer_updated-told.ensures.replied (λ info w. (w.0, answered (search rules) updated w.2 w.3 w.4, w.5))
