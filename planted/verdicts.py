@@ -85,5 +85,7 @@ def read_output(output, status):
     said.is_rejected = status == 1 and not said.is_judged
     for message in joined(lines):
         read_message(said, message)
-    said.first = next((it for it in lines if TOLD.match(it)), lines[0] or "it said nothing")
+    told = [it for it in lines if TOLD.match(it)]
+    # (a note on how a proof is written says least of why the check ended as it did)
+    said.first = next((it for it in told if ": note: " not in it), next(iter(told), lines[0] or "it said nothing"))
     return said

@@ -1,4 +1,4 @@
-//! Zones, the catalog of them, and the messages of which replies are made.
+//! Zones, the catalog of them with the laws of its replies, and the messages of which replies are made.
 
 pub use hickory_base::errors::{CatalogError, DnsError, LookupError, UpdateFault};
 pub use hickory_base::message_request::{MessageRequest, Queries};
@@ -10,7 +10,7 @@ pub use hickory_base::zone_store::{
     ZoneHandler, ZoneTransfer, ZoneType,
 };
 pub use hickory_base::{message_request, message_response, update_request};
-pub use hickory_catalog::catalog;
 pub use hickory_catalog::catalog::Catalog;
 pub use hickory_catalog::signer::{ReplySigner, SignError};
 pub use hickory_catalog::zones::find_laws;
+pub use hickory_catalog::{catalog, laws};

@@ -78,6 +78,14 @@ impl<'a> Asked<'a> {
         asked
     }
 
+    /// An update of the zone that a request names.
+    pub(crate) fn update(name: &'a LowerName, record_type: RecordType, id: u16) -> Asked<'a> {
+        let mut asked = Asked::about("update", name, LookupOptions { dnssec_ok: false });
+        asked.record_type = Some(record_type);
+        asked.id = Some(id);
+        asked
+    }
+
     /// A call for NSEC records.
     pub(crate) fn nsec(name: &'a LowerName, options: LookupOptions) -> Asked<'a> {
         Asked::about("nsec", name, options)

@@ -134,6 +134,18 @@ fn consult_part(
     }
 }
 
+/// A part's answer to an update.
+fn update_part(part: &Part, alloc: Global, request: &Request) -> Result<bool, UpdateFault> {
+    let asked = match request.message().queries.queries() {
+        [query] => Asked::update(query.name(), query.query_type(), request.metadata().id),
+        _ => return part.updated(),
+    };
+    match note(part, alloc, &asked) {
+        Ok(()) => part.updated(),
+        Err(_e) => Err(UpdateFault::Memory),
+    }
+}
+
 impl ZoneHandler for Handler {
     ghost zone_type_of = { λ handler. handler.zone_type };
 
@@ -299,6 +311,10 @@ impl ZoneHandler for Handler {
     ) -> (Result<bool, UpdateFault>, Option<TSigResponseContext>) {
         match &mut self.source {
             Source::Updatable(zone) => zone.update(alloc, request, now),
+            Source::Part(part) => {
+                let answer = update_part(part, alloc, request);
+                (answer, context_of(part, request.metadata().id))
+            }
             _ => (Err(UpdateFault::Code(ResponseCode::NOT_IMP)), None),
         }
     }

@@ -6,7 +6,7 @@ use hickory_server::proto::{
     Boxed, DNSClass, Items, Name, Proof, Query, Record, RecordType, ResponseCode,
 };
 use hickory_server::zone_handler::{
-    AuthLookup, DnsError, Lookup, LookupControlFlow, LookupError, ZoneTransfer,
+    AuthLookup, DnsError, Lookup, LookupControlFlow, LookupError, UpdateFault, ZoneTransfer,
 };
 use std::alloc::{AllocError, Global};
 
@@ -80,6 +80,8 @@ pub(crate) struct Part {
     /// What its calls answer; of two answers to one call the later counts. A call without an answer is skipped, and a
     /// consult without one gives back what it is about.
     pub(crate) answers: Vec<Answer>,
+    /// What an update answers.
+    pub(crate) update: Result<bool, UpdateFault>,
     /// Where its calls are noted.
     pub(crate) log: CallLog,
 }
@@ -300,6 +302,14 @@ impl Part {
             None => last,
             Some(answer) => answer.consulted(alloc, last),
         }
+    }
+
+    /// What an update answers.
+    pub(crate) fn updated(&self) -> Result<bool, UpdateFault> {
+        if matches!(self.update, Err(UpdateFault::Memory)) {
+            self.log.want_memory();
+        }
+        self.update
     }
 
     /// What a transfer answers.

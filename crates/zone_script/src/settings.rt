@@ -1,5 +1,6 @@
 //! What holds for the messages that follow.
 
+use crate::sink::Sinking;
 use hickory_server::proto::Protocol;
 use std::net::{IpAddr, Ipv4Addr, SocketAddr};
 
@@ -27,16 +28,19 @@ pub(crate) struct Settings {
     pub(crate) now: u64,
     /// How replies to them are printed.
     pub(crate) printed: Printed,
+    /// What the sink does with replies to them.
+    pub(crate) sinking: Sinking,
 }
 
 impl Settings {
-    /// Over UDP from 127.0.0.1, port 53, at the moment 0, replies as `dig` prints them.
+    /// Over UDP from 127.0.0.1, port 53, at the moment 0, replies as `dig` prints them, to a sink that works.
     pub(crate) fn new() -> Settings {
         Settings {
             protocol: Protocol::Udp,
             source: SocketAddr::new(IpAddr::V4(Ipv4Addr::LOCALHOST), 53),
             now: 0,
             printed: Printed::Dig,
+            sinking: Sinking::Works,
         }
     }
 }

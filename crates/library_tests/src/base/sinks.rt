@@ -6,7 +6,7 @@ ghost use Rattle.std.specs.Option.{option_copied};
 ghost use Rattle.hickory_wire.specs.serialize.writing.Reply.{size_limit};
 ghost use Rattle.hickory_wire.specs.serialize.writing.ReplyParts.{ReplyEncoded};
 ghost use Rattle.hickory_wire.specs.declared.protocol.Protocol.TheVariants as protocol;
-ghost use Rattle.hickory_base.specs.responses.Responses.{GivesBy, IsReplyOf};
+ghost use Rattle.hickory_base.specs.responses.Responses.{GivesBy, IsReplyBy};
 
 use crate::base::fixtures::{QUERY, request};
 use hickory_base::errors::CatalogError;
@@ -124,7 +124,7 @@ where
     requires authorities { N.can_next response.authorities × IsFinite (N.remaining response.authorities) }
     requires soa { S.can_next response.soa × IsFinite (S.remaining response.soa) }
     requires additionals { D.can_next response.additionals × IsFinite (D.remaining response.additionals) }
-    ensures { IfOk result (λ kept. IsReplyOf (GivesBy A.next_gives A.Item.record_of) (GivesBy N.next_gives N.Item.record_of) (GivesBy S.next_gives S.Item.record_of) (GivesBy D.next_gives D.Item.record_of) response.entry kept) }
+    ensures { IfOk result (λ kept. IsReplyBy A.next_gives A.Item.record_of N.next_gives N.Item.record_of S.next_gives S.Item.record_of D.next_gives D.Item.record_of response.entry kept) }
 {
     Ok(KeptReply {
         metadata: response.metadata,

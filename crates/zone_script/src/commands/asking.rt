@@ -1,17 +1,18 @@
 //! What is asked of the server.
 
 use crate::commands::zones::type_word;
+use crate::draft::put_header;
 use crate::fault::Fault;
 use crate::handler::Handler;
 use crate::printing::print_reply;
 use crate::question::{REPLY_DNSSEC_OK, message};
 use crate::script::Script;
+use crate::sink::ScriptedSink;
 use crate::text::lower_name;
-use hickory_base::encoding_sink::EncodingSink;
 use hickory_server::proto::{Edns, LowerName};
-use hickory_server::server::{Request, RequestHandler};
+use hickory_server::server::{Request, RequestHandler, ResponseInfo};
 use hickory_server::zone_handler::{CatalogError, ZoneHandler};
-use std::alloc::Global;
+use std::alloc::{AllocError, Global};
 use std::fmt::Write;
 
 /// Puts the calls of scripted handlers behind a text, and tells whether one of them was answered as if memory had been
@@ -22,15 +23,30 @@ pub(crate) fn print_calls(script: &Script, alloc: Global, out: &mut String) -> R
     Ok(calls.wants_memory)
 }
 
-/// Puts the replies of a sink behind a text.
+/// Puts behind a text how often a sink failed and how many replies it has, and what the server told then.
+fn print_failure(
+    sink: &ScriptedSink,
+    info: &ResponseInfo,
+    out: &mut String,
+) -> Result<(), AllocError> {
+    let (failures, entries) = (sink.failures(), sink.replies().len());
+    write!(out, "sink: failures {failures}, entries {entries}\ntold: ")?;
+    put_header(info.metadata(), info.counts(), out)
+}
+
+/// Puts the replies of a sink behind a text, and above them what became of it where it failed.
 fn print_replies(
     script: &Script,
     alloc: Global,
-    sink: &EncodingSink,
+    info: &ResponseInfo,
+    sink: &ScriptedSink,
     out: &mut String,
 ) -> Result<(), Fault> {
-    if sink.failures() > 0 {
+    if sink.wants_memory() {
         return Err(Fault::Memory);
+    }
+    if sink.failures() > 0 {
+        print_failure(sink, info, out)?;
     }
     for reply in sink.replies() {
         print_reply(alloc, out, script.settings.printed, reply.as_slice())?;
@@ -38,21 +54,34 @@ fn print_replies(
     Ok(())
 }
 
+/// What is printed where the server lacks memory because a script has it lack it.
+fn want_of_memory(e: CatalogError) -> &'static str {
+    match e {
+        CatalogError::Memory => "no memory\n",
+        CatalogError::MemoryAfterUpdate => "no memory, after an update was made\n",
+    }
+}
+
 /// Puts the calls and the replies behind a text, where the catalog told so. That it lacked memory is what is printed where
-/// a scripted handler was to answer so.
+/// a scripted handler, or a scripted signer, was to answer so.
 fn print_outcome(
     script: &Script,
     alloc: Global,
-    told: Option<CatalogError>,
-    sink: &EncodingSink,
+    told: Result<ResponseInfo, CatalogError>,
+    sink: &ScriptedSink,
     out: &mut String,
 ) -> Result<(), Fault> {
     let wants_memory = print_calls(script, alloc, out)?;
     match told {
-        None => print_replies(script, alloc, sink, out),
-        Some(_) if wants_memory => out.push_str("no memory\n").map_err(Fault::from),
-        Some(e) => Err(Fault::from(e)),
+        Ok(info) => print_replies(script, alloc, &info, sink, out),
+        Err(e) if wants_memory => out.push_str(want_of_memory(e)).map_err(Fault::from),
+        Err(e) => Err(Fault::from(e)),
     }
+}
+
+/// A sink for the replies to what a script asks.
+fn new_sink(script: &Script, alloc: Global) -> ScriptedSink {
+    ScriptedSink::new(alloc, script.settings.protocol, script.settings.sinking)
 }
 
 /// The request of these bytes.
@@ -68,12 +97,11 @@ fn answer(
     request: &Request,
     out: &mut String,
 ) -> Result<(), Fault> {
-    let mut sink = EncodingSink::new(alloc, script.settings.protocol);
+    let mut sink = new_sink(script, alloc);
     let now = script.settings.now;
     let told = script
         .catalog
-        .handle_request(alloc, request, now, &mut sink)
-        .err();
+        .handle_request(alloc, request, now, &mut sink);
     print_outcome(script, alloc, told, &sink, out)
 }
 
@@ -93,12 +121,9 @@ fn answer_lookup(
     edns: Option<&Edns>,
     out: &mut String,
 ) -> Result<(), Fault> {
-    let mut sink = EncodingSink::new(alloc, script.settings.protocol);
+    let mut sink = new_sink(script, alloc);
     let now = script.settings.now;
-    let told = script
-        .catalog
-        .lookup(alloc, request, edns, now, &mut sink)
-        .err();
+    let told = script.catalog.lookup(alloc, request, edns, now, &mut sink);
     print_outcome(script, alloc, told, &sink, out)
 }
 

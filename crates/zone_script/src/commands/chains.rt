@@ -9,7 +9,7 @@ use crate::sections::Section;
 use crate::text::lower_name;
 use crate::words::setting;
 use hickory_server::proto::{CodeTextError, LowerName, Octets, Proof, Record, ResponseCode};
-use hickory_server::zone_handler::{AxfrPolicy, NxProofKind, ZoneType};
+use hickory_server::zone_handler::{AxfrPolicy, NxProofKind, UpdateFault, ZoneType};
 use std::alloc::Global;
 use std::fmt::Write;
 use std::mem;
@@ -89,6 +89,7 @@ fn part_handler(
         place: script.chain.len(),
         signs: words.signs,
         answers: Vec::new(alloc),
+        update: Err(UpdateFault::Code(ResponseCode::NOT_IMP)),
         log: script.log.share()?,
     };
     Ok(Handler {
@@ -113,7 +114,7 @@ fn begin(script: &mut Script, alloc: Global, origin: &str, words: &[&str]) -> Re
 }
 
 const ANSWER_USAGE: &str =
-    "on search|consult|lookup|denial|transfer skip|continue|break|add [CODE|resolved [secure|insecure|bogus]|empty|no-records CODE|bogus|failed|unreadable|memory]";
+    "on search|consult|lookup|denial|transfer skip|continue|break|add [CODE|resolved [secure|insecure|bogus]|empty|no-records CODE|bogus|failed|unreadable|memory], on update changed|unchanged|CODE|memory";
 
 /// The call of a word.
 fn call(word: &str) -> Result<Call, Fault> {
@@ -183,6 +184,24 @@ fn begin_answer(script: &mut Script, alloc: Global, words: &[&str]) -> Result<()
     let part = last_part(script)?;
     part.answers.push(Answer::new(alloc, call, flow, outcome))?;
     script.place = Place::Answer(Section::Answers);
+    Ok(())
+}
+
+/// What an update answers, by a word.
+fn updated(word: &str) -> Result<Result<bool, UpdateFault>, CodeTextError> {
+    Ok(match word {
+        "changed" => Ok(true),
+        "unchanged" => Ok(false),
+        "memory" => Err(UpdateFault::Memory),
+        code => Err(UpdateFault::Code(code.parse::<ResponseCode>()?)),
+    })
+}
+
+/// Sets what an update of the part last begun answers.
+fn set_update(script: &mut Script, word: &str) -> Result<(), Fault> {
+    let answer = updated(word)?;
+    last_part(script)?.update = answer;
+    script.place = Place::Nothing;
     Ok(())
 }
 
@@ -264,6 +283,7 @@ pub(crate) fn obey(
     Some(match words {
         ["part", origin, words @ ..] => begin(script, alloc, origin, words),
         ["part"] => Err(Fault::Usage(PART_USAGE)),
+        ["on", "update", word] => set_update(script, word),
         ["on", words @ ..] => begin_answer(script, alloc, words),
         ["serve", apex] => serve(script, alloc, apex, out),
         ["serve", ..] => Err(Fault::Usage("serve NAME")),

@@ -1,5 +1,6 @@
 //! Replies in bytes: one is put together part by part, and encoded.
 
+use crate::commands::records::put_fits;
 use crate::draft::Draft;
 use crate::fault::Fault;
 use crate::script::{Place, Script};
@@ -204,6 +205,15 @@ fn set_edns(
     Ok(())
 }
 
+/// Tells whether the OPT record of the reply's EDNS takes so many bytes at most.
+fn tell_edns_fits(script: &Script, room: &str, out: &mut String) -> Result<(), Fault> {
+    let room = room.parse::<usize>()?;
+    match &script.draft.edns {
+        Some(edns) => put_fits(edns.fits(room), out),
+        None => out.push_str("no EDNS\n").map_err(Fault::from),
+    }
+}
+
 /// Tells of the first option of a number in the reply's EDNS.
 fn find_option(script: &Script, code: &str, out: &mut String) -> Result<(), Fault> {
     let code = code.parse::<u16>()?;
@@ -303,6 +313,7 @@ fn obey_parts(
     Some(match words {
         ["reply", words @ ..] => begin(script, alloc, words),
         ["question", words @ ..] => add_question(script, alloc, words),
+        ["edns", "fits", room] => tell_edns_fits(script, room, out),
         ["edns", words @ ..] => set_edns(script, alloc, words, out),
         ["option", code] => find_option(script, code, out),
         ["signature", name, words @ ..] => sign(script, alloc, name, words),

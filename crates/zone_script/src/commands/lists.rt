@@ -3,11 +3,12 @@
 use crate::commands::zones::close;
 use crate::fault::Fault;
 use crate::handler::{Handler, Source};
+use crate::pieces::Pieces;
 use crate::script::{Place, Script};
 use crate::text::{lower_name, name};
 use hickory_server::proto::{Items, LowerName, Octets, RData, RecordType};
 use hickory_server::store::blocklist::{
-    BlocklistConfig, BlocklistConsultAction, BlocklistZoneHandler, CountedReader,
+    BlocklistConfig, BlocklistConsultAction, BlocklistZoneHandler, CountedReader, ListReader,
 };
 use hickory_server::zone_handler::{LookupControlFlow, LookupOptions, ZoneHandler};
 use hickory_server::zone_text::read_data;
@@ -136,7 +137,7 @@ fn joined(alloc: Global, strings: &Items<Octets>) -> Result<Vec<u8>, AllocError>
     Ok(bytes)
 }
 
-const BLOCK_USAGE: &str = "block TEXT or block \"STRING\" ..";
+const BLOCK_USAGE: &str = "block TEXT or block \"STRING\" .., block pieces STRING .. [fails]";
 
 /// The bytes of a text: as they stand, or where it begins with a double quote, what the strings of a TXT record have.
 fn text_bytes(alloc: Global, text: &str) -> Result<Vec<u8>, Fault> {
@@ -152,17 +153,50 @@ fn text_bytes(alloc: Global, text: &str) -> Result<Vec<u8>, Fault> {
     bytes
 }
 
-/// Adds a text to the list that stands last in the chain.
-fn block(script: &mut Script, alloc: Global, text: &str) -> Result<(), Fault> {
-    let bytes = text_bytes(alloc, text)?;
+/// Adds what a reader gives to the list that stands last in the chain.
+fn add<R: ListReader>(script: &mut Script, reader: &mut R) -> Result<(), Fault> {
     let Some(handler) = script.chain.last_mut() else {
         return Err(Fault::NoBlocklist);
     };
     let Source::Blocklist(list) = &mut handler.source else {
         return Err(Fault::NoBlocklist);
     };
-    list.add(&mut CountedReader::new(bytes.as_slice()))
-        .map_err(Fault::from)
+    list.add(reader).map_err(Fault::from)
+}
+
+/// Adds a text to the list that stands last in the chain.
+fn block(script: &mut Script, alloc: Global, text: &str) -> Result<(), Fault> {
+    let bytes = text_bytes(alloc, text)?;
+    add(script, &mut CountedReader::new(bytes.as_slice()))
+}
+
+/// The text of the pieces before a last word `fails`, if there is one.
+fn before_fails(text: &str) -> Option<&str> {
+    let pieces = text.strip_suffix("fails")?;
+    if pieces.trim_end().len() < pieces.len() {
+        Some(pieces)
+    } else {
+        None
+    }
+}
+
+/// Adds the strings of a text to the list that stands last in the chain, read one by one; the reader then ends or fails.
+fn block_strings(script: &mut Script, alloc: Global, text: &str, fails: bool) -> Result<(), Fault> {
+    let data = read_data(alloc, RecordType::TXT, text)?;
+    let added = match &data {
+        RData::TXT(strings) => add(script, &mut Pieces::new(strings.as_slice(), fails)),
+        _ => Err(Fault::Usage(BLOCK_USAGE)),
+    };
+    drop(data);
+    added
+}
+
+/// Adds the pieces of a text to the list that stands last in the chain.
+fn block_pieces(script: &mut Script, alloc: Global, text: &str) -> Result<(), Fault> {
+    match before_fails(text) {
+        Some(pieces) => block_strings(script, alloc, pieces, true),
+        None => block_strings(script, alloc, text, false),
+    }
 }
 
 /// The list that stands last in the chain.
@@ -247,6 +281,9 @@ pub(crate) fn obey(
     Some(match words {
         ["blocklist", origin, ..] => begin_line(script, alloc, origin, line),
         ["blocklist"] => Err(Fault::Usage(BLOCKLIST_USAGE)),
+        ["block", "pieces", _, ..] => {
+            block_pieces(script, alloc, behind(behind(line, "block"), "pieces"))
+        }
         ["block", ..] => block(script, alloc, behind(line, "block")),
         ["entries"] => print_entries(script, out),
         ["blocked", words @ ..] => print_blocked(script, alloc, words, out),

@@ -131,6 +131,21 @@ pub(crate) fn tell_record(alloc: Global, bytes: &[u8], out: &mut String) -> Resu
     }
 }
 
+/// Puts whether something fits a room behind a text.
+pub(crate) fn put_fits(fits: bool, out: &mut String) -> Result<(), Fault> {
+    let told = if fits { "fits\n" } else { "does not fit\n" };
+    out.push_str(told).map_err(Fault::from)
+}
+
+/// Tells whether the record of a text, with all names in full, takes so many bytes at most.
+fn tell_fits(alloc: Global, room: &str, text: &str, out: &mut String) -> Result<(), Fault> {
+    let room = room.parse::<usize>()?;
+    let record = text::record(alloc, text)?;
+    let fits = record.fits(room);
+    drop(record);
+    put_fits(fits, out)
+}
+
 /// Whether a record is equal to that of a text.
 fn equals(alloc: Global, first: &Record, second: &str) -> Result<bool, Fault> {
     let second = text::record(alloc, second)?;
@@ -168,6 +183,14 @@ pub(crate) fn obey(
     out: &mut String,
 ) -> Option<Result<(), Fault>> {
     Some(match words {
+        ["record", "fits", room, _, ..] => {
+            tell_fits(
+                alloc,
+                room,
+                behind_word(behind_word(behind_word(line))),
+                out,
+            )
+        }
         ["record", ..] => describe(alloc, behind_word(line), out),
         ["same", "record", ..] => compare(alloc, behind_word(behind_word(line)), out),
         _ => return None,

@@ -5,6 +5,7 @@ use crate::fault::Fault;
 use crate::printing::print_hex;
 use crate::script::Script;
 use crate::settings::Printed;
+use crate::sink::Sinking;
 use crate::words::octets;
 use hickory_server::proto::{NSIDPayload, Protocol};
 use std::alloc::Global;
@@ -60,6 +61,17 @@ fn set_now(script: &mut Script, seconds: &str) -> Result<(), Fault> {
     Ok(())
 }
 
+/// Sets what the sink does with replies.
+fn set_sink(script: &mut Script, words: &[&str]) -> Result<(), Fault> {
+    script.settings.sinking = match words {
+        ["works"] => Sinking::Works,
+        ["keeps"] => Sinking::Keeps,
+        ["fails"] => Sinking::Fails,
+        _ => return Err(Fault::Usage("sink works|keeps|fails")),
+    };
+    Ok(())
+}
+
 /// Takes away what identifies the server.
 fn forget_identifier(script: &mut Script) -> Result<(), Fault> {
     script.catalog.set_nsid(None);
@@ -95,6 +107,7 @@ pub(crate) fn obey(
         ["now", seconds] => set_now(script, seconds),
         ["now", ..] => Err(Fault::Usage("now SECONDS")),
         ["signer", words @ ..] => sign_by(script, alloc, words),
+        ["sink", words @ ..] => set_sink(script, words),
         ["identifier"] => print_identifier(script, alloc, out),
         ["identifier", "none"] => forget_identifier(script),
         ["identifier", digits @ ..] => identify(script, alloc, digits),

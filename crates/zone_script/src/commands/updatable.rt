@@ -124,6 +124,13 @@ fn set_allow_update(script: &mut Script, allow_update: bool) -> Result<(), Fault
     Ok(())
 }
 
+/// Takes all records out of the updatable zone last begun.
+fn empty(script: &mut Script, alloc: Global) -> Result<(), Fault> {
+    let zone = last_updatable_mut(script)?.in_memory_mut();
+    drop(zone.take_records(alloc));
+    Ok(())
+}
+
 /// The names of words.
 fn names(alloc: Global, words: &[&str]) -> Result<Vec<Name>, Fault> {
     let mut names = Vec::new(alloc);
@@ -277,6 +284,7 @@ pub(crate) fn obey(
         ["updates", "deny"] => set_allow_update(script, false),
         ["updates", "allow"] => set_allow_update(script, true),
         ["updates", ..] => Err(Fault::Usage("updates deny|allow")),
+        ["empty"] => empty(script, alloc),
         ["verifier", words @ ..] => verify_by(script, alloc, words),
         ["authorize", digits @ ..] => authorize(script, alloc, digits, out),
         _ => return None,

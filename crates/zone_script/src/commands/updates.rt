@@ -52,7 +52,7 @@ fn prerequisite(alloc: Global, words: &[&str], text: &str) -> Result<Record, Fau
 }
 
 const UPDATE_USAGE: &str =
-    "update add NAME TTL TYPE DATA, update delete NAME [TYPE [DATA]], update record RECORD, update HEX";
+    "update add NAME TTL TYPE DATA, update delete NAME [TYPE [DATA]], update record RECORD, update HEX, update all HEX ..";
 
 /// The record of a change (RFC 2136 section 2.5). The text is what stands behind the first word of its line.
 fn change(alloc: Global, words: &[&str], text: &str) -> Result<Record, Fault> {

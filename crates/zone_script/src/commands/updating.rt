@@ -1,13 +1,13 @@
 //! Whole updates of the updatable zone last begun (RFC 2136 section 3).
 
-use crate::commands::asking::received;
+use crate::commands::asking::{print_calls, received};
 use crate::commands::updatable::{
     UpdatableZone, last_updatable, last_updatable_mut, print_code, print_context,
 };
 use crate::fault::Fault;
 use crate::printing::print_hex;
 use crate::script::Script;
-use crate::words::octets;
+use crate::words::{octets, setting};
 use hickory_server::proto::{Record, ResponseCode, TSigResponseContext};
 use hickory_server::server::Request;
 use hickory_server::zone_handler::{MessageRequest, UpdateFault, UpdateRequest, ZoneHandler};
@@ -85,6 +85,65 @@ fn update(
     let request = received(script, alloc, octets(alloc, digits)?)?;
     let answered = answer(script, alloc, &request, out);
     drop(request);
+    answered
+}
+
+/// The requests of words in hex digits, one a word, each at the moment that a word `now=SECONDS` before it tells.
+fn requests_of(
+    script: &Script,
+    alloc: Global,
+    words: &[&str],
+) -> Result<Vec<(Request, u64)>, Fault> {
+    let mut now = script.settings.now;
+    let mut requests = Vec::new(alloc);
+    for word in words {
+        match setting(word) {
+            ("now", Some(seconds)) => now = seconds.parse::<u64>()?,
+            _ => requests.push((received(script, alloc, octets(alloc, &[word])?)?, now))?,
+        }
+    }
+    Ok(requests)
+}
+
+/// Puts behind a text whether all requests had their turn. Want of memory is what is told where the verifier was to answer
+/// so, and else an error.
+fn print_all(
+    script: &Script,
+    alloc: Global,
+    out: &mut String,
+    answer: Result<(), usize>,
+) -> Result<(), Fault> {
+    let wants_memory = print_calls(script, alloc, out)?;
+    match answer {
+        Ok(()) => out.push_str("all had their turn\n").map_err(Fault::from),
+        Err(count) if wants_memory => {
+            writeln!(out, "no memory, {count} had their turn").map_err(Fault::from)
+        }
+        Err(_) => Err(Fault::Memory),
+    }
+}
+
+/// Hands requests to the update of the zone, one after another.
+fn answer_all(
+    script: &mut Script,
+    alloc: Global,
+    requests: &[(Request, u64)],
+    out: &mut String,
+) -> Result<(), Fault> {
+    let answer = last_updatable_mut(script)?.update_all(alloc, requests);
+    print_all(script, alloc, out, answer)
+}
+
+/// Hands the requests of words to the update of the zone, one after another.
+fn update_all(
+    script: &mut Script,
+    alloc: Global,
+    words: &[&str],
+    out: &mut String,
+) -> Result<(), Fault> {
+    let requests = requests_of(script, alloc, words)?;
+    let answered = answer_all(script, alloc, &requests, out);
+    drop(requests);
     answered
 }
 
@@ -205,6 +264,20 @@ fn are_digits(words: &[&str]) -> bool {
     }
 }
 
+/// Hands what words tell to the update of the zone, if they tell whole updates.
+fn obey_update(
+    script: &mut Script,
+    alloc: Global,
+    words: &[&str],
+    out: &mut String,
+) -> Option<Result<(), Fault>> {
+    match words {
+        ["all", words @ ..] => Some(update_all(script, alloc, words, out)),
+        digits if are_digits(digits) => Some(update(script, alloc, digits, out)),
+        _ => None,
+    }
+}
+
 /// Obeys a command of this name, if it is one on whole updates.
 fn obey_command(
     script: &mut Script,
@@ -214,7 +287,7 @@ fn obey_command(
     out: &mut String,
 ) -> Option<Result<(), Fault>> {
     Some(match command {
-        "update" if are_digits(words) => update(script, alloc, words, out),
+        "update" => return obey_update(script, alloc, words, out),
         "unsigned" => unsigned(script, alloc, words, out),
         "send" => send(script, alloc, words, out),
         "apply" => apply(script, alloc, words, out),

@@ -17,7 +17,7 @@ use std::alloc::Global;
 use std::process::Abort;
 use std::test::Fail;
 
-/// A handler that answers with a number made of what it was asked.
+/// A handler whose answers and contexts tell what it was asked, by numbers.
 #[derive(Drop)]
 pub(crate) struct Scripted {
     origin: LowerName,
@@ -185,7 +185,7 @@ fn check_state<H: ZoneHandler>(rt: &impl Abort, handler: &H, origin: &LowerName)
     let answers = [
         handler.origin() == origin,
         !handler.can_validate_dnssec(),
-        handler.nx_proof_kind() == Some(&NxProofKind::Nsec),
+        matches!(handler.nx_proof_kind(), Some(NxProofKind::Nsec)),
     ];
     assert_eq!(rt; answers, [true; 3]);
 }
