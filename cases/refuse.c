@@ -1,6 +1,7 @@
 // Preloaded into a program, this refuses one of the calls that the program makes of the C library, by two words of the environment:
 // REFUSED_KIND is "memory", "read" (of the standard input) or "write" (to the standard output), and REFUSED_CALL is N for the Nth such
 // call, or N.. for that one and each after it. The first refusal is told on the standard error, by the line "refused".
+// Where REFUSED_KIND is "pieces" nothing is refused: each read of the input gives one byte, and each write to the output takes one.
 #define _GNU_SOURCE
 #include <errno.h>
 #include <stddef.h>
@@ -43,6 +44,11 @@ static int is_refused(const char *kind) {
     return calls == first || (calls > first && are_later_refused);
 }
 
+// How many bytes a call may move that is asked to move so many.
+static size_t moved(size_t count) {
+    return count > 1 && strcmp(refused_kind, "pieces") == 0 ? 1 : count;
+}
+
 static int is_memory_refused(void) {
     int refused = is_refused("memory");
     if (refused)
@@ -83,7 +89,7 @@ ssize_t read(int file, void *bytes, size_t count) {
         errno = EIO;
         return -1;
     }
-    return syscall(SYS_read, file, bytes, count);
+    return syscall(SYS_read, file, bytes, file == 0 ? moved(count) : count);
 }
 
 ssize_t write(int file, const void *bytes, size_t count) {
@@ -91,7 +97,7 @@ ssize_t write(int file, const void *bytes, size_t count) {
         errno = EIO;
         return -1;
     }
-    return syscall(SYS_write, file, bytes, count);
+    return syscall(SYS_write, file, bytes, file == 1 ? moved(count) : count);
 }
 
 ssize_t __write(int file, const void *bytes, size_t count) {
