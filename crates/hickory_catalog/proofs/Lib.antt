@@ -1,8 +1,10 @@
 pub mod Asking
 pub mod Belonging
+pub mod Between
 pub mod Consulting
 pub mod DecodedReplies
 pub mod ForwardedReplies
+pub mod LastUpTo
 pub mod Lookups
 pub mod Nearest
 pub mod OneAnswer
@@ -11,5 +13,6 @@ pub mod Places
 pub mod QueryReplies
 pub mod RepliesFit
 pub mod SentReplies
+pub mod SharedEnds
 pub mod Transferring
 pub mod Updating

@@ -10,6 +10,7 @@ pub mod Queries
 pub mod Replies
 pub mod ReplyEdns
 pub mod Requests
+pub mod Search
 pub mod Sending
 pub mod Server
 pub mod Signing
