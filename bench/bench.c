@@ -358,6 +358,11 @@ static void measure_maps(void)
 {
     EACH(i, entries) {
         char name[64];
+        snprintf(name, sizeof name, "z%u.example.", entries[i] / 2);
+        measure("zone lookup, at the apex", entries[i], FIND_ZONE, zone_names(entries[i]), one_name(name), 0);
+    }
+    EACH(i, entries) {
+        char name[64];
         snprintf(name, sizeof name, "www.z%u.example.", entries[i] / 2);
         measure("zone lookup, one label below", entries[i], FIND_ZONE, zone_names(entries[i]), one_name(name), 0);
     }
@@ -366,6 +371,8 @@ static void measure_maps(void)
         snprintf(name, sizeof name, "a.b.c.d.e.f.g.h.z%u.example.", entries[i] / 2);
         measure("zone lookup, eight labels below", entries[i], FIND_ZONE, zone_names(entries[i]), one_name(name), 0);
     }
+    EACH(i, entries)
+        measure("zone lookup, no zone", entries[i], FIND_ZONE, zone_names(entries[i]), one_name("www.other.test."), 0);
     EACH(i, entries)
         measure("access by networks", entries[i], ALLOW, networks(entries[i]), none, (10u << 24) + (entries[i] / 2 << 8) + 1);
 }
