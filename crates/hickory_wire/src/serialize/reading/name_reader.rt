@@ -12,10 +12,10 @@ use crate::rr::domain::name::Name;
 use std::alloc::Global;
 
 /// The first length byte of no label.
-const LABEL_LIMIT: usize = 64;
+pub(crate) const LABEL_LIMIT: usize = 64;
 
 /// The first byte of a pointer has these two bits set (RFC 1035, section 4.1.4).
-const POINTER_BITS: usize = 192;
+pub(crate) const POINTER_BITS: usize = 192;
 
 fn byte_at(bytes: &[u8], place: usize) -> Option<u8>
     ensures value { result ≡ slice_get bytes.now place }
