@@ -122,8 +122,8 @@ pub(crate) fn read_name_at(
     let mut steps = 0usize;
     'labels: loop {
         if let Some((rest, next)) = known_rest(known, after, start, place) {
-            let name = name_with_rest(alloc, &mut labels, rest)?;
-            return Ok((name, next, steps));
+            let whole = name_with_rest(alloc, &mut labels, rest)?;
+            return Ok((whole, next, steps));
         }
         let Some(high) = byte_at(bytes, place) else {
             return Err(DecodeError::InsufficientBytes);
