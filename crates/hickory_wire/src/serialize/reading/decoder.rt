@@ -1,6 +1,6 @@
 //! Reading from the front of a message to its end.
 
-ghost use Rattle.std.specs.Prelude.{◌≡◌, ◌≢◌, IfOk, IfErr, ◌+◌, ◌^◌, ◌≤◌, ◌<◌, length, slice_range, ℕ};
+ghost use Rattle.std.specs.Prelude.{◌≡◌, ◌≢◌, IfOk, IfErr, IfSome, ◌+◌, ◌^◌, ◌≤◌, ◌<◌, length, slice_range, ℕ};
 ghost use Rattle.std.specs.Int.{w8, w16, w32};
 ghost use Rattle.hickory_wire.specs.serialize.layout.Bytes.{AreBytes};
 ghost use Rattle.hickory_wire.specs.serialize.reading.Cursor.{Cursor};

@@ -9,6 +9,7 @@ use Rattle.hickory_wire.specs.serialize.layout.NameLayout.{LabelsAt}
 use Rattle.hickory_wire.specs.serialize.layout.NameLayout.LabelsAt.{at_end, at_label, at_pointer}
 use Rattle.hickory_wire.specs.serialize.reading.KnownNames.{IsRest, Holds, AreRests, labels_of}
 use Rattle.hickory_wire.specs.declared.serialize.reading.known_names.Rest.{Rest}
+use Rattle.hickory_wire.proofs.lemmas.rr.domain.WireForm.{cut_of}
 use Rattle.hickory_wire.proofs.lemmas.rr.domain.FirstLabel.{first_fits, rest_wire, rest_labels}
 use Rattle.hickory_wire.proofs.lemmas.serialize.layout.Stable.{LabelsAt-keeps, LabelsAt-same, KeepsFrom-same}
 
@@ -200,3 +201,6 @@ still_holds bytes labels more rests are = λ place rest e.
 
 pub rest_later : {bytes wire : List ℕ} {start start' place : ℕ} → start ≤ start' → IsRest bytes start place wire → IsRest bytes start' place wire
 rest_later h r = record { next = r.next; is_wire = r.is_wire; labels = begins_later h r.labels }
+
+pub rest_of_name : (bytes wire : List ℕ) (place next : ℕ) (labels : List (List ℕ)) → wire ≡ wire_form labels → IsWire wire → LabelsAt 0 bytes place place labels next → IsRest bytes place place wire
+rest_of_name bytes wire place next labels e w at = record { next = next; is_wire = w; labels = rw (cut_of wire labels e) at }
