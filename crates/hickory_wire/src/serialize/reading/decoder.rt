@@ -21,6 +21,7 @@ use std::marker::Model;
 /// The names of any message may take so many steps behind pointers, and one more for so many bytes of the message, before
 /// what they lead to is kept. The names of most messages take fewer.
 const FREE_STEPS: usize = 128;
+
 const BYTES_PER_STEP: usize = 4;
 
 /// A place in the bytes of a message, from where it is read on.

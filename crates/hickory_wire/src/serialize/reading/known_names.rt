@@ -87,7 +87,13 @@ fn note(rests: &mut Vec<Option<Rest>>, place: usize, rest: Rest) -> bool
 }
 
 /// Notes the rest at each place from one on, up to one that is noted. The labels there are those that are kept from `first` on.
-fn note_rests(bytes: &[u8], labels: &[u8], first: usize, place: usize, rests: &mut Vec<Option<Rest>>)
+fn note_rests(
+    bytes: &[u8],
+    labels: &[u8],
+    first: usize,
+    place: usize,
+    rests: &mut Vec<Option<Rest>>,
+)
     requires kept { AreRests bytes.now labels.now rests.old.items }
     requires within { first ≤ length labels.now }
     requires rest { IsRest bytes.now place place (drop first labels.now) }

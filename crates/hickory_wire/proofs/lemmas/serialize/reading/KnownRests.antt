@@ -106,12 +106,14 @@ module _ (wire label : List ℕ) (rest : List (List ℕ)) (n : ℕ) (w : IsWire 
 -- behind a label
 pub rest_behind : {bytes wire : List ℕ} {start place : ℕ} (n : ℕ) → n ≡ get_or bytes place 0 → 0 < n → n < 64 → IsRest bytes start place wire → IsRest bytes start (place + 1 + n) (drop (1 + n) wire) × (1 + n ≤ length wire)
 rest_behind {bytes} {wire} {start} {place} n h low high r =
-    let l : LabelHere bytes start place n (cut wire) r.next = label_stands n h low high r.labels in
-    (record {
-      next = r.next;
-      is_wire = behind_wire wire l.label l.rest n r.is_wire l.is l.len;
-      labels = rw (behind_labels wire l.label l.rest n r.is_wire l.is l.len) l.more;
-    }, behind_fits wire l.label l.rest n r.is_wire l.is l.len)
+    let l : LabelHere bytes start place n (cut wire) r.next = label_stands n h low high r.labels in (
+      record {
+        next = r.next;
+        is_wire = behind_wire wire l.label l.rest n r.is_wire l.is l.len;
+        labels = rw (behind_labels wire l.label l.rest n r.is_wire l.is l.len) l.more;
+      },
+      behind_fits wire l.label l.rest n r.is_wire l.is l.len,
+    )
 
 -- behind a pointer
 pub rest_led : {bytes wire : List ℕ} {start place : ℕ} (goal : ℕ) (r : IsRest bytes start place wire) → PointerHere bytes start place goal (cut wire) r.next → IsRest bytes goal goal wire

@@ -79,9 +79,9 @@ returns-in_err-whole-clause-gives c =
     let r = c.in-Some.ensures.rest c.args.bytes.now c.requires in
     let len = ap length r.is_wire.whole in
     fails_unless _ c.in_err-whole.field-0.0 _ _ c.from_residual.ensures.1 (λ ne.
-      let e = c.in_err-whole.ensures ne in
-      let long = too_many l.size r.labels l.invariant.size (omega (arith, l.invariant.written, e.1, len, name_len-wire_form (cut c.in-Some.rest.now))) in
-      fails_here _ _ l.after l.start l.place l.size _ _ l.invariant.so_far l.invariant.size long ∙ ap (λ (x : DecodeError). let y : LabelsRead = Err x in y) (sym e.0))
+    let e = c.in_err-whole.ensures ne in
+    let long = too_many l.size r.labels l.invariant.size (omega (arith, l.invariant.written, e.1, len, name_len-wire_form (cut c.in-Some.rest.now))) in
+    fails_here _ _ l.after l.start l.place l.size _ _ l.invariant.so_far l.invariant.size long ∙ ap (λ (x : DecodeError). let y : LabelsRead = Err x in y) (sym e.0))
 
 pub returns-in-Some-clause-gives : goal.returns-in-Some-clause-gives
 returns-in-Some-clause-gives c =
