@@ -1,6 +1,6 @@
-use Rattle.std.proofs.Common.{◌≡◌, ℕ, ◌+◌, ◌<◌, List, length, get_or, refl, sym, arith}
+use Rattle.std.proofs.Common.{refl, arith}
 use Rattle.hickory_wire.specs.rr.domain.DomainName.{cut}
-use Rattle.hickory_wire.proofs.lemmas.serialize.reading.KnownRests.{has_byte, ends_anywhere, pointer_stands, label_stands, scanned_none, scanned_label, least_of}
+use Rattle.hickory_wire.proofs.lemmas.serialize.reading.KnownRests.{has_byte, ends_anywhere, pointer_stands, scanned_none, scanned_label, least_of}
 use Rattle.hickory_wire.proofs.serialize.reading.known_names.least_start.Goals as goal
 
 pub labels-init : goal.labels-init

@@ -1,5 +1,4 @@
-use Rattle.std.proofs.Common.{◌≡◌, ℕ, ◌+◌, ◌-◌, ◌*◌, ◌<◌, List, length, get_or, drop, refl, arith}
-use Rattle.hickory_wire.specs.serialize.reading.KnownNames.{AreRests}
+use Rattle.std.proofs.Common.{drop, refl, arith}
 use Rattle.hickory_wire.proofs.lemmas.serialize.reading.KnownRests.{has_byte, pointer_stands, holds_rest, behind_in, rest_led}
 use Rattle.hickory_wire.proofs.serialize.reading.known_names.note_rests.Goals as goal
 

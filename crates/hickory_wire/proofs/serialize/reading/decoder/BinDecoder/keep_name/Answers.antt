@@ -2,7 +2,6 @@ use Rattle.std.proofs.Common.{◌≡◌, List, Option, Some, None, ℕ, sym, ap,
 use Rattle.std.specs.Prelude.{IfSome}
 use Rattle.hickory_wire.specs.serialize.reading.Cursor.{Cursor}
 use Rattle.hickory_wire.specs.serialize.reading.KnownNames.{IsRest}
-use Rattle.hickory_wire.specs.serialize.layout.NameLayout.{LabelsAt}
 use Rattle.hickory_wire.proofs.lemmas.serialize.reading.KnownRests.{rest_of_name}
 use Rattle.hickory_wire.proofs.serialize.reading.decoder.BinDecoder.keep_name.Goals as goal
 use Rattle.hickory_wire.proofs.serialize.reading.decoder.BinDecoder.keep_name.Goals.{then-is_none+in_ok-new+in-Some-1, then-is_none+in_ok-new+in-None-1, else-is_none}

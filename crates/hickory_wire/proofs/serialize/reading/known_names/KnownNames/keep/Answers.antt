@@ -1,4 +1,4 @@
-use Rattle.std.proofs.Common.{List, ℕ, ◌++◌, sym, subst, ◌∙◌}
+use Rattle.std.proofs.Common.{List, ℕ, sym, subst, ◌∙◌}
 use Rattle.hickory_wire.specs.serialize.reading.KnownNames.{AreRests}
 use Rattle.hickory_wire.proofs.lemmas.serialize.reading.KnownRests.{still_holds}
 use Rattle.hickory_wire.proofs.serialize.reading.known_names.KnownNames.keep.Goals as goal

@@ -1,5 +1,4 @@
-use Rattle.std.proofs.Common.{List, ℕ, sym, ap, subst, ◌∙◌}
-use Rattle.hickory_wire.specs.serialize.reading.KnownNames.{IsRest, labels_of}
+use Rattle.std.proofs.Common.{sym}
 use Rattle.hickory_wire.proofs.lemmas.serialize.reading.KnownRests.{rest_later}
 use Rattle.hickory_wire.proofs.serialize.reading.known_names.KnownNames.rest.Goals as goal
 
