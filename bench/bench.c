@@ -10,6 +10,7 @@
 #include "bench.h"
 #include "inputs.h"
 
+#include <dirent.h>
 #include <inttypes.h>
 #include <stdio.h>
 #include <stdlib.h>
@@ -398,8 +399,41 @@ static void measure_blocklist(void)
     }
 }
 
+static struct bytes bytes_of_file(const char *path)
+{
+    struct bytes made = {.room = UINT16_MAX};
+    FILE *file = fopen(path, "rb");
+    made.at = malloc(made.room);
+    if (file == NULL || made.at == NULL) {
+        perror(path);
+        exit(1);
+    }
+    made.len = fread(made.at, 1, made.room, file);
+    fclose(file);
+    return made;
+}
+
+static int is_shown(const struct dirent *entry) { return entry->d_name[0] != '.'; }
+
+// The messages that hostile.py wrote, each as a request: what it comes to is 1, or 0 where the side does not take it.
+static void measure_hostile(const char *folder)
+{
+    struct dirent **found;
+    int count = scandir(folder, &found, is_shown, alphasort);
+    for (int i = 0; i < count; i++) {
+        char path[512], name[64];
+        snprintf(path, sizeof path, "%s/%s", folder, found[i]->d_name);
+        snprintf(name, sizeof name, "long, %.50s", found[i]->d_name);
+        measure(name, UINT16_MAX, READ_REQUEST, bytes_of_file(path), none, 0);
+        free(found[i]);
+    }
+    if (count >= 0)
+        free(found);
+}
+
 int main(int argc, char **argv)
 {
+    char folder[256];
     if (argc < 2 || argc > 3) {
         fprintf(stderr, "usage: bench instructions|times|allocations [WORD]\n");
         return 2;
@@ -411,5 +445,8 @@ int main(int argc, char **argv)
     measure_zones();
     measure_maps();
     measure_blocklist();
+    // They lie beside this program.
+    snprintf(folder, sizeof folder, "%.*shostile", (int)(strrchr(argv[0], '/') == NULL ? 0 : strrchr(argv[0], '/') - argv[0] + 1), argv[0]);
+    measure_hostile(folder);
     return 0;
 }
