@@ -3,6 +3,8 @@ pub mod Decoding
 pub mod Encoder
 pub mod Endings
 pub mod FullForm
+pub mod NameTable
+pub mod Noted
 pub mod OwnerNames
 pub mod QuestionForm
 pub mod ReadingBack
@@ -11,4 +13,5 @@ pub mod Reply
 pub mod ReplyParts
 pub mod WholeReply
 pub mod Writing
+pub mod WritingByNotes
 pub mod WrittenParts

@@ -1,8 +1,14 @@
 -- Lemmas of what was written: it stands, keeps the limit and reads back.
 pub mod Chained
+pub mod CompressedData
+pub mod CompressedForms
+pub mod FirstPlaces
 pub mod FiveLists
 pub mod FormLengths
 pub mod FullForms
+pub mod Lookups
+pub mod NameSteps
+pub mod NotedRuns
 pub mod OctetLengths
 pub mod QuestionsMoved
 pub mod ReadingBack

@@ -15,6 +15,7 @@ use crate::op::op_code::OpCode;
 use crate::op::response_code::ResponseCode;
 use crate::rr::record::Record;
 use crate::rr::tsig::TSIG;
+use crate::serialize::writing::compression_table::CompressionTable;
 use crate::serialize::writing::encoder::BinEncoder;
 use crate::serialize::writing::header_encoder::{header_bytes, put_header};
 use crate::serialize::writing::list_encoder::{
@@ -132,9 +133,16 @@ where
         additionals,
         signature,
     } = parts;
-    let answers = write_list(bytes, limit, answers, None)?;
-    let authorities = write_list(bytes, limit, authorities.chain(soa), answers.fault)?;
-    let additionals = write_list(bytes, limit, additionals, authorities.fault)?;
+    let mut table = CompressionTable::new(*bytes.allocator());
+    let answers = write_list(bytes, &mut table, limit, answers, None)?;
+    let authorities = write_list(
+        bytes,
+        &mut table,
+        limit,
+        authorities.chain(soa),
+        answers.fault,
+    )?;
+    let additionals = write_list(bytes, &mut table, limit, additionals, authorities.fault)?;
     let opt = write_optional_edns(bytes, limit, edns, additionals.fault)?;
     let signature = write_optional_signature(bytes, limit, signature, opt.fault)?;
     Ok(Sections {
