@@ -63,8 +63,9 @@ struct Parts<'r> {
 }
 
 fn write_fixed(bytes: &mut Vec<u8>, fields: FixedFields) -> Result<(), AllocError>
-    ensures { OnOk result (bytes.new.items ≡ bytes.old.items ++
+    ensures bytes { OnOk result (bytes.new.items ≡ bytes.old.items ++
         (to_be_bytes w16 fields.record_type ++ to_be_bytes w16 fields.dns_class ++ to_be_bytes w32 fields.ttl ++ to_be_bytes w16 fields.len)) }
+    ensures ttl { fields.ttl < 2 ^ 32 }
 {
     let [type_high, type_low] = fields.record_type.to_be_bytes();
     let [class_high, class_low] = fields.dns_class.to_be_bytes();
@@ -126,9 +127,9 @@ fn write_whole_record<'n>(
     record: &'n Record,
 ) -> Result<(), AllocError>
     requires header { 12 ≤ length bytes.old.items }
-    requires form { unwritable_reason record.now.rdata ≡ None }
-    requires names { HasNames record.now.rdata }
-    requires small { data_len record.now.rdata ≤ 65535 }
+    requires form { unwritable_reason «record».now.rdata ≡ None }
+    requires names { HasNames «record».now.rdata }
+    requires small { data_len «record».now.rdata ≤ 65535 }
     ensures { OnOk result (WritesRecord bytes.old.items bytes.new.items table.old table.new «record».now) }
 {
     write_owner(bytes, table, &record.name)?;

@@ -71,10 +71,6 @@ module _ (old new : List ℕ) (notes notes' : Notes) (name : DomainName) (are : 
     stand = λ base len h. let r = name_stands_behind base len h in (stands (base ++ w.more) (length old) (length new) r.0, r.1);
   }
 
--- what is put behind bytes leaves the header
-pub labels_longer : {low : ℕ} {old new wire : List ℕ} {notes notes' : Notes} → low ≤ length old → WritesLabels old new notes notes' wire → low ≤ length new
-labels_longer {low} {old} {new} h w = omega (arith, h, ap length w.is, length-append old w.more)
-
 -- preference and exchange
 pub mx_data : (old mid new : List ℕ) (notes notes' : Notes) (mx : MX) → 12 ≤ length old → AreLabels mx.exchange.labels → mid ≡ old ++ to_be_bytes w16 mx.preference → WritesLabels mid new notes notes' (wire_form mx.exchange.labels) → WritesData old new notes notes' (rdata.MX mx)
 mx_data old mid new notes notes' mx low are e w =
@@ -87,8 +83,9 @@ mx_data old mid new notes notes' mx low are e w =
       in_full = tt;
       adds = keeps_added w.adds;
       stand = λ base len h.
-          let behind = AreNotes-keeps (KeepsFrom-append 12 base text) (omega (arith, size)) notes h in
-          let r = name_stands_behind mid new notes notes' mx.exchange are w (base ++ text) (omega (arith, length-append base text, size)) behind in
+          let behind : AreNotes (base ++ text) (length mid) notes = AreNotes-keeps (KeepsFrom-append 12 base text) (omega (arith, size)) notes h in
+          let behind_len : length (base ++ text) ≡ length mid = omega (arith, length-append base text, size, len) in
+          let r = name_stands_behind mid new notes notes' mx.exchange are w (base ++ text) behind_len behind in
           let same : (base ++ text) ++ w.more ≡ base ++ (text ++ w.more) = append_assoc base text w.more in (
             record {
               middle = length mid;

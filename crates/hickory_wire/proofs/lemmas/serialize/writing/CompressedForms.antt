@@ -56,10 +56,10 @@ patched named front more full new place len e at is =
     is ∙ rw (one, two) (sym (append_assoc (named ++ front) number more)) ∙ ap (λ b. b ++ more) (append_assoc named front number)
 
 -- the bytes before a record, with its owner name, with its fixed fields, with its data, and with the length put in
-module _ (old named fixed full new : List ℕ) (notes between notes' : Notes) (r : Record RData) (kind class ttl place len : ℕ) (low : 12 ≤ length old) (owner : AreLabels r.name.labels) (small : data_len r.rdata ≤ 65535) (in_range : IsRecordInRange r)
+module _ (old named fixed full new : List ℕ) (notes between notes' : Notes) (r : Record RData) (kind class ttl start place len : ℕ) (low : 12 ≤ length old) (owner : AreLabels r.name.labels) (small : data_len r.rdata ≤ 65535) (in_range : IsRecordInRange r)
     (w : WritesLabels old named notes between (wire_form r.name.labels)) (k : Compresses old named notes between (wire_form r.name.labels))
     (e2 : fixed ≡ named ++ (to_be_bytes w16 kind ++ to_be_bytes w16 class ++ to_be_bytes w32 ttl ++ to_be_bytes w16 0)) (ek : kind ≡ type_of r.rdata) (ec : class ≡ r.dns_class) (et : ttl ≡ r.ttl)
-    (d : WritesData fixed full between notes' r.rdata) (at : place + 2 ≡ length fixed) (el : len + length fixed ≡ length full) (e : new ≡ take place full ++ (to_be_bytes w16 len ++ drop (place + 2) full)) where
+    (d : WritesData fixed full between notes' r.rdata) (es : start ≡ length fixed) (at : place ≡ start - 2) (el : len + length fixed ≡ length full) (e : new ≡ take place full ++ (to_be_bytes w16 len ++ drop (place + 2) full)) where
   abbrev front : List ℕ
   front = to_be_bytes w16 (type_of r.rdata) ++ to_be_bytes w16 r.dns_class ++ to_be_bytes w32 r.ttl
 
@@ -70,7 +70,7 @@ module _ (old named fixed full new : List ℕ) (notes between notes' : Notes) (r
   fixed_len = omega (arith, ap length fixed_is, length-append named (front ++ to_be_bytes w16 0))
 
   new_is : new ≡ (named ++ fixed_fields r len) ++ d.more
-  new_is = patched named front d.more full new place len (d.is ∙ ap (λ b. b ++ d.more) fixed_is) (omega (arith, at, fixed_len)) e
+  new_is = patched named front d.more full new place len (d.is ∙ ap (λ b. b ++ d.more) fixed_is) (omega (arith, es, at, fixed_len)) e
 
   len_is : len ≡ length d.more
   len_is = omega (arith, el, ap length d.is, length-append fixed d.more)
@@ -97,7 +97,7 @@ module _ (old named fixed full new : List ℕ) (notes between notes' : Notes) (r
       let kept : KeepsFrom 12 named new = subst (λ b. KeepsFrom 12 named b) (sym (new_is ∙ append_assoc named (fixed_fields r len) d.more)) (KeepsFrom-append 12 named (fixed_fields r len ++ d.more)) in
       let fields : BytesAt new (length named) (fixed_fields r len) =
       subst (λ b. BytesAt b (length named) (fixed_fields r len)) (sym (new_is ∙ append_assoc named (fixed_fields r len) d.more)) (BytesAt-left (named ++ (fixed_fields r len ++ d.more)) (length named) (fixed_fields r len) d.more (BytesAt-append named (fixed_fields r len ++ d.more))) in
-      let data : DataAt 12 new (length named + 10) r.rdata (length new) =
+      let content : DataAt 12 new (length named + 10) r.rdata (length new) =
       subst (λ b. DataAt 12 b (length named + 10) r.rdata (length new)) (sym new_is) (subst (λ p. DataAt 12 (base ++ d.more) p r.rdata (length new)) fixed_len (subst (λ n. DataAt 12 (base ++ d.more) (length fixed) r.rdata n) (sym new_len) two.0)) in (
         record {
           middle = length named;
@@ -105,7 +105,7 @@ module _ (old named fixed full new : List ℕ) (notes between notes' : Notes) (r
           owner = record { labels = LabelsAt-keeps kept (omega arith) (omega arith) labels; short = owner.short };
           fixed = fields;
           small = omega (arith, len_is, d.short);
-          rdata = data;
+          rdata = content;
           counted = omega (arith, new_len, el, fixed_len);
         },
         subst (λ b. AreNotes b (length new) notes') (sym new_is) (subst (λ n. AreNotes (base ++ d.more) n notes') (sym new_len) two.1),

@@ -102,7 +102,7 @@ writes_end old new wire notes low e z =
       adds = adds_nothing (length wire) notes;
       stand = λ base start len at h. (
         subst (λ ls. LabelsAt 12 (base ++ 0 ∷ []) start (length old) ls (length new)) (sym (ap cut z ∙ cut-wire []))
-        (at_end low (BytesAt-behind base (0 ∷ []) (length old) len) (omega (arith, size))),
+            (at_end low (BytesAt-behind base (0 ∷ []) (length old) len) (omega (arith, size))),
         AreNotes-keeps (KeepsFrom-append 12 base (0 ∷ [])) (omega (arith, size)) notes h,
       );
     }

@@ -31,7 +31,7 @@ run_put limit rs r old mid new notes between notes' count e run p o =
 pub run_skips : (limit : ℕ) (rs : List (Record RData)) (r : Record RData) (old mid new : List ℕ) (notes between notes' : Notes) (count : ℕ) → count ≤ length rs → NotedRun limit old notes (take count rs) mid between → new ≡ mid → notes' ≡ between → NotedRun limit old notes (take count (rs ++ r ∷ [])) new notes'
 run_skips limit rs r old mid new notes between notes' count le run e f =
     subst (λ xs. NotedRun limit old notes xs new notes') (sym (take-append-le count rs (r ∷ []) le))
-      (subst (λ b. NotedRun limit old notes (take count rs) b notes') (sym e) (subst (λ ns. NotedRun limit old notes (take count rs) mid ns) (sym f) run))
+    (subst (λ b. NotedRun limit old notes (take count rs) b notes') (sym e) (subst (λ ns. NotedRun limit old notes (take count rs) mid ns) (sym f) run))
 
 -- two runs, one behind the other
 pub run_both : (limit : ℕ) (rs qs : List (Record RData)) (old mid new : List ℕ) (notes between notes' : Notes) → NotedRun limit old notes rs mid between → NotedRun limit mid between qs new notes' → NotedRun limit old notes (rs ++ qs) new notes'
@@ -49,19 +49,22 @@ no_wire (l ∷ ls) ne e = omega (arith, ap length e)
 remembers_more : (old new : List ℕ) (r : Record RData) (notes notes' : Notes) (placed : List OwnerPlace) → Remembers notes placed → OwnerNoted old r new notes notes' → Remembers notes' (placed ++ record { place = length old; labels = r.name.labels } ∷ [])
 remembers_more old new r notes notes' placed rem o place labels among lt ne =
     elim (Contains-push_cases placed (record { place = length old; labels = r.name.labels }) (record { place = place; labels = labels }) among) [
-      inl c ↦ HasNote-more notes notes' (wire_form labels) o.adds (rem place labels c lt ne)
-    | inr same ↦
-        let at : length old ≡ place = ap (λ (p : OwnerPlace). p.place) same in
-        let named : r.name.labels ≡ labels = ap (λ (p : OwnerPlace). p.labels) same in
-        let had = o.compresses.remembers (no_wire r.name.labels (λ n. ne (sym named ∙ n))) (omega arith) in
-        subst (λ ls. HasNote notes' (wire_form ls)) named had
+      | inl c ↦ HasNote-more notes notes' (wire_form labels) o.adds (rem place labels c lt ne)
+      | inr same ↦
+          let at : length old ≡ place = ap (λ (p : OwnerPlace). p.place) same in
+          let named : r.name.labels ≡ labels = ap (λ (p : OwnerPlace). p.labels) same in
+          let had = o.compresses.remembers (no_wire r.name.labels (λ n. ne (sym named ∙ n))) (omega arith) in
+          subst (λ ls. HasNote notes' (wire_form ls)) named had
     ]
 
 repeats_from : (limit : ℕ) (rs : List (Record RData)) (old new : List ℕ) (notes notes' : Notes) (placed : List OwnerPlace) → Remembers notes placed → NotedRun limit old notes rs new notes' → PutsRepeating limit placed old rs new
 repeats_from limit [] old new notes notes' placed rem run = run.0
-repeats_from limit (r ∷ rs) old new notes notes' placed rem (m, ns, one, noted, rest) =
-    (m, one, (λ place among lt ne. noted.compresses.repeats (no_wire r.name.labels ne) (rem place r.name.labels among lt ne)),
-     repeats_from limit rs m new ns notes' (placed ++ record { place = length old; labels = r.name.labels } ∷ []) (remembers_more old m r notes ns placed rem noted) rest)
+repeats_from limit (r ∷ rs) old new notes notes' placed rem (m, ns, one, noted, rest) = (
+  m,
+  one,
+  (λ place among lt ne. noted.compresses.repeats (no_wire r.name.labels ne) (rem place r.name.labels among lt ne)),
+  repeats_from limit rs m new ns notes' (placed ++ record { place = length old; labels = r.name.labels } ∷ []) (remembers_more old m r notes ns placed rem noted) rest,
+)
 
 remembers_nothing : (notes : Notes) → Remembers notes []
 remembers_nothing notes place labels among lt ne = absurd (omega (arith, among.1))

@@ -1,8 +1,5 @@
-use Rattle.hickory_wire.proofs.lemmas.serialize.writing.CompressedData.{labels_longer, soa_data}
+use Rattle.hickory_wire.proofs.lemmas.serialize.writing.CompressedData.{soa_data}
 use Rattle.hickory_wire.proofs.serialize.writing.data_encoder.write_soa.Goals as goal
-
-pub write_compressed_name-2-requires : goal.write_compressed_name-2-requires
-write_compressed_name-2-requires c = labels_longer c.requires c.in_ok-write_compressed_name.ensures.labels
 
 pub returns-clause-data : goal.returns-clause-data
 returns-clause-data c =

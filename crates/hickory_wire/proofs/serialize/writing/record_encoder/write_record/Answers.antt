@@ -19,7 +19,7 @@ returns-then-len-from-clause-ends c =
 
 pub returns-then-len-from-clause-notes : goal.returns-then-len-from-clause-notes
 returns-then-len-from-clause-notes c =
-    let mark : c.mark.result ≡ length c.args.table.now = search rules in
+    let mark : c.mark-mark.result ≡ length c.args.table.now = search rules in
     c.take_back.ensures ∙ ap (λ n. take n c.write_whole_record.new.table) mark ∙ (cut_back c.args.bytes.now.items c.write_whole_record.new.bytes.items c.args.table.now c.write_whole_record.new.table c.args.record.now c.in_ok-write_whole_record.ensures).1
 
 pub returns-clause-ends : goal.returns-clause-ends
