@@ -7,6 +7,7 @@ pub mod NameTable
 pub mod Noted
 pub mod OwnerNames
 pub mod QuestionForm
+pub mod QuestionNames
 pub mod ReadingBack
 pub mod RecordSize
 pub mod Reply

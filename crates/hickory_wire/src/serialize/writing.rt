@@ -8,5 +8,6 @@ pub mod header_encoder;
 pub mod list_encoder;
 pub mod message_encoder;
 pub mod name_encoder;
+pub mod question_notes;
 pub mod record_encoder;
 pub mod record_room;

@@ -10,6 +10,7 @@ pub mod Lookups
 pub mod NameSteps
 pub mod NotedRuns
 pub mod OctetLengths
+pub mod QuestionSteps
 pub mod QuestionsMoved
 pub mod ReadingBack
 pub mod RecordLists

@@ -1,5 +1,5 @@
 -- Owner names that repeat earlier ones as pointers (RFC 1035 section 4.1.4).
-use Rattle.std.specs.Prelude.{◌≡◌, ◌≢◌, ℕ, ◌<◌, ◌≤◌, ◌^◌, List, [], slice_index}
+use Rattle.std.specs.Prelude.{◌≢◌, ℕ, ◌<◌, ◌≤◌, ◌^◌, List, [], slice_index}
 use Rattle.std.specs.List.{Contains}
 
 -- a place at which a record was put, and the labels of its owner name

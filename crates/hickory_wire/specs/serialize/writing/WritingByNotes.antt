@@ -1,6 +1,6 @@
 -- What writing by notes of names leaves: data and records that stand behind any bytes of that length in which the notes hold (RFC 1035 sections 4.1.3
 -- and 4.1.4).
-use Rattle.std.specs.Prelude.{◌≡◌, ℕ, ◌+◌, ◌≤◌, List, ◌++◌, length}
+use Rattle.std.specs.Prelude.{◌≡◌, ℕ, ◌≤◌, List, ◌++◌, length}
 use Rattle.hickory_wire.specs.rr.domain.DomainName.{wire_form}
 use Rattle.hickory_wire.specs.serialize.layout.FieldRanges.{IsRecordInRange}
 use Rattle.hickory_wire.specs.serialize.layout.RecordLayout.{DataAt, FormAt}

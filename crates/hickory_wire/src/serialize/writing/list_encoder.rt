@@ -49,9 +49,9 @@ pub(crate) fn drain<'a, I: Iterator<Item = &'a Record> + Drop>(records: I)
 }
 
 // Puts the first records of a list behind the bytes, up to the one that passes the limit or has no form.
-fn write_records<'a, I: Iterator<Item = &'a Record> + Drop>(
+fn write_records<'n, 'a: 'n, I: Iterator<Item = &'a Record> + Drop>(
     bytes: &mut Vec<u8>,
-    table: &mut CompressionTable<'a>,
+    table: &mut CompressionTable<'n>,
     limit: u16,
     records: I,
 ) -> Result<Run, AllocError>
@@ -125,9 +125,9 @@ fn run_of_one(ending: Ending) -> Run
 }
 
 /// Writes a list of a section behind others, of which one may have been stuck; if so, the list is only taken.
-pub(crate) fn write_list<'a, I: Iterator<Item = &'a Record> + Drop>(
+pub(crate) fn write_list<'n, 'a: 'n, I: Iterator<Item = &'a Record> + Drop>(
     bytes: &mut Vec<u8>,
-    table: &mut CompressionTable<'a>,
+    table: &mut CompressionTable<'n>,
     limit: u16,
     records: I,
     fault: Option<ProtoError>,

@@ -84,7 +84,7 @@ fn write_parts(bytes: &mut Vec<u8>, limit: u16, parts: Parts<'_>) -> Result<Endi
 {
     let len = match parts.data.full_len() {
         Ok(len) => len,
-        Err(e) => return Ok(Ending::Stuck(e)),
+        Err(fault) => return Ok(Ending::Stuck(fault)),
     };
     if !has_room(bytes.len(), limit, full_name_len(parts.name), len) {
         return Ok(Ending::Cut);

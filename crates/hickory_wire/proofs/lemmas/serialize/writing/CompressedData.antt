@@ -1,10 +1,9 @@
 -- Data whose names are written with pointers.
-use Rattle.std.proofs.Common.{◌≡◌, ℕ, ◌+◌, ◌<◌, ◌≤◌, List, [], ◌∷◌, ◌++◌, length, refl, sym, ap, subst, ◌∙◌, arith, length-append}
+use Rattle.std.proofs.Common.{◌≡◌, ℕ, ◌+◌, ◌≤◌, List, [], ◌++◌, length, sym, ap, subst, ◌∙◌, arith, length-append}
 use Rattle.std.proofs.lemmas.List.{append_assoc, append-nil}
 use Rattle.std.specs.Int.{w16, to_be_bytes}
 use Rattle.hickory_wire.specs.rr.RecordData.{soa_numbers}
-use Rattle.hickory_wire.specs.rr.domain.DomainName.{DomainName, AreLabels, wire_form, name_len, cut}
-use Rattle.hickory_wire.specs.serialize.layout.Bytes.{BytesAt, KeepsFrom}
+use Rattle.hickory_wire.specs.rr.domain.DomainName.{DomainName, AreLabels, wire_form, name_len}
 use Rattle.hickory_wire.specs.serialize.layout.NameLayout.{LabelsAt, NameAt}
 use Rattle.hickory_wire.specs.serialize.layout.RecordLayout.{OctetsAt, DataAt}
 use Rattle.hickory_wire.specs.serialize.writing.FullForm.{data_octets, EndsInFull, HasNames}
@@ -17,7 +16,6 @@ use Rattle.hickory_wire.specs.declared.rr.rdata.RData.{RData}
 use Rattle.hickory_wire.specs.declared.rr.rdata.RData.TheVariants as rdata
 use Rattle.hickory_wire.proofs.lemmas.rr.domain.WireForm.{cut-wire, name_len-wire_form}
 use Rattle.hickory_wire.proofs.lemmas.serialize.layout.ByteTexts.{BytesAt-left}
-use Rattle.hickory_wire.proofs.lemmas.serialize.layout.FormKeeps.{LabelsAt-longer, OctetsAt-keeps}
 use Rattle.hickory_wire.proofs.lemmas.serialize.layout.Stable.{NameAt-keeps, KeepsFrom-append}
 use Rattle.hickory_wire.proofs.lemmas.serialize.writing.FullForms.{data_stand, data_octets-len, ends_in_full}
 use Rattle.hickory_wire.proofs.lemmas.serialize.writing.NameSteps.{AreNotes-keeps, BytesAt-behind}

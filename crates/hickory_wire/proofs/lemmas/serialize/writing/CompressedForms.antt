@@ -1,17 +1,17 @@
 -- A record whose names are written with pointers, and whose length is put in behind them.
-use Rattle.std.proofs.Common.{◌≡◌, ◌≢◌, inl, inr, ℕ, ◌+◌, ◌-◌, ◌^◌, ◌<◌, ◌≤◌, List, [], ◌∷◌, ◌++◌, length, take, drop, get_or, None, refl, sym, ap, subst, ◌∙◌, arith, length-append}
+use Rattle.std.proofs.Common.{◌≡◌, inl, inr, ℕ, ◌+◌, ◌-◌, ◌<◌, ◌≤◌, List, ◌++◌, length, take, drop, get_or, None, refl, sym, ap, subst, ◌∙◌, arith, length-append}
 use Rattle.std.proofs.lemmas.List.{append_assoc, take_at, drop_at, get_or_append_left, get_or_past}
 use Rattle.std.proofs.lemmas.Bool.{cases_lt}
 use Rattle.std.specs.Int.{w16, w32, to_be_bytes}
 use Rattle.hickory_wire.specs.rr.RecordData.{type_of}
-use Rattle.hickory_wire.specs.rr.domain.DomainName.{AreLabels, wire_form, name_len, cut}
+use Rattle.hickory_wire.specs.rr.domain.DomainName.{AreLabels, wire_form, name_len}
 use Rattle.hickory_wire.specs.serialize.layout.Bytes.{BytesAt, KeepsFrom}
 use Rattle.hickory_wire.specs.serialize.layout.FieldRanges.{IsRecordInRange}
 use Rattle.hickory_wire.specs.serialize.layout.NameLayout.{LabelsAt}
 use Rattle.hickory_wire.specs.serialize.layout.RecordLayout.{DataAt, FormAt, fixed_fields}
 use Rattle.hickory_wire.specs.serialize.writing.Endings.{OwnerNoted}
 use Rattle.hickory_wire.specs.serialize.writing.FullForm.{EndsInFull, tsig_octets}
-use Rattle.hickory_wire.specs.serialize.writing.Noted.{Notes, AreNotes, KeepsNotes, WritesLabels, Compresses}
+use Rattle.hickory_wire.specs.serialize.writing.Noted.{Notes, AreNotes, WritesLabels, Compresses}
 use Rattle.hickory_wire.specs.serialize.writing.RecordSize.{data_len, full_size, unwritable_reason}
 use Rattle.hickory_wire.specs.serialize.writing.Writing.{Puts}
 use Rattle.hickory_wire.specs.serialize.writing.WritingByNotes.{WritesData, WritesRecord}
@@ -20,7 +20,6 @@ use Rattle.hickory_wire.specs.declared.rr.rdata.RData.TheVariants as rdata
 use Rattle.hickory_wire.specs.declared.rr.record.Record.{Record}
 use Rattle.hickory_wire.proofs.lemmas.rr.domain.WireForm.{cut-wire, name_len-wire_form}
 use Rattle.hickory_wire.proofs.lemmas.serialize.layout.ByteTexts.{BytesAt-left}
-use Rattle.hickory_wire.proofs.lemmas.serialize.layout.FormKeeps.{LabelsAt-longer}
 use Rattle.hickory_wire.proofs.lemmas.serialize.layout.Stable.{BytesAt-append, LabelsAt-keeps, KeepsFrom-append}
 use Rattle.hickory_wire.proofs.lemmas.serialize.writing.CompressedData.{keeps_added, keeps_both}
 use Rattle.hickory_wire.proofs.lemmas.serialize.writing.NameSteps.{AreNotes-keeps, HasNote-more}

@@ -1,11 +1,11 @@
 -- The steps of writing a name with pointers.
-use Rattle.std.proofs.Common.{◌≡◌, ◌≢◌, ℕ, suc, ◌+◌, ◌*◌, ◌/◌, ◌%◌, ◌^◌, ◌<◌, ◌≤◌, List, [], ◌∷◌, ◌++◌, length, take, drop, get_or, Some, None, true, ◌==◌, refl, sym, ap, ◌∙◌, subst, arith, length-append}
+use Rattle.std.proofs.Common.{◌≡◌, ◌≢◌, ℕ, ◌+◌, ◌/◌, ◌%◌, ◌<◌, ◌≤◌, List, [], ◌∷◌, ◌++◌, length, take, drop, get_or, Some, None, true, ◌==◌, refl, sym, ap, ◌∙◌, subst, arith, length-append}
 use Rattle.std.proofs.lemmas.List.{take_at, drop_at, append_assoc, append-nil, get_or-append-add}
 use Rattle.std.proofs.lemmas.List.Elements.{All-weaker, All-push, All-contains, All-head, All-tail, Contains-push, Contains-append_left}
-use Rattle.std.specs.List.{All, Contains}
+use Rattle.std.specs.List.{Contains}
 use Rattle.std.proofs.lemmas.Bool.{eqb-true}
 use Rattle.std.proofs.lemmas.Slice.Eq.{bytes_eq-Decides}
-use Rattle.hickory_wire.specs.rr.domain.DomainName.{IsLabel, AreLabels, IsWire, wire_form, cut, name_len}
+use Rattle.hickory_wire.specs.rr.domain.DomainName.{IsLabel, AreLabels, IsWire, wire_form, cut}
 use Rattle.hickory_wire.specs.serialize.layout.Bytes.{BytesAt, KeepsFrom}
 use Rattle.hickory_wire.specs.serialize.layout.NameLayout.{LabelsAt}
 use Rattle.hickory_wire.specs.serialize.layout.NameLayout.LabelsAt.{at_end, at_label, at_pointer}

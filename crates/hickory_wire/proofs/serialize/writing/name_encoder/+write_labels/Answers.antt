@@ -1,4 +1,4 @@
-use Rattle.std.proofs.Common.{rules, arith, ◌≡◌, ◌≢◌, ◌∙◌, ℕ, ◌+◌, ◌<◌, ◌≤◌, ◌++◌, ◌∷◌, [], length, List, None, Some, sym, ap, subst, take, drop, get_or, length-append}
+use Rattle.std.proofs.Common.{rules, arith, ◌≡◌, ◌≢◌, ◌∙◌, ℕ, ◌+◌, ◌<◌, ◌≤◌, ◌++◌, [], length, None, Some, sym, ap, subst, take, drop, get_or, length-append}
 use Rattle.hickory_wire.specs.rr.domain.DomainName.{IsWire}
 use Rattle.hickory_wire.specs.serialize.writing.Noted.{first_place, WritesLabels}
 use Rattle.hickory_wire.proofs.lemmas.serialize.writing.NameSteps.{empty_list, rest_of, writes_end, writes_pointer, writes_label, writes_note, still_fresh, found_noted, compresses_root, compresses_pointer, compresses_note, compresses_far}

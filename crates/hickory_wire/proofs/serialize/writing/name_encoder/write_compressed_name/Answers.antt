@@ -1,4 +1,4 @@
-use Rattle.std.proofs.Common.{OnOk, subst}
+use Rattle.std.proofs.Common.{subst}
 use Rattle.hickory_wire.specs.serialize.writing.Noted.{WritesLabels}
 use Rattle.hickory_wire.proofs.serialize.writing.name_encoder.write_compressed_name.Goals as goal
 

@@ -1,4 +1,4 @@
-use Rattle.std.proofs.Common.{rules, arith, refl, ap, ◌≡◌, ◌∙◌, ℕ, ◌+◌, ◌^◌, ◌<◌, ◌≤◌, length, take}
+use Rattle.std.proofs.Common.{rules, arith, refl, ap, ◌≡◌, ◌∙◌, ◌+◌, ◌<◌, length, take}
 use Rattle.hickory_wire.proofs.lemmas.serialize.writing.CompressedForms.{name_len-pos, at_most, cut_back, puts, noted}
 use Rattle.hickory_wire.proofs.serialize.writing.record_encoder.write_record.Goals as goal
 
