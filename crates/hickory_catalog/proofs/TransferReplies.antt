@@ -46,8 +46,8 @@ module _ (request : MessageRequest) (edns : Option EdnsFields) (edns_formed : If
   fits_whole : (run : List (Record RData)) → AllByRecursion HasForm run → message_size (front_size request edns) run ≤ 65535 → FitsWhole 65535 (message_of_transfer request (with_high_code 0 edns) run)
   fits_whole run formed small = by_edns edns edns_formed small where
     by_edns : (e : Option EdnsFields) → IfSome e (λ x. HasForm (opt_record x)) → message_size (front_size request e) run ≤ 65535 → FitsWhole 65535 (message_of_transfer request (with_high_code 0 e) run)
-    by_edns None _ fits = record { formed = (formed, tt, tt, tt, tt, tt); fits = omega (arith, fits) }
-    by_edns (Some e) has fits = record { formed = (formed, tt, tt, (has, tt), tt, tt); fits = omega (arith, fits) }
+    by_edns None _ fits = record { formed = (formed, (tt, (tt, (tt, (tt, tt))))); fits = omega (arith, fits) }
+    by_edns (Some e) has fits = record { formed = (formed, (tt, (tt, ((has, tt), (tt, tt))))); fits = omega (arith, fits) }
 
   fits_or_one : (run : List (Record RData)) → AllByRecursion HasForm run → (message_size (front_size request edns) run ≤ 65535) ⊎ (length run ≤ 1) → FitsOrOne (message_of_transfer request (with_high_code 0 edns) run)
   fits_or_one run formed (inl small) = inl (fits_whole run formed small)

@@ -1,5 +1,6 @@
 -- What becomes of messages that come one after the other.
-use Rattle.std.specs.Prelude.{◌≡◌, ◌⊎◌, ◌++◌, ◌∷◌, [], ℕ, List}
+use Rattle.std.specs.Prelude.{◌≡◌, ◌⊎◌, ◌++◌, ◌∷◌, [], ℕ, List, Option, Some, None}
+use Rattle.std.specs.Net.Socket.{socket_ip}
 use Rattle.std.specs.List.{AllZip}
 use Rattle.hickory_wire.specs.rr.domain.DomainName.{DomainName}
 use Rattle.hickory_wire.specs.serialize.reading.MessageReading.{Reads}
@@ -26,6 +27,11 @@ pub record IsRequestOf (message : Incoming) (request : ReceivedRequest) : Type 0
   pub source_is : request.source ≡ message.src
   pub protocol_is : request.protocol ≡ message.protocol
 
+-- what a message is read as, if it is a request
+abbrev pub IsReadAs : Incoming → Option ReceivedRequest → Type 0
+IsReadAs message (Some request) = IsRequestOf message request
+IsReadAs message None = (e : ProtoError) × IsFaultOf message.bytes.items e
+
 -- What becomes of a message, and the zones after it, where these addresses may use the server. Only an update changes a zone.
 pub data Step {H : Type 0} (access : AccessSets) (server : Server H) (message : Incoming) (outcome : Outcome) (zones : List (DomainName × List H)) : Type 0 where
   -- Its address may not.
@@ -46,11 +52,15 @@ pub data Run {H : Type 0} (access : AccessSets) (server : Server H) : List (Doma
       → Run access server between messages outcomes after
       → Run access server zones (message ∷ messages) (outcome ∷ outcomes) after
 
+-- The zones after a request for whose replies memory was refused: as before, or as after it.
+abbrev pub LeavesRequest : {H : Type 0} → Server H → ReceivedRequest → ℕ → ServeError → List (DomainName × List H) → Type 0
+LeavesRequest server request now Memory zones = zones ≡ server.zones
+LeavesRequest server request now MemoryAfterHandling zones = ((replies : List Reply) × RequestAnswered server request now replies zones) ⊎ RequestLeaves server request now MemoryAfterUpdate zones
+
 -- The zones after a message for which memory was refused: as before, or as after its request.
 abbrev pub LeavesUnserved : {H : Type 0} → Server H → Incoming → ServeError → List (DomainName × List H) → Type 0
 LeavesUnserved server message Memory zones = zones ≡ server.zones
-LeavesUnserved server message MemoryAfterHandling zones = (request : ReceivedRequest) × IsRequestOf message request
-    × (((replies : List Reply) × RequestAnswered server request message.now replies zones) ⊎ RequestLeaves server request message.now MemoryAfterUpdate zones)
+LeavesUnserved server message MemoryAfterHandling zones = (request : ReceivedRequest) × IsRequestOf message request × LeavesRequest server request message.now MemoryAfterHandling zones
 
 -- Memory was refused for a message: those before it have their outcomes, and those behind it were not looked at.
 pub record RunFailed {H : Type 0} (access : AccessSets) (server : Server H) (messages : List Incoming) (outcomes : List Outcome) (e : ServeError) (zones : List (DomainName × List H)) : Type 0 where

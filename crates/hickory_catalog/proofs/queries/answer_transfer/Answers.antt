@@ -1,4 +1,5 @@
 use Rattle.std.proofs.Common.{[], ◌∷◌, rules, refl}
+use Rattle.hickory_base.specs.responses.Responses.{header_of}
 use Rattle.hickory_catalog.specs.Queries.{one, transfer, untransferred}
 use Rattle.hickory_catalog.specs.Replies.{error_reply}
 use Rattle.hickory_catalog.proofs.QueryReplies.{if_ok_map}
@@ -9,7 +10,8 @@ pub returns-in-None-clause-replied : goal.returns-in-None-clause-replied
 returns-in-None-clause-replied g c = (
   error_reply c.args.asked.now.request.now.message c.args.edns.now 2 ∷ [],
   one (untransferred c.requires (rw c.in-None.is at c.ask_for_transfer.ensures) refl) refl,
-  sent_alone _ _ _ _ _ _ (search rules),
+  sent_alone g.R.ResponseHandler c.args.asked.now.request.now.message.metadata c.args.sink.now c.send_error.new.sink
+    (error_reply c.args.asked.now.request.now.message c.args.edns.now 2) (header_of c.send_error.result) (search rules),
 )
 
 pub returns-in-Some-clause-replied : goal.returns-in-Some-clause-replied

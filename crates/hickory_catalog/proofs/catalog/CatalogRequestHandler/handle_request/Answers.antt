@@ -1,5 +1,6 @@
 use Rattle.std.proofs.Common.{◌≡◌, [], ◌∷◌, None, Some, rules, refl}
 use Rattle.hickory_wire.specs.serialize.writing.Reply.{Reply}
+use Rattle.hickory_base.specs.responses.Responses.{header_of}
 use Rattle.hickory_catalog.specs.Replies.{error_reply}
 use Rattle.hickory_catalog.specs.ReplyEdns.{reply_edns}
 use Rattle.hickory_catalog.specs.Requests.{asks, refused, request_fault, updates}
@@ -12,7 +13,7 @@ pub returns-in-Some-clause-replied : goal.returns-in-Some-clause-replied
 returns-in-Some-clause-replied g c =
     let fault : request_fault c.args.request.now.message ≡ Some c.in-Some.code = search rules in
     let reply : Reply = error_reply c.args.request.now.message (reply_edns c.args.self.now.nsid c.args.request.now.message.edns) c.in-Some.code in
-    (reply ∷ [], refused fault refl refl, (refusal_belongs _ _ _ _ refl, tt), sent_alone _ _ _ _ _ _ (search rules))
+    (reply ∷ [], refused fault refl refl, (refusal_belongs _ _ _ _ refl, tt), sent_alone g.R.ResponseHandler c.args.request.now.message.metadata c.args.sink.now c.send_error.new.sink reply (header_of c.send_error.result) (search rules))
 
 pub returns-then-value-clause-replied : goal.returns-then-value-clause-replied
 returns-then-value-clause-replied g c =
@@ -23,7 +24,7 @@ returns-then-value-clause-replied g c =
       w.0 ∷ [],
       updates unrefused (search rules) (record { reply = w.0; is_reply = w.1; only = refl }),
       (to_request _ _ _ (update_belongs _ _ _ _ _ _ w.1), tt),
-      sent_alone _ _ _ _ _ _ w.2,
+      sent_alone g.R.ResponseHandler c.args.request.now.message.metadata c.args.sink.now c.answer_update.new.sink w.0 (header_of info) w.2,
     ))
 
 pub returns-clause-replied : goal.returns-clause-replied
