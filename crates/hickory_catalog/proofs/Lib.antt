@@ -12,7 +12,10 @@ pub mod OneReply
 pub mod Places
 pub mod QueryReplies
 pub mod RepliesFit
+pub mod Runs
+pub mod SentInOrder
 pub mod SentReplies
 pub mod SharedEnds
+pub mod TransferReplies
 pub mod Transferring
 pub mod Updating

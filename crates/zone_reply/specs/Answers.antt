@@ -1,6 +1,7 @@
 -- What the command prints for its input, and the status that it gives.
 use Rattle.std.specs.Prelude.{◌≡◌, ◌⊎◌, ◌++◌, ◌∷◌, [], ℕ, List, Option, Some, None, IfSome, IsSome, Result, Ok, Err}
 use Rattle.std.specs.Global.{Vec}
+use Rattle.std.specs.List.{AllZip, flat_map}
 use Rattle.std.specs.Io.BufRead.{first_piece}
 use Rattle.std.specs.declared.net.SocketAddr.{SocketAddr}
 use Rattle.std.specs.declared.net.SocketAddr.TheVariants.{V4}
@@ -32,22 +33,22 @@ pub record IsRequestOf (bytes : List ℕ) (protocol : Protocol) (request : Recei
   pub source_is : request.source ≡ local_source
   pub protocol_is : request.protocol ≡ protocol
 
--- The bytes are an encoding, at the transport's limit, of the one reply that the server gives to the request at the moment 0, and these are its
--- zones after it.
-pub record IsReplyToRequest {H : Type 0} (server : Server H) (protocol : Protocol) (request : ReceivedRequest) (bytes : List ℕ) (zones : List (DomainName × List H)) : Type 0 where
-  pub reply : Reply
-  pub is_reply : RequestAnswered server request 0 (reply ∷ []) zones
-  pub is_encoded : IsEncodingOf protocol reply bytes
+-- The texts are encodings, at the transport's limit, of the replies that the server gives to the request at the moment 0, in their order, and these
+-- are its zones after it.
+pub record AreRepliesToRequest {H : Type 0} (server : Server H) (protocol : Protocol) (request : ReceivedRequest) (encoded : List (List ℕ)) (zones : List (DomainName × List H)) : Type 0 where
+  pub replies : List Reply
+  pub are_replies : RequestAnswered server request 0 replies zones
+  pub are_encoded : AllZip (IsEncodingOf protocol) replies encoded
 
--- The bytes are an encoding of the reply to the request that the message is read as.
-pub record IsReplyTo {H : Type 0} (server : Server H) (protocol : Protocol) (message bytes : List ℕ) (zones : List (DomainName × List H)) : Type 0 where
+-- The texts are encodings of the replies to the request that the message is read as.
+pub record AreRepliesTo {H : Type 0} (server : Server H) (protocol : Protocol) (message : List ℕ) (encoded : List (List ℕ)) (zones : List (DomainName × List H)) : Type 0 where
   pub request : ReceivedRequest
   pub is_read : IsRequestOf message protocol request
-  pub is_reply : IsReplyToRequest server protocol request bytes zones
+  pub are_replies : AreRepliesToRequest server protocol request encoded zones
 
--- The zones after a request, whether it got a reply or memory was refused for one. Only an update changes any.
+-- The zones after a request, whether it got its replies or memory was refused for one. Only an update changes any.
 abbrev pub RequestLeft : {H : Type 0} → Server H → ReceivedRequest → List (DomainName × List H) → Type 0
-RequestLeft server request zones = ((reply : Reply) × RequestAnswered server request 0 (reply ∷ []) zones) ⊎ ((e : CatalogError) × RequestLeaves server request 0 e zones)
+RequestLeft server request zones = ((replies : List Reply) × RequestAnswered server request 0 replies zones) ⊎ ((e : CatalogError) × RequestLeaves server request 0 e zones)
 
 -- The zones after a message: as before, or those after the request that it is read as.
 abbrev pub MessageLeft : {H : Type 0} → Server H → Protocol → List ℕ → List (DomainName × List H) → Type 0
@@ -80,33 +81,37 @@ IsRefusedInput Unreadable = ⊥
 abbrev pub hex_line : List ℕ → List ℕ
 hex_line bytes = encode_lower bytes ++ 10 ∷ []
 
--- The line is that of an encoded reply to the message of the input, over the transport that the arguments name.
-pub record IsReplyLine {H : Type 0} (server : Server H) (arguments : List (List ℕ)) (input : Option (List ℕ)) (line : List ℕ) (zones : List (DomainName × List H)) : Type 0 where
+-- a line for each of some texts
+abbrev pub hex_lines : List (List ℕ) → List ℕ
+hex_lines texts = flat_map hex_line texts
+
+-- The lines are those of the encoded replies to the message of the input, over the transport that the arguments name.
+pub record AreReplyLines {H : Type 0} (server : Server H) (arguments : List (List ℕ)) (input : Option (List ℕ)) (lines : List ℕ) (zones : List (DomainName × List H)) : Type 0 where
   pub protocol : Protocol
   pub is_named : transport_of arguments ≡ Some protocol
   pub message : List ℕ
   pub is_first : IsFirstMessage input message
-  pub bytes : List ℕ
-  pub is_reply : IsReplyTo server protocol message bytes zones
-  pub line_is : line ≡ hex_line bytes
+  pub encoded : List (List ℕ)
+  pub are_replies : AreRepliesTo server protocol message encoded zones
+  pub lines_are : lines ≡ hex_lines encoded
 
--- What is answered: the line of a reply, or why there is none. A reader may fail at any time, and memory may be refused at any time once the
+-- What is answered: the lines of the replies, or why there are none. A reader may fail at any time, and memory may be refused at any time once the
 -- arguments name a transport. The zones are those after it.
 abbrev pub IsAnswer : {H : Type 0} → Server H → List (List ℕ) → Option (List ℕ) → Result (List ℕ) Refusal → List (DomainName × List H) → Type 0
-IsAnswer server arguments input (Ok line) zones = IsReplyLine server arguments input line zones
+IsAnswer server arguments input (Ok lines) zones = AreReplyLines server arguments input lines zones
 IsAnswer server arguments input (Err Usage) zones = transport_of arguments ≡ None
 IsAnswer server arguments input (Err NotHex) zones = IsSome (transport_of arguments)
 IsAnswer server arguments input (Err Unreadable) zones = IsSome (transport_of arguments) × (message : List ℕ) × IsFirstMessage input message × (e : ProtoError) × IsFaultOf message e
 IsAnswer server arguments input (Err Memory) zones = IsSome (transport_of arguments)
 
--- an answer with the bytes of its line
+-- an answer with the bytes of its lines
 abbrev pub line_items : Result (Vec ℕ) Refusal → Result (List ℕ) Refusal
-line_items (Ok line) = Ok line.items
+line_items (Ok lines) = Ok lines.items
 line_items (Err refusal) = Err refusal
 
--- the line that tells an answer, with its newline
+-- the lines that tell an answer, each with its newline
 abbrev pub answer_line : Result (List ℕ) Refusal → List ℕ
-answer_line (Ok line) = line
+answer_line (Ok lines) = lines
 answer_line (Err refusal) = refusal_line refusal
 
 -- the status that tells an answer

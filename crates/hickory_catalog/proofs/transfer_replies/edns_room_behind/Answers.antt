@@ -1,0 +1,4 @@
+use Rattle.hickory_catalog.proofs.transfer_replies.edns_room_behind.Goals as goal
+
+pub returns-then-fits : goal.returns-then-fits
+returns-then-fits c = ?
