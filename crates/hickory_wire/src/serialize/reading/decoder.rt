@@ -24,6 +24,9 @@ const FREE_STEPS: usize = 128;
 
 const BYTES_PER_STEP: usize = 4;
 
+/// So few steps cost less to take again than to keep what they lead to.
+const FEW_STEPS: usize = 2;
+
 /// A place in the bytes of a message, from where it is read on.
 #[derive(Drop)]
 pub struct BinDecoder<'a> {
@@ -167,7 +170,7 @@ impl<'a> BinDecoder<'a> {
         let from = self.index;
         let (name, next, steps) = read_name_at(alloc, self.bytes, from, &self.known)?;
         self.index = next;
-        if steps > self.spare {
+        if steps > self.spare.max(FEW_STEPS) {
             self.keep_name(alloc, from, &name)?;
         }
         self.spare = self.spare.saturating_sub(steps);
