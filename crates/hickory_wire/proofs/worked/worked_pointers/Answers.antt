@@ -1,5 +1,5 @@
 -- An exchange that ends in a pointer, and an additional behind an answer that was left out.
-use Rattle.std.proofs.Common.{◌≡◌, ℕ, List, [], ◌∷◌, drop, codes, None, refl, arith}
+use Rattle.std.proofs.Common.{◌≡◌, [], drop, codes, refl, arith}
 use Rattle.hickory_wire.specs.serialize.writing.RecordSize.{full_size}
 use Rattle.hickory_wire.specs.serialize.writing.Writing.{Puts, header_and_questions}
 use Rattle.hickory_wire.specs.serialize.writing.Writing.ListsWritten.{none_left, next_list}
