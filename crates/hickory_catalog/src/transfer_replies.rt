@@ -2,8 +2,7 @@
 
 ghost use Rattle.std.specs.Prelude.{List, map};
 ghost use Rattle.std.specs.Option.{option_copied};
-ghost use Rattle.hickory_wire.specs.serialize.writing.RecordSize.{Leaves, full_size};
-ghost use Rattle.hickory_wire.specs.serialize.writing.Reply.{Reply, opt_record};
+ghost use Rattle.hickory_wire.specs.serialize.writing.Reply.{Reply};
 ghost use Rattle.hickory_wire.specs.declared.rr.rdata.RData.{RData};
 ghost use Rattle.hickory_wire.specs.declared.rr.record.Record.{Record};
 ghost use Rattle.hickory_base.specs.responses.Responses.{header_of};
@@ -21,18 +20,6 @@ use std::alloc::Global;
 // The size of a message behind a length of 16 bits (RFC 1035 section 4.2.2).
 const LARGEST_MESSAGE: usize = 65535;
 
-fn room_behind(entry: &Record, room: usize) -> Option<usize>
-    ensures { Leaves room (full_size entry.now) result }
-{
-    if entry.fits(room) { Some(0) } else { None }
-}
-
-fn edns_room_behind(edns: &Edns, room: usize) -> Option<usize>
-    ensures { Leaves room (full_size (opt_record edns.now)) result }
-{
-    if edns.fits(room) { Some(0) } else { None }
-}
-
 /// How many bytes each message of a transfer has for its answers, 0 where header, questions and OPT record take more than there is.
 fn room_for_answers(request: &MessageRequest, edns: Option<&Edns>) -> usize
     ensures { IsRoom (front_size request.now (option_copied edns.entry)) result }
@@ -44,7 +31,7 @@ fn room_for_answers(request: &MessageRequest, edns: Option<&Edns>) -> usize
     let room = LARGEST_MESSAGE - front;
     match edns {
         None => room,
-        Some(edns) => edns_room_behind(edns, room).unwrap_or(0),
+        Some(edns) => edns.room_behind(room).unwrap_or(0),
     }
 }
 
@@ -54,7 +41,7 @@ fn run_len(room: usize, records: &[Record]) -> usize
 {
     let mut left = room;
     for place in 0..records.len() {
-        match room_behind(&records[place], left) {
+        match records[place].room_behind(left) {
             Some(behind) => left = behind,
             None => return place.max(1),
         }
