@@ -1,3 +1,4 @@
+pub mod Alone
 pub mod Authoritative
 pub mod AuthoritativeLaws
 pub mod DecodedReplies
