@@ -63,3 +63,7 @@ module _ {V : Type 0} where
   one_answer zones name (Some v) (Some w) sorted f g =
       let p = one_nearest zones name (f.0, v) (g.0, w) sorted f.1 g.1 in
       ap (λ (z : DomainName × V). let o : Option V = Some z.1 in o) p
+
+  pub one_at : (zones : List (DomainName × V)) (apex : DomainName) (one other : V) → AreInOrder zones → Contains zones (apex, one) → Contains zones (apex, other) → one ≡ other
+  one_at zones apex one other sorted here there =
+      ap (λ (z : DomainName × V). z.1) (one_zone zones sorted here.0 there.0 (apex, one) (apex, other) here.1 there.1 here.2 there.2 (record { labels = refl; marks = refl }))

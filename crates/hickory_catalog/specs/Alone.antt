@@ -42,3 +42,7 @@ OthersStay {S} {H} handler signature_for = (catalog : Catalog S H) (request : Re
 abbrev pub ApexesStay : {S H : Type 0} → Ghosts H → (S → Signer) → Type 0
 ApexesStay {S} {H} handler signature_for = (catalog : Catalog S H) (request : ReceivedRequest) (now : ℕ) (replies : List Reply) (after : List (DomainName × List H))
     → RequestAnswered (server_of handler signature_for catalog) request now replies after → keys_of after ≡ keys_of catalog.zones
+
+-- Zones in order have one chain at an apex.
+abbrev pub OneChain : Type 0 → Type 0
+OneChain H = (zones : List (DomainName × List H)) (apex : DomainName) (one other : List H) → AreInOrder zones → Contains zones (apex, one) → Contains zones (apex, other) → one ≡ other

@@ -4,7 +4,7 @@ ghost use Rattle.std.specs.Prelude.{◌≡◌, List};
 ghost use Rattle.hickory_wire.specs.serialize.writing.Reply.{Reply};
 ghost use Rattle.hickory_wire.specs.declared.op.header.Header.{Header};
 ghost use Rattle.hickory_wire.specs.declared.op.header.Metadata.{Metadata};
-ghost use Rattle.hickory_catalog.specs.Alone.{ApexesStay, OthersStay, ServedAlone};
+ghost use Rattle.hickory_catalog.specs.Alone.{ApexesStay, OneChain, OthersStay, ServedAlone};
 ghost use Rattle.hickory_catalog.specs.AuthoritativeLaws.{AuthoritativeCodes, AuthoritativeHeaders, NegativeReplies, ReferralsAreNoAnswers};
 ghost use Rattle.hickory_catalog.specs.DecodedReplies.{CatalogReplyDecodes, ErrorRepliesFit, QueryRepliesFit, ReplyEdnsFits, SignedRepliesFit, UpdateRepliesFit};
 ghost use Rattle.hickory_catalog.specs.ForwardedLaws.{AuthenticWhereProved, DnssecRecordsOnDemand, ForwardedCodes, ForwardedHeaders, NothingBogusPassedOn, RefusedWithoutRecursion, SoaOfNegativeAnswer};
@@ -79,6 +79,7 @@ pub fn zones_apart<S: ReplySigner, H: ZoneHandler>()
     ensures alone { ServedAlone H.ZoneHandler S.signature_for }
     ensures others { OthersStay H.ZoneHandler S.signature_for }
     ensures apexes { ApexesStay H.ZoneHandler S.signature_for }
+    ensures one_chain { OneChain H }
 {}
 
 /// A sink that counted no failure took all replies that were handed over, in their order, one entry for each.

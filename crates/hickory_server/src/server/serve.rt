@@ -6,6 +6,7 @@ ghost use Rattle.hickory_wire.specs.serialize.writing.Reply.{Reply};
 ghost use Rattle.hickory_base.specs.responses.EncodingSinks.{IsEncodingOf};
 ghost use Rattle.hickory_catalog.specs.Requests.{RequestAnswered};
 ghost use Rattle.hickory_catalog.specs.Server.{server_of};
+ghost use Rattle.hickory_server.specs.Isolation.{BesideIsARun, ZonesAreIsolated};
 ghost use Rattle.hickory_server.specs.Serving.{IsReadAs, LeavesRequest, LeavesUnserved, Run, RunFailed, Step};
 ghost use Rattle.hickory_server.specs.declared.server.serve.ServeError.TheVariants as serve_error;
 
@@ -14,8 +15,9 @@ use hickory_base::errors::CatalogError;
 use hickory_base::server::{Request, RequestHandler};
 use hickory_base::zone_store::ZoneHandler;
 use hickory_catalog::catalog::Catalog;
-use hickory_catalog::laws::replies_taken;
+use hickory_catalog::laws::{replies_taken, zones_apart};
 use hickory_catalog::signer::ReplySigner;
+use hickory_wire::message_laws::one_message;
 use hickory_wire::{Items, Octets, ProtoError, Protocol};
 use std::alloc::Global;
 use std::net::SocketAddr;
@@ -151,4 +153,14 @@ pub fn serve_all<S: ReplySigner, H: ZoneHandler>(
         }
     }
     Ok(outcomes)
+}
+
+/// Each zone of a server is served as if it were the only one: what becomes of the messages to it, and the zone after them, is what becomes of them
+/// where they come alone to a server of that zone alone, with the same identifier and signer.
+pub fn zones_are_isolated<S: ReplySigner, H: ZoneHandler>()
+    ensures isolated { ZonesAreIsolated H.ZoneHandler S.signature_for }
+    ensures run { BesideIsARun H.ZoneHandler S.signature_for }
+{
+    one_message();
+    zones_apart::<S, H>();
 }

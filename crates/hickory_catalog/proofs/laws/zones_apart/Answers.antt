@@ -1,5 +1,6 @@
 use Rattle.hickory_catalog.specs.Server.{server_of}
 use Rattle.hickory_catalog.proofs.Alone.{request_alone, request_apexes, request_stays}
+use Rattle.hickory_catalog.proofs.OneAnswer.{one_at}
 use Rattle.hickory_catalog.proofs.laws.zones_apart.Goals as goal
 
 pub returns-clause-alone : goal.returns-clause-alone
@@ -13,3 +14,6 @@ returns-clause-others g c = λ catalog request now replies after zone among othe
 pub returns-clause-apexes : goal.returns-clause-apexes
 returns-clause-apexes g c = λ catalog request now replies after answered.
     request_apexes (server_of g.H.ZoneHandler g.S.ReplySigner.signature_for catalog) request now replies after answered
+
+pub returns-clause-one_chain : goal.returns-clause-one_chain
+returns-clause-one_chain g c = one_at
