@@ -88,6 +88,7 @@ impl<H: Drop> Zones<H> {
         if !name.as_name().is_fqdn() {
             return Ok(self.chains.get(name));
         }
+        // What a name encloses stands right behind it, in the order of names: so this one is the nearest, or stands beside.
         let Some((apex, chain)) = self.last_up_to(name) else {
             return Ok(None);
         };
@@ -97,8 +98,8 @@ impl<H: Drop> Zones<H> {
         self.find_above(name, apex)
     }
 
-    /// The chain of handlers of the zone that answers for a fully qualified name, which zones above both it and the other
-    /// name alone may do.
+    /// The chain of handlers of the zone that answers for a fully qualified name, where only zones above both it and the
+    /// other name may answer.
     fn find_above(&self, name: &LowerName, other: &LowerName) -> Result<Option<&Vec<H>>, AllocError>
         requires qualified { name.now.is_fqdn ≡ true }
         requires above { AnswerFromAbove self.now name.now other.now }
