@@ -4,8 +4,7 @@ use Rattle.std.specs.List.Sorted.{IsStrictlySortedBy}
 use Rattle.std.specs.Map.{keys_of}
 use Rattle.hickory_wire.specs.rr.domain.DomainName.{DomainName}
 use Rattle.hickory_wire.specs.rr.domain.NameOrder.{name_cmp}
-use Rattle.hickory_wire.specs.serialize.reading.MessageFaults.{Fault}
-use Rattle.hickory_wire.specs.serialize.reading.MessageReading.{Reads}
+use Rattle.hickory_wire.specs.serialize.reading.MessageReading.{Fault, Reads}
 use Rattle.hickory_wire.specs.declared.error.DecodeError.{DecodeError}
 use Rattle.hickory_wire.specs.declared.op.message.Message.{Message}
 use Rattle.hickory_wire.specs.declared.op.query.Query.{Query}
@@ -28,7 +27,7 @@ module _ {S H : Type 0} (handler : Ghosts H) (signature_for : S → Signer) (acc
   abbrev server : Server H
   server = server_of handler signature_for catalog
 
-  run_of_all : (zones : List (DomainName × List H)) (messages : List Incoming) (outcomes : List Outcome) (after : List (DomainName × List H)) (to : List Incoming) (of : List Outcome)
+  pub run_of_all : (zones : List (DomainName × List H)) (messages : List Incoming) (outcomes : List Outcome) (after : List (DomainName × List H)) (to : List Incoming) (of : List Outcome)
       → RunBeside access server apex zones messages outcomes after to of → Run access server zones messages outcomes after
   run_of_all zones _ _ _ _ _ beside.none = none
   run_of_all zones _ _ after _ _ (to_zone {between = between} {messages = ms} {outcomes = os} {to = to} {of = of} _ step rest) = next step (run_of_all between ms os after to of rest)
@@ -39,7 +38,7 @@ module _ {S H : Type 0} (handler : Ghosts H) (signature_for : S → Signer) (acc
     step_alone : (zones between : List (DomainName × List H)) (message : Incoming) (outcome : Outcome) (chain : List H) → AreInOrder zones → IsToZone access zones (apex, chain) message
         → Step access (record server { zones = zones }) message outcome between
         → (chain' : List H) × Step access (record server { zones = (apex, chain) ∷ [] }) message outcome ((apex, chain') ∷ []) × Contains between (apex, chain')
-    step_alone zones between message outcome chain sorted to (denied no _ _) = absurd (no to.allowed)
+    step_alone zones between message outcome chain sorted to (denied refuses _ _) = absurd (refuses to.allowed)
     step_alone zones between message outcome chain sorted to (unreadable _ fault _ _) = absurd (no_fault message.bytes.items (message_of to.request.message) fault.fault to.is_request.reads fault.first)
     step_alone zones between message outcome chain sorted to (handled {request = r} {replies = replies} allowed is answered encoded out) =
         let messages : message_of r.message ≡ message_of to.request.message = same message.bytes.items (message_of r.message) (message_of to.request.message) is.reads to.is_request.reads in
