@@ -149,8 +149,7 @@ impl<'a> BinDecoder<'a> {
         Ok(&rest[..count])
     }
 
-    /// Keeps what the name at a place leads to. It is called for few names, and apart from the reading of all others.
-    #[inline(never)]
+    /// Keeps what the name at a place leads to.
     fn keep_name(&mut self, alloc: Global, place: usize, name: &Name) -> Result<(), AllocError>
         requires { (next : ℕ) × LabelsAt 0 self.old.bytes place place name.now.labels next }
         ensures { self.new ≡ self.old }

@@ -86,7 +86,6 @@ fn known_rest<'a>(
 }
 
 /// The name of labels that were read, and of a rest in wire form.
-#[inline(never)]
 fn name_with_rest(alloc: Global, labels: &mut Labels, rest: &[u8]) -> Result<Name, DecodeError>
     requires { IsWire rest.now }
     ensures { MatchResult result
