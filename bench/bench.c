@@ -65,10 +65,17 @@ struct job {
     struct bytes second;
     // The limit or the address.
     uint32_t number;
+    // A bit for each side that does not take the input, where a side may refuse it.
+    unsigned refused_by;
 };
+
+// Whether a side may refuse the input of a case, and is then left out there.
+static int may_refuse;
 
 static int has_call(const struct side *side, const struct job *job)
 {
+    if (job->refused_by & 1u << (side - sides))
+        return 0;
     switch (job->call) {
     case READ_REQUEST:
         return side->read_request != NULL;
@@ -95,7 +102,7 @@ static int has_call(const struct side *side, const struct job *job)
     return 0;
 }
 
-static uint64_t run(const struct side *side, const struct job *job, uint64_t rounds)
+static uint64_t run_or_refuse(const struct side *side, const struct job *job, uint64_t rounds)
 {
     const struct bytes *in = &job->input, *second = &job->second;
     uint64_t answer = WRONG;
@@ -131,6 +138,12 @@ static uint64_t run(const struct side *side, const struct job *job, uint64_t rou
         answer = side->is_blocked(in->at, in->len, second->at, second->len, rounds);
         break;
     }
+    return answer;
+}
+
+static uint64_t run(const struct side *side, const struct job *job, uint64_t rounds)
+{
+    uint64_t answer = run_or_refuse(side, job, rounds);
     if (answer == WRONG) {
         fprintf(stderr, "bench: %s cannot do %s at %u\n", side->name, job->name, job->size);
         exit(1);
@@ -149,8 +162,11 @@ static uint64_t answer_of_round(const struct side *side, const struct job *job)
     return run(side, job, 2) - run(side, job, 1);
 }
 
-// How many rounds are counted.
-static uint64_t rounds_to_count(const struct job *job) { return job->size < 100 ? 100 : job->size < 1000 ? 20 : 5; }
+// How many rounds are counted. What may be refused may take a side long.
+static uint64_t rounds_to_count(const struct job *job)
+{
+    return may_refuse ? 1 : job->size < 100 ? 100 : job->size < 1000 ? 20 : 5;
+}
 
 static void count_instructions(const struct side *side, const struct job *job)
 {
@@ -286,6 +302,9 @@ static void measure(const char *name, uint32_t size, enum call call, struct byte
     struct job job = {.size = size, .call = call, .input = input, .second = second, .number = number};
     snprintf(job.name, sizeof job.name, "%s", name);
     if (strstr(name, word) != NULL) {
+        for (size_t s = 0; may_refuse && s < SIDES; s++)
+            if (has_call(&sides[s], &job) && run_or_refuse(&sides[s], &job, 1) == WRONG)
+                job.refused_by |= 1u << s;
         if (strcmp(mode, "times") == 0)
             measure_times(&job);
         for (size_t s = 0; s < SIDES; s++) {
@@ -415,16 +434,17 @@ static struct bytes bytes_of_file(const char *path)
 
 static int is_shown(const struct dirent *entry) { return entry->d_name[0] != '.'; }
 
-// The messages that hostile.py wrote, each as a request: what it comes to is 1, or 0 where the side does not take it.
+// The messages that hostile.py wrote. A side that does not take one is left out there.
 static void measure_hostile(const char *folder)
 {
+    may_refuse = 1;
     struct dirent **found;
     int count = scandir(folder, &found, is_shown, alphasort);
     for (int i = 0; i < count; i++) {
         char path[512], name[64];
         snprintf(path, sizeof path, "%s/%s", folder, found[i]->d_name);
         snprintf(name, sizeof name, "long, %.50s", found[i]->d_name);
-        measure(name, UINT16_MAX, READ_REQUEST, bytes_of_file(path), none, 0);
+        measure(name, UINT16_MAX, READ_MESSAGE, bytes_of_file(path), none, 0);
         free(found[i]);
     }
     if (count >= 0)

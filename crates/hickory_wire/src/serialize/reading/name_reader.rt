@@ -69,11 +69,6 @@ fn pointer_target(
     Ok(target)
 }
 
-/// So many steps, of a name that has followed a pointer; none before its first.
-fn behind_pointer(after: Option<usize>, steps: usize) -> usize {
-    if after.is_some() { steps } else { 0 }
-}
-
 /// What is known of the name that goes on at a place, and the place behind the name: nothing before the first pointer.
 fn known_rest<'a>(
     known: &'a Option<KnownNames<'_>>,
@@ -136,20 +131,18 @@ pub(crate) fn read_name_at(
         let high = usize::from(high);
         if high == 0 {
             let name = labels.to_name(alloc, true)?;
-            let steps = behind_pointer(after, steps);
             return Ok((name, after.unwrap_or(place + 1), steps));
         }
+        steps = steps.saturating_add(usize::from(after.is_some()));
         if high < LABEL_LIMIT {
             let end = label_end(bytes, place, size, high)?;
             labels.push(&bytes[place + 1..end]);
             size += 1 + high;
-            steps = steps.wrapping_add(1);
             place = end;
         } else if high < POINTER_BITS {
             return Err(DecodeError::UnrecognizedLabelCode);
         } else {
             let target = pointer_target(bytes, start, place, high)?;
-            steps = behind_pointer(after, steps.wrapping_add(1));
             after = Some(after.unwrap_or(place + 2));
             start = target;
             place = target;
