@@ -1,0 +1,27 @@
+-- The records of a zone file (RFC 1035 section 5.1).
+use Rattle.std.specs.Prelude.{◌≡◌, ¬, ℕ, ◌<◌, ◌⊎◌, true, Option, Some, None}
+use Rattle.hickory_wire.specs.declared.rr.rdata.RData.{RData}
+use Rattle.hickory_wire.specs.declared.rr.record.Record.{Record}
+use Rattle.hickory_wire.specs.declared.rr.record.Proof.TheVariants.{Indeterminate}
+use Rattle.hickory_wire.specs.rr.RecordData.{type_of}
+
+-- a type of which zones have records: none that stands in messages alone, which are OPT, 41, and from 128 to 255 (RFC 6895 section 3.1)
+pub record IsZoneType (number : ℕ) : Type 0 where
+  pub not_zero : 0 < number
+  pub not_opt : ¬ (number ≡ 41)
+  pub not_meta : (number < 128) ⊎ (255 < number)
+
+-- What every record of a zone file is: its owner name is fully qualified, its class IN, which is 1 (RFC 1035 section 3.2.4), its type one of
+-- zones, and of its proof nothing is known.
+pub record IsZoneRecord (r : Record RData) : Type 0 where
+  pub qualified : r.name.is_fqdn ≡ true
+  pub class_in : r.dns_class ≡ 1
+  pub stored : IsZoneType (type_of r.rdata)
+  pub unproved : r.proof ≡ Indeterminate
+
+-- The TTL of a record that has this one or none of its own: its own, else that of the last $TTL (RFC 2308 section 4), else that of the record
+-- before (RFC 1035 section 5.1), else none.
+abbrev pub ttl_in_force : Option ℕ → Option ℕ → Option ℕ → Option ℕ
+ttl_in_force (Some own) default last = Some own
+ttl_in_force None (Some default) last = Some default
+ttl_in_force None None last = last
