@@ -1,9 +1,11 @@
 -- The records of a zone file (RFC 1035 section 5.1).
-use Rattle.std.specs.Prelude.{◌≡◌, ¬, ℕ, ◌<◌, ◌⊎◌, true, Option, Some, None}
+use Rattle.std.specs.Prelude.{◌≡◌, ℕ, ◌<◌, ◌⊎◌, true, Option, Some, None, Unit}
 use Rattle.hickory_wire.specs.declared.rr.rdata.RData.{RData}
 use Rattle.hickory_wire.specs.declared.rr.record.Record.{Record}
 use Rattle.hickory_wire.specs.declared.rr.record.Proof.TheVariants.{Indeterminate}
 use Rattle.hickory_wire.specs.rr.RecordData.{type_of}
+use Rattle.hickory_server.specs.declared.zone_text.zone_file.entry.Entry.{Entry}
+use Rattle.hickory_server.specs.declared.zone_text.zone_file.entry.Entry.TheVariants as entry
 
 -- a type of which zones have records: none that stands in messages alone, which are OPT, 41, and from 128 to 255 (RFC 6895 section 3.1)
 pub record IsZoneType (number : ℕ) : Type 0 where
@@ -18,6 +20,11 @@ pub record IsZoneRecord (r : Record RData) : Type 0 where
   pub class_in : r.dns_class ≡ 1
   pub stored : IsZoneType (type_of r.rdata)
   pub unproved : r.proof ≡ Indeterminate
+
+-- What an entry is: a record is one of zones.
+abbrev pub IsZoneEntry : Entry → Type 0
+IsZoneEntry (entry.Record r) = IsZoneRecord r
+IsZoneEntry other = Unit {0}
 
 -- The TTL of a record that has this one or none of its own: its own, else that of the last $TTL (RFC 2308 section 4), else that of the record
 -- before (RFC 1035 section 5.1), else none.

@@ -1,6 +1,6 @@
 //! Names in text.
 
-ghost use Rattle.std.specs.Prelude.{◌≡◌, ◌≤◌, true, length, IfOk};
+ghost use Rattle.std.specs.Prelude.{◌≡◌, ◌≤◌, ◌++◌, true, length, IfOk};
 
 use crate::zone_text::error::{TextError, TextFault};
 use crate::zone_text::escapes::first_byte;

@@ -147,7 +147,7 @@ impl<'a> Words<'a> {
     /// The front of an entry of a zone file, before which so many bytes stand.
     pub(crate) fn entry(text: &'a [u8], place: usize) -> Words<'a>
         requires { place ≤ length text.now }
-        ensures text { result.text ≡ text }
+        ensures text { result.text.now ≡ text.now }
         ensures place { result.place ≡ place }
     {
         Words {

@@ -3,7 +3,7 @@
 mod entry;
 mod fault;
 
-ghost use Rattle.std.specs.Prelude.{◌≤◌, All, IfOk, length};
+ghost use Rattle.std.specs.Prelude.{All, IfOk};
 ghost use Rattle.hickory_server.specs.ZoneFiles.{IsZoneRecord};
 
 use crate::zone_text::error::ZoneFileError;
@@ -17,26 +17,23 @@ use std::alloc::Global;
 fn read_entries(alloc: Global, text: &[u8], origin: &Name) -> Result<Items<Record>, EntryError>
     ensures { IfOk result (λ records. All IsZoneRecord records) }
 {
-    let mut origin = origin.clone()?;
-    let mut default_ttl = None;
-    let mut records = Items::new(alloc);
+    let mut before = Before {
+        origin: origin.clone()?,
+        default_ttl: None,
+        records: Items::new(alloc),
+    };
     let mut place = 0;
     'entries: while place < text.len() {
         let words = Words::entry(text, place);
-        let before = Before {
-            origin: &origin,
-            default_ttl,
-            last: records.as_slice().last(),
-        };
         match read_entry(alloc, words, &before)? {
             Entry::Blank => {}
-            Entry::Origin(name) => origin = name,
-            Entry::DefaultTtl(ttl) => default_ttl = Some(ttl),
-            Entry::Record(record) => records.push(record)?,
+            Entry::Origin(name) => before.origin = name,
+            Entry::DefaultTtl(ttl) => before.default_ttl = Some(ttl),
+            Entry::Record(record) => before.records.push(record)?,
         }
         place = words.entry_end()? + 1;
     }
-    Ok(records)
+    Ok(before.records)
 }
 
 /// Reads a zone file (RFC 1035 section 5.1): its records in their order.

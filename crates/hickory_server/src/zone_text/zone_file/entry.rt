@@ -1,8 +1,8 @@
 //! One entry of a zone file (RFC 1035 section 5.1).
 
-ghost use Rattle.std.specs.Prelude.{◌≡◌, IfOk, IfSome, IsTrue};
+ghost use Rattle.std.specs.Prelude.{◌≡◌, All, IfOk, IsTrue, true};
 ghost use Rattle.hickory_wire.specs.rr.RecordData.{type_of};
-ghost use Rattle.hickory_server.specs.ZoneFiles.{IsZoneRecord, IsZoneType, ttl_in_force};
+ghost use Rattle.hickory_server.specs.ZoneFiles.{IsZoneEntry, IsZoneRecord, IsZoneType, ttl_in_force};
 
 use crate::zone_text::data::data_of;
 use crate::zone_text::error::{TextFault, ZoneFileFault};
@@ -11,18 +11,18 @@ use crate::zone_text::record::{class_of, type_of};
 use crate::zone_text::ttl::zone_file_ttl;
 use crate::zone_text::words::{Word, Words};
 use crate::zone_text::zone_file::fault::{EntryError, fault_of};
-use hickory_wire::{DNSClass, Name, Proof, RData, Record, RecordType};
+use hickory_wire::{DNSClass, Items, Name, Proof, RData, Record, RecordType};
 use std::alloc::Global;
 
 /// What the entries before leave to an entry.
-#[derive(Clone, Copy)]
-pub(crate) struct Before<'a> {
+#[derive(Drop)]
+pub(crate) struct Before {
     /// What names without a dot at their end are relative to.
-    pub(crate) origin: &'a Name,
+    pub(crate) origin: Name,
     /// The TTL of the last `$TTL`, in seconds.
     pub(crate) default_ttl: Option<u32>,
-    /// The last record.
-    pub(crate) last: Option<&'a Record>,
+    /// The records so far.
+    pub(crate) records: Items<Record>,
 }
 
 /// An entry.
@@ -126,14 +126,15 @@ fn zone_data(
     }
 }
 
-/// The owner name of the last record.
-fn last_owner(first: &Word<'_>, last: Option<&Record>) -> Result<Name, EntryError>
-    ensures { IfOk result (λ name. IfSome last (λ r. name ≡ r.now.name)) }
+/// The owner name of the last record, for an entry that begins with this field.
+fn last_owner(first: &Word<'_>, records: &[Record]) -> Result<Name, EntryError>
+    requires { All IsZoneRecord records.now }
+    ensures { IfOk result (λ name. name.is_fqdn ≡ true) }
 {
-    let Some(record) = last else {
-        return Err(fault_of(first, ZoneFileFault::NoOwner));
-    };
-    Ok(record.name.clone()?)
+    match records.last() {
+        Some(record) => Ok(record.name.clone()?),
+        None => Err(fault_of(first, ZoneFileFault::NoOwner)),
+    }
 }
 
 /// The record that an entry is: owner name, where the line begins with no blank, TTL and class where they are there, type and data.
@@ -141,22 +142,23 @@ fn read_zone_record(
     alloc: Global,
     first: &Word<'_>,
     mut words: Words<'_>,
-    before: &Before<'_>,
+    before: &Before,
 ) -> Result<Record, EntryError>
-    requires { IfSome before.now.last (λ r. IsZoneRecord r.now) }
+    requires { All IsZoneRecord before.now.records }
     ensures { IfOk result (λ r. IsZoneRecord r) }
 {
+    let records = before.records.as_slice();
     let name = if words.begins_blank() {
-        last_owner(first, before.last)?
+        last_owner(first, records)?
     } else {
-        next_name(alloc, &mut words, Some(before.origin))?
+        next_name(alloc, &mut words, Some(&before.origin))?
     };
     let (own, word) = ttl_and_class(&mut words)?;
-    let last = before.last.map(|record| record.ttl);
+    let last = records.last().map(|record| record.ttl);
     let Some(ttl) = ttl_in_force(own, before.default_ttl, last) else {
         return Err(fault_of(first, ZoneFileFault::NoTtl));
     };
-    let rdata = zone_data(alloc, &word, &mut words, before.origin)?;
+    let rdata = zone_data(alloc, &word, &mut words, &before.origin)?;
     Ok(Record {
         name,
         dns_class: DNSClass::IN,
@@ -172,7 +174,9 @@ fn read_directive(
     first: &Word<'_>,
     words: &mut Words<'_>,
     origin: &Name,
-) -> Result<Entry, EntryError> {
+) -> Result<Entry, EntryError>
+    ensures { IfOk result IsZoneEntry }
+{
     let entry = if first.bytes.eq_ignore_ascii_case(b"$ORIGIN") {
         Entry::Origin(next_name(alloc, words, Some(origin))?)
     } else if first.bytes.eq_ignore_ascii_case(b"$TTL") {
@@ -195,14 +199,17 @@ fn is_directive(word: &Word<'_>) -> bool {
 pub(crate) fn read_entry(
     alloc: Global,
     words: Words<'_>,
-    before: &Before<'_>,
-) -> Result<Entry, EntryError> {
+    before: &Before,
+) -> Result<Entry, EntryError>
+    requires { All IsZoneRecord before.now.records }
+    ensures { IfOk result IsZoneEntry }
+{
     let mut ahead = words;
     let Some(first) = ahead.next()? else {
         return Ok(Entry::Blank);
     };
     if !words.begins_blank() && is_directive(&first) {
-        read_directive(alloc, &first, &mut ahead, before.origin)
+        read_directive(alloc, &first, &mut ahead, &before.origin)
     } else {
         let record = read_zone_record(alloc, &first, words, before)?;
         Ok(Entry::Record(record))
