@@ -94,7 +94,7 @@ fn append_labels(word: &Word<'_>, labels: &mut Labels, name: &Name) -> Result<()
         return Err(word.fault(TextFault::NameTooLong));
     }
     let mut place = 0;
-    let mut count = 0;
+    let mut count = 0usize;
     'labels: while place < wire.len() {
         let end = place + 1 + usize::from(wire[place]);
         labels.push(&wire[place + 1..end]);
