@@ -1,9 +1,10 @@
 -- The records of a zone file (RFC 1035 section 5.1).
-use Rattle.std.specs.Prelude.{◌≡◌, ℕ, ◌<◌, ◌⊎◌, true, Option, Some, None}
+use Rattle.std.specs.Prelude.{◌≡◌, ℕ, ◌<◌, ◌⊎◌, ◌++◌, ◌∷◌, [], true, List, length, get_or, Option, Some, None}
 use Rattle.hickory_wire.specs.declared.rr.rdata.RData.{RData}
 use Rattle.hickory_wire.specs.declared.rr.record.Record.{Record}
 use Rattle.hickory_wire.specs.declared.rr.record.Proof.TheVariants.{Indeterminate}
 use Rattle.hickory_wire.specs.rr.RecordData.{type_of}
+use Rattle.hickory_wire.specs.rr.domain.DomainName.{DomainName}
 use Rattle.hickory_server.specs.declared.zone_text.zone_file.entry.Entry.{Entry}
 use Rattle.hickory_server.specs.declared.zone_text.zone_file.entry.Entry.TheVariants as entry
 
@@ -21,10 +22,23 @@ pub record IsZoneRecord (r : Record RData) : Type 0 where
   pub stored : IsZoneType (type_of r.rdata)
   pub unproved : r.proof ≡ Indeterminate
 
--- What an entry is: a record is one of zones.
-abbrev pub IsZoneEntry : Entry → Type 0
-IsZoneEntry (entry.Record r) = IsZoneRecord r
-IsZoneEntry other = Unit {0}
+-- a blank that parts fields: a space, a tab, or a byte that ends lines (RFC 1035 section 5.1)
+abbrev pub IsBlank : ℕ → Type 0
+IsBlank byte = (byte ≡ 32) ⊎ (byte ≡ 9) ⊎ (byte ≡ 13) ⊎ (byte ≡ 10)
+
+-- a blank stands at this place of a text
+abbrev pub HasBlankAt : List ℕ → ℕ → Type 0
+HasBlankAt text place = (place < length text) × IsBlank (get_or text place 0)
+
+-- the owner name of the last record
+abbrev pub IsLastOwner : List (Record RData) → DomainName → Type 0
+IsLastOwner records name = (earlier : List (Record RData)) × (last : Record RData) × (records ≡ earlier ++ last ∷ []) × (name ≡ last.name)
+
+-- What an entry that begins at this place of a text is, behind these records: a record is one of zones, and where the line begins with a
+-- blank, of the owner of the record before (RFC 1035 section 5.1).
+abbrev pub IsEntryAt : List ℕ → ℕ → List (Record RData) → Entry → Type 0
+IsEntryAt text place records (entry.Record r) = IsZoneRecord r × (HasBlankAt text place → IsLastOwner records r.name)
+IsEntryAt text place records other = Unit {0}
 
 -- The TTL of a record that has this one or none of its own: its own, else that of the last $TTL (RFC 2308 section 4), else that of the record
 -- before (RFC 1035 section 5.1), else none.

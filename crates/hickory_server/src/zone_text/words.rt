@@ -1,6 +1,7 @@
 //! The fields of a line, and of an entry of a zone file.
 
-ghost use Rattle.std.specs.Prelude.{◌≡◌, ◌≤◌, ◌<◌, ◌-◌, length, IfOk, IfSome};
+ghost use Rattle.std.specs.Prelude.{◌≡◌, ◌≤◌, ◌<◌, ◌-◌, ◌↔◌, length, IfOk, IfSome, IsTrue};
+ghost use Rattle.hickory_server.specs.ZoneFiles.{HasBlankAt, IsBlank};
 
 use crate::zone_text::error::{TextError, TextFault};
 use std::str;
@@ -78,7 +79,9 @@ pub(crate) struct Words<'a> {
     ghost within: { place ≤ length text.now },
 }
 
-fn is_blank(byte: u8) -> bool {
+fn is_blank(byte: u8) -> bool
+    ensures { IsTrue result ↔ IsBlank byte }
+{
     matches!(byte, b' ' | b'\t' | b'\r' | b'\n')
 }
 
@@ -160,10 +163,10 @@ impl<'a> Words<'a> {
     }
 
     /// Whether a blank stands next.
-    pub(crate) fn begins_blank(&self) -> bool {
-        self.text[self.place..]
-            .first()
-            .is_some_and(|byte| is_blank(*byte))
+    pub(crate) fn begins_blank(&self) -> bool
+        ensures { IsTrue result ↔ HasBlankAt self.now.text.now self.now.place }
+    {
+        self.place < self.text.len() && is_blank(self.text[self.place])
     }
 
     /// Where the entry ends: its line feed, or the end of the text. A quote or a parenthesis in it that does not end is a fault.

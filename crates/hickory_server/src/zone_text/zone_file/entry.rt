@@ -1,8 +1,10 @@
 //! One entry of a zone file (RFC 1035 section 5.1).
 
-ghost use Rattle.std.specs.Prelude.{◌≡◌, All, IfOk, IsTrue, true};
+ghost use Rattle.std.specs.Prelude.{◌≡◌, ℕ, List, All, IfOk, IsTrue, true};
 ghost use Rattle.hickory_wire.specs.rr.RecordData.{type_of};
-ghost use Rattle.hickory_server.specs.ZoneFiles.{IsZoneEntry, IsZoneRecord, IsZoneType, ttl_in_force};
+ghost use Rattle.hickory_wire.specs.declared.rr.record.Record.{Record};
+ghost use Rattle.hickory_wire.specs.declared.rr.rdata.RData.{RData};
+ghost use Rattle.hickory_server.specs.ZoneFiles.{HasBlankAt, IsEntryAt, IsLastOwner, IsZoneRecord, IsZoneType, ttl_in_force};
 
 use crate::zone_text::data::data_of;
 use crate::zone_text::error::{TextFault, ZoneFileFault};
@@ -129,7 +131,8 @@ fn zone_data(
 /// The owner name of the last record, for an entry that begins with this field.
 fn last_owner(first: &Word<'_>, records: &[Record]) -> Result<Name, EntryError>
     requires { All IsZoneRecord records.now }
-    ensures { IfOk result (λ name. name.is_fqdn ≡ true) }
+    ensures qualified { IfOk result (λ name. name.is_fqdn ≡ true) }
+    ensures last { IfOk result (λ name. IsLastOwner records.now name) }
 {
     match records.last() {
         Some(record) => Ok(record.name.clone()?),
@@ -141,13 +144,15 @@ fn last_owner(first: &Word<'_>, records: &[Record]) -> Result<Name, EntryError>
 fn read_zone_record(
     alloc: Global,
     first: &Word<'_>,
-    mut words: Words<'_>,
+    words: Words<'_>,
     before: &Before,
 ) -> Result<Record, EntryError>
     requires { All IsZoneRecord before.now.records }
-    ensures { IfOk result (λ r. IsZoneRecord r) }
+    ensures kept { IfOk result (λ r. IsZoneRecord r) }
+    ensures owner { IfOk result (λ r. HasBlankAt words.entry.text.now words.entry.place → IsLastOwner before.now.records r.name) }
 {
     let records = before.records.as_slice();
+    let mut words = words;
     let name = if words.begins_blank() {
         last_owner(first, records)?
     } else {
@@ -175,7 +180,7 @@ fn read_directive(
     words: &mut Words<'_>,
     origin: &Name,
 ) -> Result<Entry, EntryError>
-    ensures { IfOk result IsZoneEntry }
+    ensures { IfOk result (λ entry. (text : List ℕ) (place : ℕ) (records : List (Record RData)) → IsEntryAt text place records entry) }
 {
     let entry = if first.bytes.eq_ignore_ascii_case(b"$ORIGIN") {
         Entry::Origin(next_name(alloc, words, Some(origin))?)
@@ -202,7 +207,7 @@ pub(crate) fn read_entry(
     before: &Before,
 ) -> Result<Entry, EntryError>
     requires { All IsZoneRecord before.now.records }
-    ensures { IfOk result IsZoneEntry }
+    ensures { IfOk result (λ entry. IsEntryAt words.entry.text.now words.entry.place before.now.records entry) }
 {
     let mut ahead = words;
     let Some(first) = ahead.next()? else {
