@@ -1,5 +1,5 @@
 -- The records of a zone file (RFC 1035 section 5.1).
-use Rattle.std.specs.Prelude.{◌≡◌, ℕ, ◌<◌, ◌⊎◌, ◌++◌, ◌∷◌, [], true, List, length, get_or, Option, Some, None}
+use Rattle.std.specs.Prelude.{◌≡◌, ℕ, ◌<◌, ◌⊎◌, ◌-◌, ◌++◌, ◌∷◌, [], true, List, length, get_or, Option, Some, None}
 use Rattle.hickory_wire.specs.declared.rr.rdata.RData.{RData}
 use Rattle.hickory_wire.specs.declared.rr.record.Record.{Record}
 use Rattle.hickory_wire.specs.declared.rr.record.Proof.TheVariants.{Indeterminate}
@@ -29,6 +29,10 @@ IsBlank byte = (byte ≡ 32) ⊎ (byte ≡ 9) ⊎ (byte ≡ 13) ⊎ (byte ≡ 10
 -- a blank stands at this place of a text
 abbrev pub HasBlankAt : List ℕ → ℕ → Type 0
 HasBlankAt text place = (place < length text) × IsBlank (get_or text place 0)
+
+-- the text of a name that is fully qualified, or ends in an escaped dot: its last byte is `.` (RFC 1035 section 5.1)
+abbrev pub EndsInDot : List ℕ → Type 0
+EndsInDot text = (0 < length text) × (get_or text (length text - 1) 0 ≡ 46)
 
 -- the owner name of the last record
 abbrev pub IsLastOwner : List (Record RData) → DomainName → Type 0

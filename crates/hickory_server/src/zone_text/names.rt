@@ -1,6 +1,7 @@
 //! Names in text.
 
-ghost use Rattle.std.specs.Prelude.{◌≡◌, ◌≤◌, ◌++◌, true, length, IfOk};
+ghost use Rattle.std.specs.Prelude.{◌≡◌, ◌≤◌, ◌<◌, ◌++◌, ℕ, List, true, get_or, length, IfOk, IfSome, IsTrue};
+ghost use Rattle.hickory_server.specs.ZoneFiles.{EndsInDot};
 
 use crate::zone_text::error::{TextError, TextFault};
 use crate::zone_text::escapes::first_byte;
@@ -21,7 +22,8 @@ fn read_label(
     label: &mut [u8; MAX_LABEL_LEN],
 ) -> Result<(usize, usize), TextError>
     requires { start ≤ length word.now.bytes.now }
-    ensures { IfOk result (λ ends. (ends.0 ≤ 63) × (start ≤ ends.1) × (ends.1 ≤ length word.now.bytes.now)) }
+    ensures within { IfOk result (λ ends. (ends.0 ≤ 63) × (start ≤ ends.1) × (ends.1 ≤ length word.now.bytes.now)) }
+    ensures dot { IfOk result (λ ends. ends.1 < length word.now.bytes.now → get_or word.now.bytes.now ends.1 0 ≡ 46) }
 {
     let text = word.bytes;
     let mut place = start;
@@ -50,7 +52,9 @@ fn read_label(
 }
 
 /// Reads labels with dots between them, and whether a dot stands last.
-fn read_labels(word: &Word<'_>, labels: &mut Labels) -> Result<bool, TextError> {
+fn read_labels(word: &Word<'_>, labels: &mut Labels) -> Result<bool, TextError>
+    ensures { IfOk result (λ dot. IsTrue dot → EndsInDot word.now.bytes.now) }
+{
     let text = word.bytes;
     let mut place = 0;
     'labels: loop {
@@ -74,7 +78,9 @@ fn read_labels(word: &Word<'_>, labels: &mut Labels) -> Result<bool, TextError> 
 }
 
 /// Reads the labels of a name, and whether it is fully qualified: `.` and `@` have none, and the first of them is.
-fn spelled_labels(word: &Word<'_>, labels: &mut Labels) -> Result<bool, TextError> {
+fn spelled_labels(word: &Word<'_>, labels: &mut Labels) -> Result<bool, TextError>
+    ensures { IfOk result (λ is_fqdn. IsTrue is_fqdn → EndsInDot word.now.bytes.now) }
+{
     if word.quoted {
         return Err(word.fault(TextFault::BadName));
     }
@@ -111,7 +117,8 @@ pub(crate) fn absolute_name(
     word: &Word<'_>,
     origin: Option<&Name>,
 ) -> Result<Name, TextError>
-    ensures { IfOk result (λ name. name.is_fqdn ≡ true) }
+    ensures qualified { IfOk result (λ name. name.is_fqdn ≡ true) }
+    ensures relative { IfOk result (λ name. (EndsInDot word.now.bytes.now → ⊥) → IfSome origin.entry (λ o. (own : List (List ℕ)) × (name.labels ≡ own ++ o.now.labels))) }
 {
     let mut labels = Labels::new();
     let is_fqdn = spelled_labels(word, &mut labels)?;

@@ -1,14 +1,14 @@
 //! One entry of a zone file (RFC 1035 section 5.1).
 
-ghost use Rattle.std.specs.Prelude.{◌≡◌, ℕ, List, All, IfOk, IsTrue, true};
+ghost use Rattle.std.specs.Prelude.{◌≡◌, ◌++◌, ℕ, List, All, IfOk, IsTrue, true};
 ghost use Rattle.hickory_wire.specs.rr.RecordData.{type_of};
 ghost use Rattle.hickory_wire.specs.declared.rr.record.Record.{Record};
 ghost use Rattle.hickory_wire.specs.declared.rr.rdata.RData.{RData};
-ghost use Rattle.hickory_server.specs.ZoneFiles.{HasBlankAt, IsEntryAt, IsLastOwner, IsZoneRecord, IsZoneType, ttl_in_force};
+ghost use Rattle.hickory_server.specs.ZoneFiles.{EndsInDot, HasBlankAt, IsEntryAt, IsLastOwner, IsZoneRecord, IsZoneType, ttl_in_force};
 
 use crate::zone_text::data::data_of;
 use crate::zone_text::error::{TextFault, ZoneFileFault};
-use crate::zone_text::names::next_name;
+use crate::zone_text::names::{absolute_name, next_name};
 use crate::zone_text::record::{class_of, type_of};
 use crate::zone_text::ttl::zone_file_ttl;
 use crate::zone_text::words::{Word, Words};
@@ -140,23 +140,27 @@ fn last_owner(first: &Word<'_>, records: &[Record]) -> Result<Name, EntryError>
     }
 }
 
-/// The record that an entry is: owner name, where the line begins with no blank, TTL and class where they are there, type and data.
+/// The record that an entry is: owner name, where the line begins with no blank, TTL and class where they are there, type and data. Given
+/// are its first field, all its fields, and those behind the first.
 fn read_zone_record(
     alloc: Global,
     first: &Word<'_>,
-    words: Words<'_>,
+    line: Words<'_>,
+    behind: Words<'_>,
     before: &Before,
 ) -> Result<Record, EntryError>
     requires { All IsZoneRecord before.now.records }
     ensures kept { IfOk result (λ r. IsZoneRecord r) }
-    ensures owner { IfOk result (λ r. HasBlankAt words.entry.text.now words.entry.place → IsLastOwner before.now.records r.name) }
+    ensures repeated { IfOk result (λ r. HasBlankAt line.entry.text.now line.entry.place → IsLastOwner before.now.records r.name) }
+    ensures relative { IfOk result (λ r. (HasBlankAt line.entry.text.now line.entry.place → ⊥) → (EndsInDot first.now.bytes.now → ⊥) → (own : List (List ℕ)) × (r.name.labels ≡ own ++ before.now.origin.labels)) }
 {
     let records = before.records.as_slice();
-    let mut words = words;
-    let name = if words.begins_blank() {
+    let mut words = behind;
+    let name = if line.begins_blank() {
+        words = line;
         last_owner(first, records)?
     } else {
-        next_name(alloc, &mut words, Some(&before.origin))?
+        absolute_name(alloc, first, Some(&before.origin))?
     };
     let (own, word) = ttl_and_class(&mut words)?;
     let last = records.last().map(|record| record.ttl);
@@ -216,7 +220,7 @@ pub(crate) fn read_entry(
     if !words.begins_blank() && is_directive(&first) {
         read_directive(alloc, &first, &mut ahead, &before.origin)
     } else {
-        let record = read_zone_record(alloc, &first, words, before)?;
+        let record = read_zone_record(alloc, &first, words, ahead, before)?;
         Ok(Entry::Record(record))
     }
 }
