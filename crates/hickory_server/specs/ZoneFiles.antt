@@ -34,6 +34,10 @@ HasBlankAt text place = (place < length text) × IsBlank (get_or text place 0)
 abbrev pub EndsInDot : List ℕ → Type 0
 EndsInDot text = (0 < length text) × (get_or text (length text - 1) 0 ≡ 46)
 
+-- a name that is relative to an origin: labels of its own before those of the origin (RFC 1035 section 5.1)
+abbrev pub IsRelativeTo : DomainName → DomainName → Type 0
+IsRelativeTo origin name = (own : List (List ℕ)) × (name.labels ≡ own ++ origin.labels)
+
 -- the owner name of the last record
 abbrev pub IsLastOwner : List (Record RData) → DomainName → Type 0
 IsLastOwner records name = (earlier : List (Record RData)) × (last : Record RData) × (records ≡ earlier ++ last ∷ []) × (name ≡ last.name)
@@ -43,6 +47,11 @@ IsLastOwner records name = (earlier : List (Record RData)) × (last : Record RDa
 abbrev pub IsEntryAt : List ℕ → ℕ → List (Record RData) → Entry → Type 0
 IsEntryAt text place records (entry.Record r) = IsZoneRecord r × (HasBlankAt text place → IsLastOwner records r.name)
 IsEntryAt text place records other = Unit {0}
+
+-- a blank line or a directive
+abbrev pub IsNoRecord : Entry → Type 0
+IsNoRecord (entry.Record r) = ⊥
+IsNoRecord other = Unit {0}
 
 -- The TTL of a record that has this one or none of its own: its own, else that of the last $TTL (RFC 2308 section 4), else that of the record
 -- before (RFC 1035 section 5.1), else none.

@@ -125,8 +125,8 @@ fn form(
     }
 }
 
-/// The data that stand next, to the end of the line or the entry. Names that are not fully qualified are relative to the origin, and without
-/// one a fault.
+/// The data that stand next, to the end of the line or the entry. Names that are not fully qualified are relative to the origin, and
+/// without one a fault.
 pub(crate) fn data_of(
     alloc: Global,
     record_type: RecordType,

@@ -1,7 +1,7 @@
 //! Names in text.
 
-ghost use Rattle.std.specs.Prelude.{◌≡◌, ◌≤◌, ◌<◌, ◌++◌, ℕ, List, true, get_or, length, IfOk, IfSome, IsTrue};
-ghost use Rattle.hickory_server.specs.ZoneFiles.{EndsInDot};
+ghost use Rattle.std.specs.Prelude.{◌≡◌, ◌≤◌, ◌<◌, ◌++◌, true, get_or, length, IfOk, IfSome, IsTrue};
+ghost use Rattle.hickory_server.specs.ZoneFiles.{EndsInDot, IsRelativeTo};
 
 use crate::zone_text::error::{TextError, TextFault};
 use crate::zone_text::escapes::first_byte;
@@ -118,7 +118,7 @@ pub(crate) fn absolute_name(
     origin: Option<&Name>,
 ) -> Result<Name, TextError>
     ensures qualified { IfOk result (λ name. name.is_fqdn ≡ true) }
-    ensures relative { IfOk result (λ name. (EndsInDot word.now.bytes.now → ⊥) → IfSome origin.entry (λ o. (own : List (List ℕ)) × (name.labels ≡ own ++ o.now.labels))) }
+    ensures relative { IfOk result (λ name. (EndsInDot word.now.bytes.now → ⊥) → IfSome origin.entry (λ o. IsRelativeTo o.now name)) }
 {
     let mut labels = Labels::new();
     let is_fqdn = spelled_labels(word, &mut labels)?;

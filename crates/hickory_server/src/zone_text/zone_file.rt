@@ -39,13 +39,15 @@ fn read_entries(alloc: Global, text: &[u8], origin: &Name) -> Result<Items<Recor
 /// Reads a zone file (RFC 1035 section 5.1): its records in their order.
 ///
 /// An entry is a line; parentheses join lines, a comment goes from `;` to the end of its line, and quotes may hold any of these. It is
-/// blank, or `$ORIGIN` and a name, or `$TTL` and a TTL (RFC 2308 section 4), or a record: owner name, TTL, class, type and data. A line that begins with a blank has
-/// the owner name of the record before. TTL and class stand in either order, and either may be left out; the class is IN. A record without a TTL has that of the last
-/// `$TTL`, else that of the record before. A TTL is a number of seconds, or numbers with a unit behind each, one of `s`, `m`, `h`, `d` and `w` in either letter
-/// case. Names, in the data too, that have no dot at their end are relative to the origin, at first the one that is given, and `@` is the origin
-/// itself. What data are made of is told at [`read_data`](crate::zone_text::read_data).
+/// blank, or `$ORIGIN` and a name, or `$TTL` and a TTL (RFC 2308 section 4), or a record: owner name, TTL, class, type and data. A line
+/// that begins with a blank has the owner name of the record before. TTL and class stand in either order, and either may be left out; the
+/// class is IN. A record without a TTL has that of the last `$TTL`, else that of the record before. A TTL is a number of seconds, or
+/// numbers with a unit behind each, one of `s`, `m`, `h`, `d` and `w` in either letter case. Names, in the data too, that have no dot at
+/// their end are relative to the origin, at first the one that is given, which is taken as fully qualified; `@` is the origin itself. What
+/// data are made of is told at [`read_data`](crate::zone_text::read_data).
 ///
-/// Nothing is asked of the records together: that they make one zone, below the origin, is for those who use them. `$INCLUDE` is not taken.
+/// The first fault ends it, with its line; `$INCLUDE` is one. Nothing is asked of the records together: that they make one zone, at the
+/// origin or below it, is for those who use them.
 pub fn read_zone_file(
     alloc: Global,
     text: &str,

@@ -1,10 +1,8 @@
 //! One entry of a zone file (RFC 1035 section 5.1).
 
-ghost use Rattle.std.specs.Prelude.{◌≡◌, ◌++◌, ℕ, List, All, IfOk, IsTrue, true};
+ghost use Rattle.std.specs.Prelude.{◌≡◌, ◌↔◌, All, IfOk, IsTrue, true};
 ghost use Rattle.hickory_wire.specs.rr.RecordData.{type_of};
-ghost use Rattle.hickory_wire.specs.declared.rr.record.Record.{Record};
-ghost use Rattle.hickory_wire.specs.declared.rr.rdata.RData.{RData};
-ghost use Rattle.hickory_server.specs.ZoneFiles.{EndsInDot, HasBlankAt, IsEntryAt, IsLastOwner, IsZoneRecord, IsZoneType, ttl_in_force};
+ghost use Rattle.hickory_server.specs.ZoneFiles.{EndsInDot, HasBlankAt, IsEntryAt, IsLastOwner, IsNoRecord, IsRelativeTo, IsZoneRecord, IsZoneType, ttl_in_force};
 
 use crate::zone_text::data::data_of;
 use crate::zone_text::error::{TextFault, ZoneFileFault};
@@ -86,7 +84,7 @@ fn ttl_and_class<'a>(words: &mut Words<'a>) -> Result<(Option<u32>, Word<'a>), E
 
 /// Whether zones have records of this type: it is none of those of messages alone (RFC 6895 section 3.1).
 fn is_zone_type(record_type: RecordType) -> bool
-    ensures { IsTrue result → IsZoneType record_type }
+    ensures { IsTrue result ↔ IsZoneType record_type }
 {
     !matches!(record_type.value(), 0 | 41 | 128..=255)
 }
@@ -152,7 +150,7 @@ fn read_zone_record(
     requires { All IsZoneRecord before.now.records }
     ensures kept { IfOk result (λ r. IsZoneRecord r) }
     ensures repeated { IfOk result (λ r. HasBlankAt line.entry.text.now line.entry.place → IsLastOwner before.now.records r.name) }
-    ensures relative { IfOk result (λ r. (HasBlankAt line.entry.text.now line.entry.place → ⊥) → (EndsInDot first.now.bytes.now → ⊥) → (own : List (List ℕ)) × (r.name.labels ≡ own ++ before.now.origin.labels)) }
+    ensures relative { IfOk result (λ r. (HasBlankAt line.entry.text.now line.entry.place → ⊥) → (EndsInDot first.now.bytes.now → ⊥) → IsRelativeTo before.now.origin r.name) }
 {
     let records = before.records.as_slice();
     let mut words = behind;
@@ -184,7 +182,7 @@ fn read_directive(
     words: &mut Words<'_>,
     origin: &Name,
 ) -> Result<Entry, EntryError>
-    ensures { IfOk result (λ entry. (text : List ℕ) (place : ℕ) (records : List (Record RData)) → IsEntryAt text place records entry) }
+    ensures { IfOk result IsNoRecord }
 {
     let entry = if first.bytes.eq_ignore_ascii_case(b"$ORIGIN") {
         Entry::Origin(next_name(alloc, words, Some(origin))?)
