@@ -80,6 +80,9 @@ SIGNED = (
 )
 SIGNATURE = Record((b"key", b"example"), TSIG, 255, 0, ((), bytes.fromhex("000000000096 012c 0004 01020304 1234 0000 0000")))
 
+# The signature of a reply where a scripted handler tells of a key that is not known.
+BAD_KEY = Record((), TSIG, 255, 0, ((), bytes.fromhex("000000000000 012c 0004 01020304 0001 0011 0000")))
+
 AGAIN = "in place of a chain of 1"
 FAILED = "told: opcode QUERY, status SERVFAIL, id 1, flags qr\nqueries 0, answers 0, authorities 0, additionals 0"
 
@@ -137,7 +140,7 @@ def rows():
     yield ""
     yield "# A transfer without records is one reply without answers, with AA."
     yield ("part example.com.",)
-    yield ("on transfer break empty",)
+    yield ("on transfer break",)
     yield "serve example.com.", AGAIN
     yield "ask example.com. AXFR", digits(reply(1, []))
 
@@ -159,23 +162,29 @@ def long_rows():
     yield "# Text of 65,483 bytes takes 65,506 with its owner name in full and its ten bytes of type, class, TTL and length: with header and question that is"
     yield "# 65,535, which is all that a message has. Behind an SOA record it has no room, nor has an SOA record behind it."
     record, line = text(65483)
-    yield from asked_alone(record, line)
+    yield from given(line, "")
+    yield "ask example.com. AXFR", *map(digits, replies(1, [START, record, START]))
+    yield ("remove example.com.",)
+    yield "# Where it is to be signed it is one reply of all records, in which the text has no room behind the SOA record, and TC tells so."
+    yield from given(line, " signs")
+    yield ("signer fixed",)
+    yield "ask example.com. AXFR", digits(reply(1, [START, record, START], [BAD_KEY]))
+    yield ("remove example.com.",)
     yield ""
     yield "# Text of 65,535 bytes has no room in any message: a reply is handed over for it alone, and TC tells that it was left out."
     record, line = text(65535)
-    yield from asked_alone(record, line)
+    yield from given(line, "")
+    yield "ask example.com. AXFR", *map(digits, replies(1, [START, record, START]))
 
 
-def asked_alone(record, line):
+def given(line, word):
     """The rows of a scripted handler that gives a record between two of an SOA."""
-    yield ("part example.com.",)
+    yield (f"part example.com.{word}",)
     yield ("on transfer break",)
     yield (SOA_LINE,)
     yield (line,)
     yield (SOA_LINE,)
     yield ("serve example.com.",)
-    yield "ask example.com. AXFR", *map(digits, replies(1, [START, record, START]))
-    yield ("remove example.com.",)
 
 
 def write(name, rows):
