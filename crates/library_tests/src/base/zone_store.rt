@@ -1,5 +1,5 @@
 //! Boxed handlers, and what no script says of a zone in memory.
 
 pub(crate) mod boxed;
-pub(crate) mod fixtures;
+mod fixtures;
 mod in_memory;

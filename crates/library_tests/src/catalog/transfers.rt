@@ -3,8 +3,8 @@
 ghost use Rattle.std.specs.Prelude.{◌≡◌, ◌+◌, ◌%◌, ◌^◌};
 
 use super::signers::Scripted;
-use crate::base::zone_store::fixtures::lower;
 use hickory_base::encoding_sink::EncodingSink;
+use hickory_base::errors::CatalogError;
 use hickory_base::message_response::MessageResponse;
 use hickory_base::server::{RecordRef, Request, RequestHandler, ResponseHandler, ResponseInfo};
 use hickory_base::zone_store::{
@@ -12,7 +12,7 @@ use hickory_base::zone_store::{
 };
 use hickory_catalog::catalog::Catalog;
 use hickory_wire::{
-    BinDecoder, Boxed, DNSClass, Items, Name, Octets, Proof, Protocol, RData, Record, RecordType,
+    BinDecoder, Boxed, DNSClass, Items, LowerName, Name, Octets, Proof, Protocol, RData, Record, RecordType,
     ResponseCode, SOA,
 };
 use std::alloc::Global;
@@ -22,10 +22,16 @@ use std::net::{IpAddr, Ipv4Addr, SocketAddr};
 use std::rc::Rc;
 use std::test::Fail;
 
-/// A record of the apex of example.com. with these data.
-fn at_apex(alloc: Global, rdata: RData) -> Result<Record, Fail> {
-    Ok(Record {
-        name: Name::from_ascii(alloc, "example.com.")?,
+/// The apex of the zone.
+fn apex(alloc: Global) -> Option<LowerName> {
+    let name = Name::from_ascii(alloc, "example.com.").ok()?;
+    LowerName::new(alloc, &name).ok()
+}
+
+/// A record of the apex with these data.
+fn at_apex(alloc: Global, rdata: RData) -> Option<Record> {
+    Some(Record {
+        name: Name::from_ascii(alloc, "example.com.").ok()?,
         dns_class: DNSClass::IN,
         ttl: 3600,
         rdata,
@@ -34,77 +40,84 @@ fn at_apex(alloc: Global, rdata: RData) -> Result<Record, Fail> {
 }
 
 /// The SOA record, of 78 bytes in full.
-fn start(alloc: Global) -> Result<Record, Fail> {
+fn start(alloc: Global) -> Option<Record> {
     let soa = SOA {
-        mname: Name::from_ascii(alloc, "ns.example.com.")?,
-        rname: Name::from_ascii(alloc, "admin.example.com.")?,
+        mname: Name::from_ascii(alloc, "ns.example.com.").ok()?,
+        rname: Name::from_ascii(alloc, "admin.example.com.").ok()?,
         serial: 7,
         refresh: 3600,
         retry: 1800,
         expire: 604_800,
         minimum: 86_400,
     };
-    at_apex(alloc, RData::SOA(Boxed::new(alloc, soa)?))
+    at_apex(alloc, RData::SOA(Boxed::new(alloc, soa).ok()?))
 }
 
 /// A text of 255 bytes that begins with this number, whose record has 279 bytes in full.
-fn text(alloc: Global, number: u16) -> Result<Record, Fail> {
+fn text(alloc: Global, number: u16) -> Option<Record> {
     let mut bytes = [b'x'; 255];
     let [high, low] = number.to_be_bytes();
     bytes[0] = high;
     bytes[1] = low;
     let mut strings = Items::new(alloc);
-    strings.push(Octets::from_slice(alloc, &bytes)?)?;
+    strings.push(Octets::from_slice(alloc, &bytes).ok()?).ok()?;
     at_apex(alloc, RData::TXT(strings))
 }
 
-/// So many texts.
-fn texts(alloc: Global, count: u16) -> Result<Vec<Record>, Fail> {
+/// Five hundred texts.
+fn texts(alloc: Global) -> Option<Vec<Record>> {
     let mut records = Vec::new(alloc);
-    for number in 0..count {
-        records.push(text(alloc, number)?)?;
+    for number in 0..500 {
+        records.push(text(alloc, number)?).ok()?;
     }
-    Ok(records)
+    Some(records)
 }
 
 type Sets = BTreeMap<RrKey, Rc<RecordSet>>;
 
-/// Puts records of this type at the apex among sets.
+/// Puts records of this type at the apex among sets, if they make a set.
 fn put(
     alloc: Global,
     sets: &mut Sets,
     record_type: RecordType,
     records: Vec<Record>,
-) -> Result<(), Fail> {
+) -> Option<()> {
     if !RecordSet::accepts(&records) {
-        return Err(Fail::new("not a set"));
+        return None;
     }
-    let key = RrKey::new(lower(alloc, "example.com.")?, record_type);
-    sets.insert(key, Rc::new(alloc, RecordSet::new(records))?)?;
-    Ok(())
+    let key = RrKey::new(apex(alloc)?, record_type);
+    let set = Rc::new(alloc, RecordSet::new(records)).ok()?;
+    sets.insert(key, set).ok()?;
+    Some(())
 }
 
-/// The zone example.com. of an SOA record and so many texts, which everybody may have.
-fn zone(alloc: Global, count: u16) -> Result<InMemoryZoneHandler, Fail> {
+/// Sets with the SOA record alone.
+fn first_sets(alloc: Global) -> Option<Sets> {
     let mut sets = BTreeMap::new(alloc);
-    put(alloc, &mut sets, RecordType::SOA, vec![in alloc; start(alloc)?]?)?;
-    put(alloc, &mut sets, RecordType::TXT, texts(alloc, count)?)?;
-    if !InMemoryZoneHandler::accepts(&sets) {
-        return Err(Fail::new("not a zone"));
-    }
-    let origin = lower(alloc, "example.com.")?;
-    Ok(InMemoryZoneHandler::new(origin, sets, ZoneType::Primary, AxfrPolicy::AllowAll))
+    let first = vec![in alloc; start(alloc)?].ok()?;
+    put(alloc, &mut sets, RecordType::SOA, first)?;
+    Some(sets)
 }
 
-/// A catalog of that zone with 500 texts.
-fn catalog(alloc: Global) -> Result<Catalog<Scripted, InMemoryZoneHandler>, Fail> {
-    let mut chain = Vec::new(alloc);
-    chain.push(zone(alloc, 500)?)?;
-    let mut catalog = Catalog::new(alloc, Scripted { fails: true });
-    match catalog.upsert(lower(alloc, "example.com.")?, chain) {
-        Ok(_) => Ok(catalog),
-        Err(_) => Err(Fail::new("no memory")),
+/// A catalog of the zone of these sets, which everybody may have.
+fn catalog(alloc: Global, sets: Sets) -> Option<Catalog<Scripted, InMemoryZoneHandler>> {
+    if !InMemoryZoneHandler::accepts(&sets) {
+        return None;
     }
+    let policy = AxfrPolicy::AllowAll;
+    let zone = InMemoryZoneHandler::new(apex(alloc)?, sets, ZoneType::Primary, policy);
+    let mut chain = Vec::new(alloc);
+    chain.push(zone).ok()?;
+    let mut catalog = Catalog::new(alloc, Scripted { fails: true });
+    catalog.upsert(apex(alloc)?, chain).ok()?;
+    Some(catalog)
+}
+
+/// A catalog of the zone of five hundred texts.
+fn catalog_of_texts(alloc: Global) -> Option<Catalog<Scripted, InMemoryZoneHandler>> {
+    let mut sets = first_sets(alloc)?;
+    put(alloc, &mut sets, RecordType::TXT, texts(alloc)?)?;
+    catalog(alloc, sets)
 }
 
 /// A request for a transfer of example.com.
@@ -115,9 +128,10 @@ const PLAIN: [u8; 29] =
 const WITH_EDNS: [u8; 40] =
     *b"\x12\x34\x00\x00\x00\x01\x00\x00\x00\x00\x00\x01\x07example\x03com\x00\x00\xfc\x00\x01\x00\x00\x29\x04\xd0\x00\x00\x00\x00\x00\x00";
 
-fn request(alloc: Global, bytes: &[u8], protocol: Protocol) -> Result<Request, Fail> {
+fn request(alloc: Global, bytes: &[u8], protocol: Protocol) -> Option<Request> {
     let source = SocketAddr::new(IpAddr::V4(Ipv4Addr::LOCALHOST), 3000);
-    Ok(Request::from_bytes(alloc, Vec::from_slice(alloc, bytes)?, source, protocol)?)
+    let bytes = Vec::from_slice(alloc, bytes).ok()?;
+    Request::from_bytes(alloc, bytes, source, protocol).ok()
 }
 
 /// How many answers a reply has, whether it has TC, and its size.
@@ -132,8 +146,8 @@ fn transferred(
     bytes: &[u8],
     protocol: Protocol,
 ) -> Result<Vec<(u16, bool, usize)>, Fail> {
-    let mut catalog = catalog(alloc)?;
-    let request = request(alloc, bytes, protocol)?;
+    let mut catalog = catalog_of_texts(alloc).ok_or("no catalog")?;
+    let request = request(alloc, bytes, protocol).ok_or("no request")?;
     let mut sink = EncodingSink::new(alloc, protocol);
     catalog.handle_request(alloc, &request, 0, &mut sink)?;
     let mut replies = Vec::new(alloc);
@@ -229,8 +243,8 @@ impl ResponseHandler for FullSink {
 
 /// What a sink has that fails at its second reply: how many replies and failures, what the server told of them, and how many answers it told.
 fn failed_at_second(alloc: Global) -> Result<(usize, u64, ResponseCode, u16), Fail> {
-    let mut catalog = catalog(alloc)?;
-    let request = request(alloc, &PLAIN, Protocol::Tcp)?;
+    let mut catalog = catalog_of_texts(alloc).ok_or("no catalog")?;
+    let request = request(alloc, &PLAIN, Protocol::Tcp).ok_or("no request")?;
     let mut sink = FullSink {
         kept: EncodingSink::new(alloc, Protocol::Tcp),
         count: 2,
@@ -247,4 +261,36 @@ fn a_transfer_ends_where_the_sink_fails(rt: HostRuntime) -> Result<(), Fail> {
     let found = failed_at_second(rt.alloc())?;
     assert_eq!(rt; found, (2, 1, ResponseCode::SERV_FAIL, 0));
     Ok(())
+}
+
+/// A catalog of a zone of three records with 40,000 bytes of data, each of a type of its own, whose transfer takes three replies.
+fn catalog_of_large(alloc: Global) -> Option<Catalog<Scripted, InMemoryZoneHandler>> {
+    let mut sets = first_sets(alloc)?;
+    for number in 65_280..65_283 {
+        let code = RecordType::new(number);
+        let bytes = Octets::from_vec(vec![in alloc; 0u8; 40_000].ok()?);
+        let record = at_apex(alloc, RData::Unknown { code, bytes })?;
+        put(alloc, &mut sets, code, vec![in alloc; record].ok()?)?;
+    }
+    catalog(alloc, sets)
+}
+
+/// How a transfer of that zone ends: whether memory was wanting, how many replies there are, and how often the sink failed.
+fn ended(alloc: Global) -> Option<(Option<CatalogError>, usize, u64)> {
+    let mut catalog = catalog_of_large(alloc)?;
+    let request = request(alloc, &PLAIN, Protocol::Tcp)?;
+    let mut sink = EncodingSink::new(alloc, Protocol::Tcp);
+    let told = catalog.handle_request(alloc, &request, 0, &mut sink);
+    Some((told.err(), sink.replies().len(), sink.failures()))
+}
+
+/// Where a growth is refused there are three replies or none, but where it is the sink's own. What is refused before the call is no matter here.
+#[test]
+fn a_transfer_is_handed_over_whole_or_not_at_all(rt: HostRuntime) {
+    if let Some((fault, replies, failures)) = ended(rt.alloc()) {
+        match fault {
+            Some(fault) => assert_eq!(rt; (fault, replies), (CatalogError::Memory, 0)),
+            None => assert!(rt; replies == 3 || failures == 1),
+        }
+    }
 }

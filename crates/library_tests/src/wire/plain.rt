@@ -14,7 +14,8 @@ const WWW: [u8; 21] = *b"\x03www\x07example\x03com\x00\x00\x01\x00\x01";
 /// The labels of a name, and its end.
 fn put_name(bytes: &mut Vec<u8>, name: &Name) -> Result<(), AllocError> {
     bytes.extend_from_slice(name.as_wire())?;
-    bytes.push(0)
+    bytes.push(0)?;
+    Ok(())
 }
 
 /// Both names, and the numbers (RFC 1035 section 3.3.13).
