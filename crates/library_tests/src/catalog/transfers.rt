@@ -12,8 +12,8 @@ use hickory_base::zone_store::{
 };
 use hickory_catalog::catalog::Catalog;
 use hickory_wire::{
-    BinDecoder, Boxed, DNSClass, Items, LowerName, Name, Octets, Proof, Protocol, RData, Record, RecordType,
-    ResponseCode, SOA,
+    BinDecoder, Boxed, DNSClass, Items, LowerName, Name, Octets, Proof, Protocol, RData, Record,
+    RecordType, ResponseCode, SOA,
 };
 use std::alloc::Global;
 use std::collections::BTreeMap;
@@ -137,7 +137,11 @@ fn request(alloc: Global, bytes: &[u8], protocol: Protocol) -> Option<Request> {
 /// How many answers a reply has, whether it has TC, and its size.
 fn told(reply: &Octets) -> Result<(u16, bool, usize), Fail> {
     let header = BinDecoder::new(reply.as_slice()).read_header()?;
-    Ok((header.counts.answers, header.metadata.truncation, reply.len()))
+    Ok((
+        header.counts.answers,
+        header.metadata.truncation,
+        reply.len(),
+    ))
 }
 
 /// What the replies to this request are.
@@ -161,7 +165,11 @@ fn transferred(
 #[test]
 fn a_transfer_is_shared_out(rt: HostRuntime) -> Result<(), Fail> {
     let replies = transferred(rt.alloc(), &PLAIN, Protocol::Tcp)?;
-    let expected = [(235, false, 62_786), (234, false, 62_741), (33, false, 8_650)];
+    let expected = [
+        (235, false, 62_786),
+        (234, false, 62_741),
+        (33, false, 8_650),
+    ];
     assert_eq!(rt; replies.as_slice(), expected.as_slice());
     Ok(())
 }
@@ -170,7 +178,11 @@ fn a_transfer_is_shared_out(rt: HostRuntime) -> Result<(), Fail> {
 #[test]
 fn each_reply_has_its_edns(rt: HostRuntime) -> Result<(), Fail> {
     let replies = transferred(rt.alloc(), &WITH_EDNS, Protocol::Tls)?;
-    let expected = [(235, false, 62_797), (234, false, 62_752), (33, false, 8_661)];
+    let expected = [
+        (235, false, 62_797),
+        (234, false, 62_752),
+        (33, false, 8_661),
+    ];
     assert_eq!(rt; replies.as_slice(), expected.as_slice());
     Ok(())
 }
@@ -252,7 +264,12 @@ fn failed_at_second(alloc: Global) -> Result<(usize, u64, ResponseCode, u16), Fa
     };
     let info = catalog.handle_request(alloc, &request, 0, &mut sink)?;
     let code = info.metadata().response_code;
-    Ok((sink.kept.replies().len(), sink.failures, code, info.counts().answers))
+    Ok((
+        sink.kept.replies().len(),
+        sink.failures,
+        code,
+        info.counts().answers,
+    ))
 }
 
 /// A sink that fails is handed no third reply.
