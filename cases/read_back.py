@@ -66,19 +66,21 @@ def compare(number, message, was):
 
 
 def text_of(path, revision):
-    """An output as it stands, or as it stood at a revision."""
+    """An output as it stands, or as it stood at a revision, if it was there."""
     if not revision:
         with open(path, "rb") as it:
             return it.read().decode(errors="backslashreplace")
     words = ["git", "-C", case_files.REPOSITORY, "show", f"{revision}:{os.path.relpath(path, case_files.REPOSITORY)}"]
-    return subprocess.run(words, check=True, capture_output=True).stdout.decode(errors="backslashreplace")
+    told = subprocess.run(words, capture_output=True)
+    return None if told.returncode else told.stdout.decode(errors="backslashreplace")
 
 
 def faults(path, revision):
     """The faults of an output, by line, and how many messages it has."""
     found, all_messages = [], messages(text_of(path, None))
-    before = messages(text_of(path, revision)) if revision else []
-    if revision and len(before) != len(all_messages):
+    text = text_of(path, revision) if revision else None
+    before = messages(text) if text is not None else []
+    if text is not None and len(before) != len(all_messages):
         found.append((0, f"it has {len(all_messages)} messages, and had {len(before)}"))
         before = []
     for at, (number, told, octets) in enumerate(all_messages):
@@ -92,6 +94,8 @@ def faults(path, revision):
 
 
 def main(words):
+    if words and subprocess.run(["git", "-C", case_files.REPOSITORY, "rev-parse", "-q", "--verify", words[0]], stdout=subprocess.DEVNULL).returncode:
+        sys.exit(f"{words[0]} is no revision")
     count, failed, paths = 0, 0, outputs()
     for path in paths:
         found, of_path = faults(path, words[0] if words else None)
