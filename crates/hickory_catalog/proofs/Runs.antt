@@ -16,18 +16,18 @@ sizeless : (records : List (Record RData)) → sum_by full_size records ≤ 0 �
 sizeless [] none = omega arith
 sizeless (r ∷ rs) none = absurd (omega (arith, none, sum_by-cons full_size r rs))
 
-front_size-none : (n : ℕ) → sum_by full_size (take n []) ≡ 0
-front_size-none zero = refl
-front_size-none (suc n) = refl
+taken_size-none : (n : ℕ) → sum_by full_size (take n []) ≡ 0
+taken_size-none zero = refl
+taken_size-none (suc n) = refl
 
 -- fewer records have no larger size
-front_size-le : (records : List (Record RData)) (few many : ℕ) → few ≤ many → sum_by full_size (take few records) ≤ sum_by full_size (take many records)
-front_size-le [] few many le =
-    omega (arith, front_size-none few, front_size-none many)
-front_size-le (r ∷ rs) zero many le = omega arith
-front_size-le (r ∷ rs) (suc few) zero le = absurd (omega (arith, le))
-front_size-le (r ∷ rs) (suc few) (suc many) le =
-    omega (arith, front_size-le rs few many (omega (arith, le)), sum_by-cons full_size r (take few rs), sum_by-cons full_size r (take many rs))
+taken_size-le : (records : List (Record RData)) (few many : ℕ) → few ≤ many → sum_by full_size (take few records) ≤ sum_by full_size (take many records)
+taken_size-le [] few many le =
+    omega (arith, taken_size-none few, taken_size-none many)
+taken_size-le (r ∷ rs) zero many le = omega arith
+taken_size-le (r ∷ rs) (suc few) zero le = absurd (omega (arith, le))
+taken_size-le (r ∷ rs) (suc few) (suc many) le =
+    omega (arith, taken_size-le rs few many (omega (arith, le)), sum_by-cons full_size r (take few rs), sum_by-cons full_size r (take many rs))
 
 -- the whole is a front of itself
 whole_size-le : (records : List (Record RData)) (few : ℕ) → sum_by full_size (take few records) ≤ sum_by full_size records
@@ -89,7 +89,7 @@ run_by_run front records _ (full {runs = runs} len some lt fits next behind) = (
 -- a shorter first run leaves a longer one no room
 module _ (front : ℕ) (records : List (Record RData)) (short long : ℕ) where
   too_long : 1 ≤ short → short < long → 65535 < message_size front (take (short + 1) records) → (message_size front (take long records) ≤ 65535) ⊎ (long ≤ 1) → ⊥
-  too_long some lt next (inl small) = omega (arith, small, next, front_size-le records (short + 1) long (omega (arith, lt)))
+  too_long some lt next (inl small) = omega (arith, small, next, taken_size-le records (short + 1) long (omega (arith, lt)))
   too_long some lt next (inr one) = omega (arith, some, lt, one)
 
 -- not all is left where a first run is full
@@ -162,7 +162,7 @@ counted_fitting room (r ∷ rs) = which (fitting room (r ∷ rs)) (fitting_is ro
     within = omega arith;
     some = λ one. omega arith;
     fits = inr (omega arith);
-    full = λ lt. omega (arith, are.2 (omega arith), front_size-le (r ∷ rs) 1 2 (omega arith));
+    full = λ lt. omega (arith, are.2 (omega arith), taken_size-le (r ∷ rs) 1 2 (omega arith));
   })
   which (suc n) are = (suc n, record { within = are.0; some = λ one. omega arith; fits = inl are.1; full = are.2 })
 

@@ -51,7 +51,7 @@ pub enum Outcome {
 /// Where memory was refused.
 #[derive(Clone, Copy, Debug, PartialEq, Eq, thiserror::Error)]
 pub enum ServeError {
-    /// Before a message was handled: the catalog is as before it.
+    /// Before or while a message was handled: the catalog is as before it.
     #[error("no memory")]
     Memory,
     /// After a message was handled, for its replies: the catalog is as after it.
@@ -116,7 +116,7 @@ pub fn serve<S: ReplySigner, H: ZoneHandler>(
 ) -> Result<Outcome, ServeError>
     ensures others { catalog.new ≡ record catalog.old { zones = catalog.new.zones } }
     ensures ok { IfOk result (λ outcome. Step access.now (server_of H.ZoneHandler S.signature_for catalog.old) message outcome catalog.new.zones) }
-    ensures err { IfErr result (λ e. LeavesUnserved (server_of H.ZoneHandler S.signature_for catalog.old) message e catalog.new.zones) }
+    ensures err { IfErr result (λ e. LeavesUnserved access.now (server_of H.ZoneHandler S.signature_for catalog.old) message e catalog.new.zones) }
 {
     if !access.allow(message.src.ip()) {
         return Ok(Outcome::Denied);
