@@ -125,6 +125,7 @@ module _ {V : Type 0} where
     of_query query is (inr none) = inr (λ value of.
         let same : of.query ≡ query = let asks = of.asks in cc in
         none value (subst (λ (q : Query). IsNearest zones (lower_name q.name) (apex, value)) same of.nearest))
+
     by : (result : Result Query LookupError) → one_query request.message.queries.queries ≡ result → OneOrNone (λ value. IsOfZone zones request (apex, value))
     by (Err e) is = inr (λ value of. let asks = of.asks in absurd cc)
     by (Ok query) is = of_query query is (nearest_decided zones (lower_name query.name) apex)
