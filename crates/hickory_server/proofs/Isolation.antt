@@ -98,7 +98,7 @@ module _ {S H : Type 0} (handler : Ghosts H) (signature_for : S → Signer) (acc
     to_zone_decided zones between message outcome (handled {request = r} allowed is _ _ _) = by (decided zones r apex) where
       by : ((chain : List H) × IsOfZone zones r (apex, chain)) ⊎ ((chain : List H) → ¬ (IsOfZone zones r (apex, chain))) → ToZoneOrNot zones message
       by (inl of) = inl (of.0, record { allowed = allowed; request = r; is_request = is; of_zone = of.1 })
-      by (inr none) = inr (λ chain to. none chain (of_zone_too zones message r chain is to))
+      by (inr other) = inr (λ chain to. other chain (of_zone_too zones message r chain is to))
 
     -- which messages of a run are to the zone, and what becomes of those
     abbrev Beside : List (DomainName × List H) → List Incoming → List Outcome → List (DomainName × List H) → Type 0
