@@ -65,11 +65,11 @@ module _ {V : Type 0} where
   any_alone P z (zero, d, lt, is, p) = subst P (sym is) p
   any_alone P z (suc k, d, lt, is, p) = absurd (omega (arith, lt))
 
-  contains_cases : (x z : DomainName × V) (xs : List (DomainName × V)) → Contains (x ∷ xs) z → (x ≡ z) ⊎ Contains xs z
+  pub contains_cases : (x z : DomainName × V) (xs : List (DomainName × V)) → Contains (x ∷ xs) z → (x ≡ z) ⊎ Contains xs z
   contains_cases x z xs (zero, lt, is) = inl is
   contains_cases x z xs (suc k, lt, is) = inr (k, omega (arith, lt), is)
 
-  contains_behind : (x z : DomainName × V) (xs : List (DomainName × V)) → Contains xs z → Contains (x ∷ xs) z
+  pub contains_behind : (x z : DomainName × V) (xs : List (DomainName × V)) → Contains xs z → Contains (x ∷ xs) z
   contains_behind x z xs (k, lt, is) = (suc k, omega (arith, lt), is)
 
 module _ {H : Type 0} (server : Server H) (zones : List (DomainName × List H)) (chain : List H) (request : ReceivedRequest) (edns : Option EdnsFields) (now : ℕ) (query : Query) where

@@ -6,7 +6,7 @@ ghost use Rattle.hickory_wire.specs.serialize.writing.Reply.{Reply};
 ghost use Rattle.hickory_base.specs.responses.EncodingSinks.{IsEncodingOf};
 ghost use Rattle.hickory_catalog.specs.Requests.{RequestAnswered};
 ghost use Rattle.hickory_catalog.specs.Server.{server_of};
-ghost use Rattle.hickory_server.specs.Isolation.{BesideIsARun, ZonesAreIsolated};
+ghost use Rattle.hickory_server.specs.Isolation.{BesideIsARun, EachRunIsBeside, EachRunIsIsolated, ZonesAreIsolated};
 ghost use Rattle.hickory_server.specs.Serving.{IsReadAs, LeavesRequest, LeavesUnserved, Run, RunFailed, Step};
 ghost use Rattle.hickory_server.specs.declared.server.serve.ServeError.TheVariants as serve_error;
 
@@ -156,10 +156,13 @@ pub fn serve_all<S: ReplySigner, H: ZoneHandler>(
 }
 
 /// Each zone of a server is served as if it were the only one: what becomes of the messages to it, and the zone after them, is what becomes of them
-/// where they come alone to a server of that zone alone, with the same identifier and signer.
+/// where they come alone to a server of that zone alone, with the same identifier and signer. Which messages of a run these are
+/// is decided.
 pub fn zones_are_isolated<S: ReplySigner, H: ZoneHandler>()
     ensures isolated { ZonesAreIsolated H.ZoneHandler S.signature_for }
     ensures run { BesideIsARun H.ZoneHandler S.signature_for }
+    ensures beside { EachRunIsBeside H.ZoneHandler S.signature_for }
+    ensures each { EachRunIsIsolated H.ZoneHandler S.signature_for }
 {
     one_message();
     zones_apart::<S, H>();
