@@ -211,7 +211,7 @@ given_once signer signs request edns result context one other (queries.split _ _
 given_once signer signs request edns result context one other (queries.split {transfer = m} is _ _ are) (queries.split {transfer = n} also _ _ too) =
     let same : m ≡ n = cc in
     let runs = runs_once (size_without_answers request.message edns) n.records are.runs too.runs
-        (subst (λ (x : ZoneTransfer). AreRuns (size_without_answers request.message edns) x.records are.runs) same are.are_runs) too.are_runs in
+    (subst (λ (x : ZoneTransfer). AreRuns (size_without_answers request.message edns) x.records are.runs) same are.are_runs) too.are_runs in
     are.replies_are ∙ ap (λ (x : List (List (Record RData))). map (message_of_transfer request.message (with_high_code 0 edns)) x) runs ∙ sym too.replies_are
 
 module _ {H : Type 0} (server : Server H) (once : AnswersOnce server.handler) (signs : SignsOnce server.signer) (request : ReceivedRequest) (edns : Option EdnsFields) (now : ℕ) (one other : List Reply) where

@@ -59,7 +59,7 @@ fn send_runs<R: ResponseHandler>(
 ) -> ResponseInfo
     ensures { (runs : List (List (Record RData))) × AreRuns (size_without_answers request.now (option_copied edns.entry)) records.now runs ×
         SendsInOrder R.ResponseHandler request.now.metadata sink.old sink.new
-            (map (message_of_transfer request.now (option_copied edns.entry)) runs) (header_of result) }
+        (map (message_of_transfer request.now (option_copied edns.entry)) runs) (header_of result) }
 {
     let room = room_for_answers(request, edns);
     let mut rest = records;
