@@ -11,6 +11,7 @@ ghost use Rattle.hickory_server.specs.Serving.{IsReadAs, LeavesRequest, LeavesUn
 ghost use Rattle.hickory_server.specs.declared.server.serve.ServeError.TheVariants as serve_error;
 
 use hickory_base::access::AccessControl;
+pub use hickory_base::encoding_sink::EncodingSink;
 use hickory_base::errors::CatalogError;
 use hickory_base::server::{Request, RequestHandler};
 use hickory_base::zone_store::ZoneHandler;
@@ -21,8 +22,6 @@ use hickory_wire::message_laws::one_message;
 use hickory_wire::{Items, Octets, ProtoError, Protocol};
 use std::alloc::Global;
 use std::net::SocketAddr;
-
-pub use hickory_base::encoding_sink::EncodingSink;
 
 /// A message as it came.
 #[derive(Drop)]
