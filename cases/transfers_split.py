@@ -10,7 +10,7 @@ import os
 import sys
 
 sys.dont_write_bytecode = True
-from messages_of_bytes import OPT, Message, Record, full_size, in_full, written
+from messages_of_bytes import OPT, TSIG, Message, Record, full_size, in_full, written
 
 FOLDER = os.path.dirname(os.path.realpath(__file__))
 
@@ -80,6 +80,9 @@ ZONE = [START, *(exchange(it, SHORT if it in (124, 125) else long_name(0)) for i
 # Data that fill a message, of a type of which nothing is known.
 LARGE = bytes(it % 251 for it in range(65483))
 
+# The signature of a reply by the four fixed bytes, where a scripted handler tells of a key that is not known: without a name, at the moment 0, BADKEY.
+SIGNATURE = Record((), TSIG, 255, 0, ((), bytes.fromhex("000000000000 012c 0004 01020304 0001 0011 0000")))
+
 FAILED = "told: opcode QUERY, status SERVFAIL, id 1, flags qr\nqueries 0, answers 0, authorities 0, additionals 0"
 
 
@@ -116,14 +119,23 @@ def rows():
     yield ""
     yield "# Data of 65,483 bytes take 65,506 with their owner name in full and its ten bytes of type, class, TTL and length: with header and question that is"
     yield "# 65,535, which is all that a message has. Behind an SOA record they have no room, nor has an SOA record behind them."
-    yield ("part example.com.",)
+    records = [START, Record(ORIGIN, 65280, IN, 3600, (LARGE,)), START]
+    yield from given_large("")
+    yield "ask example.com. AXFR", *map(digits, replies(1, records))
+    yield "# A transfer whose reply is to be signed is one reply of all records, cut where it is written, and TC tells so."
+    yield from given_large(" signs")
+    yield ("signer fixed",)
+    yield "ask example.com. AXFR", digits(reply(1, records, [SIGNATURE]))
+
+
+def given_large(word):
+    """The rows of a scripted handler that gives the large data between two of an SOA record."""
+    yield (f"part example.com.{word}",)
     yield ("on transfer break",)
     yield (SOA_LINE,)
     yield (f"example.com. 3600 IN TYPE65280 \\# {len(LARGE)} {LARGE.hex()}",)
     yield (SOA_LINE,)
     yield "serve example.com.", "in place of a chain of 1"
-    large = Record(ORIGIN, 65280, IN, 3600, (LARGE,))
-    yield "ask example.com. AXFR", *map(digits, replies(1, [START, large, START]))
 
 
 def write(name, rows):
