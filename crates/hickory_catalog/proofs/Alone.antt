@@ -65,11 +65,11 @@ module _ {V : Type 0} where
   any_alone P z (zero, d, lt, is, p) = subst P (sym is) p
   any_alone P z (suc k, d, lt, is, p) = absurd (omega (arith, lt))
 
-  contains_cases : (x z : DomainName × V) (xs : List (DomainName × V)) → Contains (x ∷ xs) z → (x ≡ z) ⊎ Contains xs z
+  pub contains_cases : (x z : DomainName × V) (xs : List (DomainName × V)) → Contains (x ∷ xs) z → (x ≡ z) ⊎ Contains xs z
   contains_cases x z xs (zero, lt, is) = inl is
   contains_cases x z xs (suc k, lt, is) = inr (k, omega (arith, lt), is)
 
-  contains_behind : (x z : DomainName × V) (xs : List (DomainName × V)) → Contains xs z → Contains (x ∷ xs) z
+  pub contains_behind : (x z : DomainName × V) (xs : List (DomainName × V)) → Contains xs z → Contains (x ∷ xs) z
   contains_behind x z xs (k, lt, is) = (suc k, omega (arith, lt), is)
 
 module _ {H : Type 0} (server : Server H) (zones : List (DomainName × List H)) (chain : List H) (request : ReceivedRequest) (edns : Option EdnsFields) (now : ℕ) (query : Query) where
@@ -121,8 +121,7 @@ module _ {H : Type 0} (server : Server H) (key : DomainName) (chain : List H) (s
       let behind = subst (λ (zs : List (DomainName × List H)). Contains zs (changed.apex, updated.chain')) (sym changed.after) (Contains-append_right changed.lesser _ _ there) in
       let same : (changed.apex, updated.chain) ≡ (key, chain) = updated_is name (changed.apex, updated.chain) named before changed.same in
       let apexes : changed.apex ≡ key = ap (λ (z : DomainName × List H). z.0) same in
-      let chains : updated.chain ≡ chain = ap (λ (z : DomainName × List H). z.1) same in
-      (
+      let chains : updated.chain ≡ chain = ap (λ (z : DomainName × List H). z.1) same in (
         updated.chain',
         record {
           chain = chain;
@@ -176,7 +175,7 @@ module _ {H : Type 0} (server : Server H) (request : ReceivedRequest) (now : ℕ
     not_changed same =
         let q = question_of (one_query request.message.queries.queries) name named in
         let exact : SameName z.0 (lower_name q.0.name) =
-            subst (λ (x : DomainName). SameName z.0 x) q.2 (subst (λ (y : DomainName × List H). SameName y.0 name) same changed.same) in
+        subst (λ (x : DomainName). SameName z.0 x) q.2 (subst (λ (y : DomainName × List H). SameName y.0 name) same changed.same) in
         other (record { query = q.0; asks = q.1; nearest = exact_nearest server.zones (lower_name q.0.name) z among exact })
 
     placed : Contains (changed.lesser ++ ((changed.apex, was) ∷ changed.greater)) z → Contains (changed.lesser ++ ((changed.apex, is) ∷ changed.greater)) z
@@ -184,6 +183,7 @@ module _ {H : Type 0} (server : Server H) (request : ReceivedRequest) (now : ℕ
       by_place : ((changed.apex, was) ≡ z) ⊎ Contains changed.greater z → Contains ((changed.apex, is) ∷ changed.greater) z
       by_place (inl same) = absurd (not_changed same)
       by_place (inr behind) = contains_behind (changed.apex, is) z changed.greater behind
+
       by_part : Contains changed.lesser z ⊎ Contains ((changed.apex, was) ∷ changed.greater) z → Contains (changed.lesser ++ ((changed.apex, is) ∷ changed.greater)) z
       by_part (inl left) = Contains-append_left changed.lesser ((changed.apex, is) ∷ changed.greater) z left
       by_part (inr right) = Contains-append_right changed.lesser ((changed.apex, is) ∷ changed.greater) z (by_place (contains_cases (changed.apex, was) z changed.greater right))

@@ -3,6 +3,7 @@ pub mod Asking
 pub mod Belonging
 pub mod Between
 pub mod Consulting
+pub mod Deciding
 pub mod DecodedReplies
 pub mod ForwardedReplies
 pub mod LastUpTo

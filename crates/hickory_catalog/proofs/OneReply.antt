@@ -36,7 +36,7 @@ use Rattle.hickory_catalog.specs.Server.{Server}
 use Rattle.hickory_catalog.specs.Signing.{IsSigned, SignedReply, Signer, failed, plain, signed}
 use Rattle.hickory_catalog.specs.Transcripts.{Asked, ChainAnswers, Consulted, Follows, IsAnswer, all_consulted, consulted, options_of, out_of_memory, wants_memory}
 use Rattle.hickory_catalog.specs.Transcripts as transcripts
-use Rattle.hickory_catalog.specs.Transfers.{AreRuns, TransferAsked, front_size, message_of_transfer, transfer_contents}
+use Rattle.hickory_catalog.specs.Transfers.{AreRuns, TransferAsked, size_without_answers, message_of_transfer, transfer_contents}
 use Rattle.hickory_catalog.specs.Transfers as transfers
 use Rattle.hickory_catalog.proofs.Runs.{runs_once}
 use Rattle.hickory_catalog.specs.Zones.{AreInOrder}
@@ -210,8 +210,8 @@ given_once signer signs request edns result context one other (queries.whole _ n
 given_once signer signs request edns result context one other (queries.split _ _ is_split _) (queries.whole _ not_split _ _) = absurd cc
 given_once signer signs request edns result context one other (queries.split {transfer = m} is _ _ are) (queries.split {transfer = n} also _ _ too) =
     let same : m ≡ n = cc in
-    let runs = runs_once (front_size request.message edns) n.records are.runs too.runs
-        (subst (λ (x : ZoneTransfer). AreRuns (front_size request.message edns) x.records are.runs) same are.are_runs) too.are_runs in
+    let runs = runs_once (size_without_answers request.message edns) n.records are.runs too.runs
+    (subst (λ (x : ZoneTransfer). AreRuns (size_without_answers request.message edns) x.records are.runs) same are.are_runs) too.are_runs in
     are.replies_are ∙ ap (λ (x : List (List (Record RData))). map (message_of_transfer request.message (with_high_code 0 edns)) x) runs ∙ sym too.replies_are
 
 module _ {H : Type 0} (server : Server H) (once : AnswersOnce server.handler) (signs : SignsOnce server.signer) (request : ReceivedRequest) (edns : Option EdnsFields) (now : ℕ) (one other : List Reply) where

@@ -16,18 +16,18 @@ sizeless : (records : List (Record RData)) → sum_by full_size records ≤ 0 �
 sizeless [] none = omega arith
 sizeless (r ∷ rs) none = absurd (omega (arith, none, sum_by-cons full_size r rs))
 
-front_size-none : (n : ℕ) → sum_by full_size (take n []) ≡ 0
-front_size-none zero = refl
-front_size-none (suc n) = refl
+taken_size-none : (n : ℕ) → sum_by full_size (take n []) ≡ 0
+taken_size-none zero = refl
+taken_size-none (suc n) = refl
 
 -- fewer records have no larger size
-front_size-le : (records : List (Record RData)) (few many : ℕ) → few ≤ many → sum_by full_size (take few records) ≤ sum_by full_size (take many records)
-front_size-le [] few many le =
-    omega (arith, front_size-none few, front_size-none many)
-front_size-le (r ∷ rs) zero many le = omega arith
-front_size-le (r ∷ rs) (suc few) zero le = absurd (omega (arith, le))
-front_size-le (r ∷ rs) (suc few) (suc many) le =
-    omega (arith, front_size-le rs few many (omega (arith, le)), sum_by-cons full_size r (take few rs), sum_by-cons full_size r (take many rs))
+taken_size-le : (records : List (Record RData)) (few many : ℕ) → few ≤ many → sum_by full_size (take few records) ≤ sum_by full_size (take many records)
+taken_size-le [] few many le =
+    omega (arith, taken_size-none few, taken_size-none many)
+taken_size-le (r ∷ rs) zero many le = omega arith
+taken_size-le (r ∷ rs) (suc few) zero le = absurd (omega (arith, le))
+taken_size-le (r ∷ rs) (suc few) (suc many) le =
+    omega (arith, taken_size-le rs few many (omega (arith, le)), sum_by-cons full_size r (take few rs), sum_by-cons full_size r (take many rs))
 
 -- the whole is a front of itself
 whole_size-le : (records : List (Record RData)) (few : ℕ) → sum_by full_size (take few records) ≤ sum_by full_size records
@@ -43,6 +43,7 @@ module _ (front room : ℕ) (is_room : IsRoom front room) (records : List (Recor
         let n : length (take len records) ≡ len = length-take-le len records counted.within in
         let m : length (take len records) ≤ 1 = sizeless (take len records) (omega (arith, small, is_room.none lt)) in
         inr (omega (arith, n, m))
+
     by_count : (sum_by full_size (take len records) ≤ room) ⊎ (len ≤ 1) → (message_size front (take len records) ≤ 65535) ⊎ (len ≤ 1)
     by_count (inl small) = by_room small (which (leb_tells front 65535)) where
       which : ((nat_le front 65535 ≡ true) × (front ≤ 65535)) ⊎ ((nat_le front 65535 ≡ false) × (65535 < front)) → (front ≤ 65535) ⊎ (65535 < front)
@@ -89,7 +90,7 @@ run_by_run front records _ (full {runs = runs} len some lt fits next behind) = (
 -- a shorter first run leaves a longer one no room
 module _ (front : ℕ) (records : List (Record RData)) (short long : ℕ) where
   too_long : 1 ≤ short → short < long → 65535 < message_size front (take (short + 1) records) → (message_size front (take long records) ≤ 65535) ⊎ (long ≤ 1) → ⊥
-  too_long some lt next (inl small) = omega (arith, small, next, front_size-le records (short + 1) long (omega (arith, lt)))
+  too_long some lt next (inl small) = omega (arith, small, next, taken_size-le records (short + 1) long (omega (arith, lt)))
   too_long some lt next (inr one) = omega (arith, some, lt, one)
 
 -- not all is left where a first run is full
@@ -113,12 +114,12 @@ runs_once front records _ _ (last fits) (full len some lt fit next behind) = abs
 runs_once front records _ _ (full len some lt fit next behind) (last fits) = absurd (not_last front records len some lt next fits)
 runs_once front records _ _ (full {runs = runs} m some lt fit next behind) (full {runs = rest} n any less fits over others) =
     which (order m n) (λ moved. runs_once front (drop m records) runs rest behind moved) where
-  which : (m ≡ n) ⊎ ((m < n) ⊎ (n < m)) → (AreRuns front (drop m records) rest → runs ≡ rest) → take m records ∷ runs ≡ take n records ∷ rest
-  which (inl same) once =
-      let moved : AreRuns front (drop m records) rest = subst (λ (i : ℕ). AreRuns front (drop i records) rest) (sym same) others in
-      ap (λ (i : ℕ). take i records ∷ runs) same ∙ ap (λ (xs : List (List (Record RData))). take n records ∷ xs) (once moved)
-  which (inr (inl shorter)) once = absurd (too_long front records m n some shorter next fits)
-  which (inr (inr longer)) once = absurd (too_long front records n m any longer over fit)
+      which : (m ≡ n) ⊎ ((m < n) ⊎ (n < m)) → (AreRuns front (drop m records) rest → runs ≡ rest) → take m records ∷ runs ≡ take n records ∷ rest
+      which (inl same) once =
+          let moved : AreRuns front (drop m records) rest = subst (λ (i : ℕ). AreRuns front (drop i records) rest) (sym same) others in
+          ap (λ (i : ℕ). take i records ∷ runs) same ∙ ap (λ (xs : List (List (Record RData))). take n records ∷ xs) (once moved)
+      which (inr (inl shorter)) once = absurd (too_long front records m n some shorter next fits)
+      which (inr (inr longer)) once = absurd (too_long front records n m any longer over fit)
 
 -- how many records fit so much room
 abbrev fitting : ℕ → List (Record RData) → ℕ
@@ -133,7 +134,7 @@ one_more : (room n : ℕ) (r : Record RData) (rs : List (Record RData)) → full
 one_more room n r rs le rest =
     let place : suc n + 1 ≡ suc (n + 1) = omega arith in
     let size : sum_by full_size (take (suc n + 1) (r ∷ rs)) ≡ full_size r + sum_by full_size (take (n + 1) rs) =
-        ap (λ (k : ℕ). sum_by full_size (take k (r ∷ rs))) place ∙ sum_by-cons full_size r (take (n + 1) rs) in (
+    ap (λ (k : ℕ). sum_by full_size (take k (r ∷ rs))) place ∙ sum_by-cons full_size r (take (n + 1) rs) in (
       omega (arith, rest.0),
       omega (arith, rest.1, le, sum_by-cons full_size r (take n rs)),
       λ lt. omega (arith, rest.2 (omega (arith, lt)), le, size),
@@ -158,12 +159,15 @@ counted_fitting : (room : ℕ) (records : List (Record RData)) → (len : ℕ) �
 counted_fitting room [] = (0, record { within = omega arith; some = λ one. omega (arith, one); fits = inr (omega arith); full = λ lt. absurd (omega (arith, lt)) })
 counted_fitting room (r ∷ rs) = which (fitting room (r ∷ rs)) (fitting_is room (r ∷ rs)) where
   which : (n : ℕ) → AreAsManyAsFit room (r ∷ rs) n → (len : ℕ) × IsRunLength room (r ∷ rs) len
-  which zero are = (1, record {
-    within = omega arith;
-    some = λ one. omega arith;
-    fits = inr (omega arith);
-    full = λ lt. omega (arith, are.2 (omega arith), front_size-le (r ∷ rs) 1 2 (omega arith));
-  })
+  which zero are = (
+    1,
+    record {
+      within = omega arith;
+      some = λ one. omega arith;
+      fits = inr (omega arith);
+      full = λ lt. omega (arith, are.2 (omega arith), taken_size-le (r ∷ rs) 1 2 (omega arith));
+    },
+  )
   which (suc n) are = (suc n, record { within = are.0; some = λ one. omega arith; fits = inl are.1; full = are.2 })
 
 -- there is a room

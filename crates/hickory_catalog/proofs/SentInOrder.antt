@@ -88,10 +88,11 @@ module _ {S Entry Settings : Type 0} (sink : Ghosts S Entry Settings) where
       -- the sink failed at this run
       pub runs_ended : (new : S) (told : Header) → len < length rest → Fails sink request.metadata now new (message (take len rest)) told → TransferSent new told
       runs_ended new told lt failed =
-          let behind = runs_exist front (drop len rest) in
-          (so_far.sent ++ take len rest ∷ behind.0,
+          let behind = runs_exist front (drop len rest) in (
+            so_far.sent ++ take len rest ∷ behind.0,
             so_far.leads (take len rest ∷ behind.0) (run_first front room is_room rest len so_far.counted behind.0 lt behind.1),
-            ended (map message behind.0) (map-append message so_far.sent (take len rest ∷ behind.0)) so_far.taken failed)
+            ended (map message behind.0) (map-append message so_far.sent (take len rest ∷ behind.0)) so_far.taken failed,
+          )
 
       -- this run was the last
       pub runs_whole : (new : S) (told : Header) → length rest ≤ len → Sends sink request.metadata now new (message rest) told → TransferSent new told

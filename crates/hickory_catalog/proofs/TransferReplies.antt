@@ -1,7 +1,8 @@
 -- What the replies of a transfer that is sent in as many as it takes have of it.
-use Rattle.std.proofs.Common.{◌≡◌, ◌⊎◌, inl, inr, ℕ, zero, suc, ◌+◌, ◌≤◌, List, [], ◌∷◌, length, map, take, drop, Option, Some, None, IfSome, refl, sym, ap, subst, ◌∙◌, arith}
+use Rattle.std.proofs.Common.{◌≡◌, ◌⊎◌, inl, inr, ℕ, zero, suc, ◌+◌, ◌<◌, ◌≤◌, List, [], ◌∷◌, length, map, take, drop, Option, Some, None, IfSome, refl, sym, ap, subst, ◌∙◌, arith}
 use Rattle.std.specs.List.{AllByRecursion, flat_map, sum_by}
 use Rattle.std.specs.Option.{option_map, option_to_list}
+use Rattle.std.proofs.lemmas.Bool.{cases_lt}
 use Rattle.std.proofs.lemmas.List.Folds.{flat_map-map}
 use Rattle.hickory_wire.specs.op.EdnsFields.{EdnsFields}
 use Rattle.hickory_wire.specs.serialize.writing.RecordSize.{full_size}
@@ -11,7 +12,8 @@ use Rattle.hickory_wire.specs.declared.rr.rdata.RData.{RData}
 use Rattle.hickory_wire.specs.declared.rr.record.Record.{Record}
 use Rattle.hickory_base.specs.declared.requests.message_request.MessageRequest.{MessageRequest}
 use Rattle.hickory_catalog.specs.ReplyEdns.{with_high_code}
-use Rattle.hickory_catalog.specs.Transfers.{AreRuns, AreTransferReplies, front_size, full, last, message_of_transfer, message_size}
+use Rattle.hickory_catalog.specs.TransferLaws.{IsOneTooLarge}
+use Rattle.hickory_catalog.specs.Transfers.{AreRuns, AreTransferReplies, size_without_answers, full, last, message_of_transfer, message_size}
 use Rattle.hickory_catalog.proofs.Runs.{run_by_run, runs_joined}
 
 -- the answers one after the other
@@ -20,7 +22,7 @@ pub answers_joined : (request : MessageRequest) (edns : Option EdnsFields) (reco
 answers_joined request edns records replies are =
     ap (flat_map (λ (reply : Reply). reply.answers)) are.replies_are
     ∙ flat_map-map (λ (reply : Reply). reply.answers) (message_of_transfer request (with_high_code 0 edns)) are.runs
-    ∙ runs_joined (front_size request edns) records are.runs are.are_runs
+    ∙ runs_joined (size_without_answers request edns) records are.runs are.are_runs
 
 module _ {X : Type 0} (P : X → Type 0) where
   take_all_hold : (n : ℕ) (xs : List X) → AllByRecursion P xs → AllByRecursion P (take n xs)
@@ -39,27 +41,30 @@ runs_hold : (P : Record RData → Type 0) (front : ℕ) (records : List (Record 
 runs_hold P front records _ (last _) all = (all, tt)
 runs_hold P front records _ (full {runs = runs} len _ _ _ _ behind) all = (take_all_hold P len records all, runs_hold P front (drop len records) runs behind (drop_all_hold P len records all))
 
-module _ (request : MessageRequest) (edns : Option EdnsFields) (edns_formed : IfSome edns (λ e. HasForm (opt_record e))) (room : front_size request edns ≤ 65535) where
+module _ (request : MessageRequest) (edns : Option EdnsFields) (edns_formed : IfSome edns (λ e. HasForm (opt_record e))) (room : size_without_answers request edns ≤ 65535) where
   abbrev FitsOrOne : Reply → Type 0
-  FitsOrOne reply = FitsWhole 65535 reply ⊎ (length reply.answers ≡ 1)
+  FitsOrOne reply = FitsWhole 65535 reply ⊎ IsOneTooLarge (size_without_answers request edns) reply
 
-  fits_whole : (run : List (Record RData)) → AllByRecursion HasForm run → message_size (front_size request edns) run ≤ 65535 → FitsWhole 65535 (message_of_transfer request (with_high_code 0 edns) run)
+  fits_whole : (run : List (Record RData)) → AllByRecursion HasForm run → message_size (size_without_answers request edns) run ≤ 65535 → FitsWhole 65535 (message_of_transfer request (with_high_code 0 edns) run)
   fits_whole run formed small = by_edns edns edns_formed small where
-    by_edns : (e : Option EdnsFields) → IfSome e (λ x. HasForm (opt_record x)) → message_size (front_size request e) run ≤ 65535 → FitsWhole 65535 (message_of_transfer request (with_high_code 0 e) run)
+    by_edns : (e : Option EdnsFields) → IfSome e (λ x. HasForm (opt_record x)) → message_size (size_without_answers request e) run ≤ 65535 → FitsWhole 65535 (message_of_transfer request (with_high_code 0 e) run)
     by_edns None _ fits = record { formed = (formed, (tt, (tt, (tt, (tt, tt))))); fits = omega (arith, fits) }
     by_edns (Some e) has fits = record { formed = (formed, (tt, (tt, ((has, tt), (tt, tt))))); fits = omega (arith, fits) }
 
-  fits_or_one : (run : List (Record RData)) → AllByRecursion HasForm run → (message_size (front_size request edns) run ≤ 65535) ⊎ (length run ≤ 1) → FitsOrOne (message_of_transfer request (with_high_code 0 edns) run)
+  fits_or_one : (run : List (Record RData)) → AllByRecursion HasForm run → (message_size (size_without_answers request edns) run ≤ 65535) ⊎ (length run ≤ 1) → FitsOrOne (message_of_transfer request (with_high_code 0 edns) run)
   fits_or_one run formed (inl small) = inl (fits_whole run formed small)
   fits_or_one [] formed (inr one) = inl (fits_whole [] formed (omega (arith, room)))
-  fits_or_one (r ∷ []) formed (inr one) = inr refl
+  fits_or_one (r ∷ []) formed (inr one) = by_size (cases_lt 65535 (message_size (size_without_answers request edns) (r ∷ []))) where
+    by_size : (65535 < message_size (size_without_answers request edns) (r ∷ [])) ⊎ (message_size (size_without_answers request edns) (r ∷ []) ≤ 65535) → FitsOrOne (message_of_transfer request (with_high_code 0 edns) (r ∷ []))
+    by_size (inl large) = inr (r, refl, large)
+    by_size (inr small) = inl (fits_whole (r ∷ []) formed small)
   fits_or_one (r ∷ s ∷ rs) formed (inr one) = absurd (omega (arith, one))
 
-  each_fits : (runs : List (List (Record RData))) → AllByRecursion (AllByRecursion HasForm) runs → AllByRecursion (λ run. (message_size (front_size request edns) run ≤ 65535) ⊎ (length run ≤ 1)) runs
+  each_fits : (runs : List (List (Record RData))) → AllByRecursion (AllByRecursion HasForm) runs → AllByRecursion (λ run. (message_size (size_without_answers request edns) run ≤ 65535) ⊎ (length run ≤ 1)) runs
       → AllByRecursion FitsOrOne (map (message_of_transfer request (with_high_code 0 edns)) runs)
   each_fits [] formed fit = tt
   each_fits (run ∷ runs) formed fit = (fits_or_one run formed.0 fit.0, each_fits runs formed.1 fit.1)
 
   pub no_answer_cut : (records : List (Record RData)) (replies : List Reply) → AreTransferReplies request edns records replies → AllByRecursion HasForm records → AllByRecursion FitsOrOne replies
   no_answer_cut records replies are formed = subst (AllByRecursion FitsOrOne) (sym are.replies_are)
-      (each_fits are.runs (runs_hold HasForm (front_size request edns) records are.runs are.are_runs formed) (run_by_run (front_size request edns) records are.runs are.are_runs))
+      (each_fits are.runs (runs_hold HasForm (size_without_answers request edns) records are.runs are.are_runs formed) (run_by_run (size_without_answers request edns) records are.runs are.are_runs))

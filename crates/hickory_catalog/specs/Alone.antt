@@ -1,5 +1,5 @@
 -- Each zone is served as if it were the only one.
-use Rattle.std.specs.Prelude.{◌≡◌, [], ◌∷◌, ℕ, List, Ok, Contains}
+use Rattle.std.specs.Prelude.{◌≡◌, ◌⊎◌, [], ◌∷◌, ℕ, List, Ok, Contains}
 use Rattle.std.specs.Map.{keys_of}
 use Rattle.hickory_wire.specs.rr.domain.DomainName.{DomainName}
 use Rattle.hickory_wire.specs.rr.domain.NameOrder.{lower_name}
@@ -46,3 +46,8 @@ ApexesStay {S} {H} handler signature_for = (catalog : Catalog S H) (request : Re
 -- Zones in order have one chain at an apex.
 abbrev pub OneChain : Type 0 → Type 0
 OneChain H = (zones : List (DomainName × List H)) (apex : DomainName) (one other : List H) → AreInOrder zones → Contains zones (apex, one) → Contains zones (apex, other) → one ≡ other
+
+-- Of each request it is decided whether it is to the zone of an apex: it is, with what is kept there, or it is not, whatever is kept there.
+abbrev pub OfZoneIsDecided : Type 0 → Type 0
+OfZoneIsDecided H = (zones : List (DomainName × List H)) (request : ReceivedRequest) (apex : DomainName)
+    → ((chain : List H) × IsOfZone zones request (apex, chain)) ⊎ ((chain : List H) → ¬ (IsOfZone zones request (apex, chain)))

@@ -47,19 +47,19 @@ abbrev pub transfer_contents : Metadata → Result ZoneTransfer LookupError → 
 transfer_contents request (Ok transfer) = record (bare_contents (authoritative_metadata request 0)) { answers = transfer.records }
 transfer_contents request (Err e) = error_contents request (transfer_fault e)
 
--- whether a transport carries one message alone
+-- whether the transport is UDP
 abbrev pub is_udp : Protocol → Bool
 is_udp protocol.Udp = true
 is_udp other = false
 
--- A transfer that is given is sent in as many messages as it takes (RFC 5936 section 2.2): over any transport but UDP, on which a reply is one
--- message, and where nothing is to be signed.
+-- A transfer that is given is sent in as many messages as it takes (RFC 5936 section 2.2): over any transport but UDP,
+-- and where nothing is to be signed.
 abbrev pub is_split : Protocol → Result ZoneTransfer LookupError → Option TSigResponseContext → Bool
 is_split transport result context = not (is_udp transport) && is_ok result && is_none context
 
 -- how many bytes stand in each message of a transfer beside its answers: header, questions, and the OPT record where there is one
-abbrev pub front_size : MessageRequest → Option EdnsFields → ℕ
-front_size request edns = 12 + length request.queries.bytes + sum_by full_size (option_to_list (option_map opt_record edns))
+abbrev pub size_without_answers : MessageRequest → Option EdnsFields → ℕ
+size_without_answers request edns = 12 + length request.queries.bytes + sum_by full_size (option_to_list (option_map opt_record edns))
 
 -- how many bytes a message of these answers takes with every name in full
 abbrev pub message_size : ℕ → List (Record RData) → ℕ
@@ -68,7 +68,7 @@ message_size front answers = front + sum_by full_size answers
 -- Records in runs, of which each has its own message: it takes the next records as long as they fit 65,535 bytes, which is what a length of 16
 -- bits allows (RFC 1035 section 4.2.2), and one at least. Where there are no records there is one run, which is empty.
 pub data AreRuns (front : ℕ) : List (Record RData) → List (List (Record RData)) → Type 0 where
-  -- All that is left fits, or is one record.
+  -- All that is left fits, or is one record at most.
   last : {records : List (Record RData)} → (message_size front records ≤ 65535) ⊎ (length records ≤ 1) → AreRuns front records (records ∷ [])
   -- The first so many fit, or are one record, and with the next one they would not fit.
   full : {records : List (Record RData)} {runs : List (List (Record RData))} (len : ℕ) → 1 ≤ len → len < length records
@@ -82,5 +82,5 @@ message_of_transfer request edns records = plain_reply request edns (record (bar
 -- The replies of a transfer that is sent in as many as it takes: they say the same but for their answers, and these are its records in runs.
 pub record AreTransferReplies (request : MessageRequest) (edns : Option EdnsFields) (records : List (Record RData)) (replies : List Reply) : Type 0 where
   pub runs : List (List (Record RData))
-  pub are_runs : AreRuns (front_size request edns) records runs
+  pub are_runs : AreRuns (size_without_answers request edns) records runs
   pub replies_are : replies ≡ map (message_of_transfer request (with_high_code 0 edns)) runs

@@ -4,7 +4,7 @@ ghost use Rattle.std.specs.Prelude.{◌≡◌, List};
 ghost use Rattle.hickory_wire.specs.serialize.writing.Reply.{Reply};
 ghost use Rattle.hickory_wire.specs.declared.op.header.Header.{Header};
 ghost use Rattle.hickory_wire.specs.declared.op.header.Metadata.{Metadata};
-ghost use Rattle.hickory_catalog.specs.Alone.{ApexesStay, OneChain, OthersStay, ServedAlone};
+ghost use Rattle.hickory_catalog.specs.Alone.{ApexesStay, OfZoneIsDecided, OneChain, OthersStay, ServedAlone};
 ghost use Rattle.hickory_catalog.specs.AuthoritativeLaws.{AuthoritativeCodes, AuthoritativeHeaders, NegativeReplies, ReferralsAreNoAnswers};
 ghost use Rattle.hickory_catalog.specs.DecodedReplies.{CatalogReplyDecodes, ErrorRepliesFit, QueryRepliesFit, ReplyEdnsFits, SignedRepliesFit, UpdateRepliesFit};
 ghost use Rattle.hickory_catalog.specs.ForwardedLaws.{AuthenticWhereProved, DnssecRecordsOnDemand, ForwardedCodes, ForwardedHeaders, NothingBogusPassedOn, RefusedWithoutRecursion, SoaOfNegativeAnswer};
@@ -74,12 +74,13 @@ pub fn transfers_in_several_replies()
 {}
 
 /// Each zone is served as if it were the only one: a request to it has the replies that it would have there, and leaves it as it would there; any
-/// other request leaves it as it was; and no request makes or removes a zone.
+/// other request leaves it as it was; no request makes or removes a zone; and of each request it is decided whether it is to a zone.
 pub fn zones_apart<S: ReplySigner, H: ZoneHandler>()
     ensures alone { ServedAlone H.ZoneHandler S.signature_for }
     ensures others { OthersStay H.ZoneHandler S.signature_for }
     ensures apexes { ApexesStay H.ZoneHandler S.signature_for }
     ensures one_chain { OneChain H }
+    ensures decided { OfZoneIsDecided H }
 {}
 
 /// A sink that counted no failure took all replies that were handed over, in their order, one entry for each.

@@ -38,7 +38,7 @@ fn failure(request: &Metadata) -> ResponseInfo
 }
 
 /// Hands a response over, once. The answer tells what the sink tells of it, or where the sink fails that it failed.
-fn hand_over<'q, 'a, R, A, N, S, D>(
+fn send_once<'q, 'a, R, A, N, S, D>(
     sink: &mut R,
     alloc: Global,
     request: &Metadata,
@@ -95,12 +95,12 @@ pub(crate) fn send_contents<R: ResponseHandler>(
 {
     let mut response = response(request, edns, contents);
     response.signature = signature;
-    told(hand_over(sink, alloc, &request.metadata, response))
+    told(send_once(sink, alloc, &request.metadata, response))
 }
 
 /// Hands over the records of one reply of a transfer, with this EDNS. The answer tells what the sink tells of it, or where the sink fails that it
 /// failed.
-pub(crate) fn hand_records<R: ResponseHandler>(
+pub(crate) fn send_records<R: ResponseHandler>(
     sink: &mut R,
     alloc: Global,
     request: &MessageRequest,
@@ -112,7 +112,7 @@ pub(crate) fn hand_records<R: ResponseHandler>(
 {
     let metadata = authoritative_metadata(&request.metadata, ResponseCode::NO_ERROR);
     let response = answers_response(request, edns, metadata, records);
-    hand_over(sink, alloc, &request.metadata, response)
+    send_once(sink, alloc, &request.metadata, response)
 }
 
 /// Hands an error reply over, with this EDNS: a response code, and no records.

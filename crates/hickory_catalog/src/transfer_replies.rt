@@ -8,10 +8,10 @@ ghost use Rattle.hickory_wire.specs.declared.rr.record.Record.{Record};
 ghost use Rattle.hickory_base.specs.responses.Responses.{header_of};
 ghost use Rattle.hickory_catalog.specs.Runs.{IsRoom, IsRunLength};
 ghost use Rattle.hickory_catalog.specs.Sending.{SendsInOrder};
-ghost use Rattle.hickory_catalog.specs.Transfers.{AreRuns, AreTransferReplies, front_size, message_of_transfer};
+ghost use Rattle.hickory_catalog.specs.Transfers.{AreRuns, AreTransferReplies, size_without_answers, message_of_transfer};
 
 use crate::edns::set_high_code;
-use crate::sending::hand_records;
+use crate::sending::send_records;
 use hickory_base::message_request::MessageRequest;
 use hickory_base::server::{ResponseHandler, ResponseInfo};
 use hickory_wire::{Edns, Record, ResponseCode};
@@ -22,7 +22,7 @@ const LARGEST_MESSAGE: usize = 65535;
 
 /// How many bytes each message of a transfer has for its answers, 0 where header, questions and OPT record take more than there is.
 fn room_for_answers(request: &MessageRequest, edns: Option<&Edns>) -> usize
-    ensures { IsRoom (front_size request.now (option_copied edns.entry)) result }
+    ensures { IsRoom (size_without_answers request.now (option_copied edns.entry)) result }
 {
     let front = 12 + request.queries.as_bytes().len();
     if front > LARGEST_MESSAGE {
@@ -57,22 +57,22 @@ fn send_runs<R: ResponseHandler>(
     edns: Option<&Edns>,
     records: &[Record],
 ) -> ResponseInfo
-    ensures { (runs : List (List (Record RData))) × AreRuns (front_size request.now (option_copied edns.entry)) records.now runs ×
+    ensures { (runs : List (List (Record RData))) × AreRuns (size_without_answers request.now (option_copied edns.entry)) records.now runs ×
         SendsInOrder R.ResponseHandler request.now.metadata sink.old sink.new
-            (map (message_of_transfer request.now (option_copied edns.entry)) runs) (header_of result) }
+        (map (message_of_transfer request.now (option_copied edns.entry)) runs) (header_of result) }
 {
     let room = room_for_answers(request, edns);
     let mut rest = records;
     let mut len = run_len(room, rest);
     while len < rest.len() {
         let (run, behind) = rest.split_at(len);
-        if let Err(info) = hand_records(sink, alloc, request, edns, run) {
+        if let Err(info) = send_records(sink, alloc, request, edns, run) {
             return info;
         }
         rest = behind;
         len = run_len(room, rest);
     }
-    match hand_records(sink, alloc, request, edns, rest) {
+    match send_records(sink, alloc, request, edns, rest) {
         Ok(info) => info,
         Err(info) => info,
     }

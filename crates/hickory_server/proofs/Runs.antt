@@ -27,6 +27,6 @@ module _ {S H : Type 0} (handler : Ghosts H) (signature_for : S → Signer) (acc
       → Step access (record (server_of handler signature_for first) { zones = middle.zones }) message outcome after
   step_between message outcome after step = subst (λ (m : Catalog S H). Step access (server_of handler signature_for m) message outcome after) same step
 
-  pub leaves_between : (message : Incoming) (e : ServeError) (after : List (DomainName × List H)) → LeavesUnserved (server_of handler signature_for middle) message e after
-      → LeavesUnserved (record (server_of handler signature_for first) { zones = middle.zones }) message e after
-  leaves_between message e after left = subst (λ (m : Catalog S H). LeavesUnserved (server_of handler signature_for m) message e after) same left
+  pub leaves_between : (message : Incoming) (e : ServeError) (after : List (DomainName × List H)) → LeavesUnserved access (server_of handler signature_for middle) message e after
+      → LeavesUnserved access (record (server_of handler signature_for first) { zones = middle.zones }) message e after
+  leaves_between message e after left = subst (λ (m : Catalog S H). LeavesUnserved access (server_of handler signature_for m) message e after) same left

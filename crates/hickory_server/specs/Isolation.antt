@@ -46,3 +46,18 @@ ZonesAreIsolated {S} {H} handler signature_for = (access : AccessSets) (catalog 
 abbrev pub BesideIsARun : {S H : Type 0} → Ghosts H → (S → Signer) → Type 0
 BesideIsARun {S} {H} handler signature_for = (access : AccessSets) (catalog : Catalog S H) (apex : DomainName) (messages : List Incoming) (outcomes : List Outcome) (after : List (DomainName × List H)) (to : List Incoming) (of : List Outcome)
     → RunBeside access (server_of handler signature_for catalog) apex catalog.zones messages outcomes after to of → Run access (server_of handler signature_for catalog) catalog.zones messages outcomes after
+
+-- Of the messages of each run it is decided which are to the zone of an apex.
+abbrev pub EachRunIsBeside : {S H : Type 0} → Ghosts H → (S → Signer) → Type 0
+EachRunIsBeside {S} {H} handler signature_for = (access : AccessSets) (catalog : Catalog S H) (apex : DomainName) (messages : List Incoming) (outcomes : List Outcome) (after : List (DomainName × List H))
+    → Run access (server_of handler signature_for catalog) catalog.zones messages outcomes after
+    → (to : List Incoming) × (of : List Outcome) × RunBeside access (server_of handler signature_for catalog) apex catalog.zones messages outcomes after to of
+
+-- Of the messages of each run it is decided which are to the zone; and what becomes of those, and the zone after them, is what becomes of them where
+-- they come alone to a server of that zone alone.
+abbrev pub EachRunIsIsolated : {S H : Type 0} → Ghosts H → (S → Signer) → Type 0
+EachRunIsIsolated {S} {H} handler signature_for = (access : AccessSets) (catalog : Catalog S H) (apex : DomainName) (chain : List H) (messages : List Incoming) (outcomes : List Outcome) (after : List (DomainName × List H))
+    → AreInOrder catalog.zones → Contains catalog.zones (apex, chain)
+    → Run access (server_of handler signature_for catalog) catalog.zones messages outcomes after
+    → (to : List Incoming) × (of : List Outcome) × (chain' : List H) × RunBeside access (server_of handler signature_for catalog) apex catalog.zones messages outcomes after to of
+    × Run access (server_of handler signature_for catalog) ((apex, chain) ∷ []) to of ((apex, chain') ∷ []) × Contains after (apex, chain')

@@ -57,10 +57,11 @@ abbrev pub LeavesRequest : {H : Type 0} → Server H → ReceivedRequest → ℕ
 LeavesRequest server request now Memory zones = zones ≡ server.zones
 LeavesRequest server request now MemoryAfterHandling zones = ((replies : List Reply) × RequestAnswered server request now replies zones) ⊎ RequestLeaves server request now MemoryAfterUpdate zones
 
--- The zones after a message for which memory was refused: as before, or as after its request.
-abbrev pub LeavesUnserved : {H : Type 0} → Server H → Incoming → ServeError → List (DomainName × List H) → Type 0
-LeavesUnserved server message Memory zones = zones ≡ server.zones
-LeavesUnserved server message MemoryAfterHandling zones = (request : ReceivedRequest) × IsRequestOf message request × LeavesRequest server request message.now MemoryAfterHandling zones
+-- The zones after a message for which memory was refused: as before, or as after its request, where its address may use the server.
+abbrev pub LeavesUnserved : {H : Type 0} → AccessSets → Server H → Incoming → ServeError → List (DomainName × List H) → Type 0
+LeavesUnserved access server message Memory zones = zones ≡ server.zones
+LeavesUnserved access server message MemoryAfterHandling zones = IsAllowed access.deny access.allow (socket_ip message.src)
+    × (request : ReceivedRequest) × IsRequestOf message request × LeavesRequest server request message.now MemoryAfterHandling zones
 
 -- Memory was refused for a message: those before it have their outcomes, and those behind it were not looked at.
 pub record RunFailed {H : Type 0} (access : AccessSets) (server : Server H) (messages : List Incoming) (outcomes : List Outcome) (e : ServeError) (zones : List (DomainName × List H)) : Type 0 where
@@ -70,4 +71,4 @@ pub record RunFailed {H : Type 0} (access : AccessSets) (server : Server H) (mes
   pub messages_are : messages ≡ front ++ message ∷ behind
   pub between : List (DomainName × List H)
   pub run : Run access server server.zones front outcomes between
-  pub left : LeavesUnserved (record server { zones = between }) message e zones
+  pub left : LeavesUnserved access (record server { zones = between }) message e zones

@@ -8,7 +8,8 @@ use Rattle.hickory_wire.specs.rr.domain.DomainName.{DomainName}
 use Rattle.hickory_server.specs.declared.zone_text.zone_file.entry.Entry.{Entry}
 use Rattle.hickory_server.specs.declared.zone_text.zone_file.entry.Entry.TheVariants as entry
 
--- a type of which zones have records: none that stands in messages alone, which are OPT, 41, and from 128 to 255 (RFC 6895 section 3.1)
+-- a type of which zones have records: none that stands in messages alone, which are OPT, 41, and from 128 to 255, and not 0, which no record
+-- has (RFC 6895 section 3.1)
 pub record IsZoneType (number : ℕ) : Type 0 where
   pub not_zero : 0 < number
   pub not_opt : ¬ (number ≡ 41)

@@ -6,11 +6,12 @@ ghost use Rattle.hickory_wire.specs.serialize.writing.Reply.{Reply};
 ghost use Rattle.hickory_base.specs.responses.EncodingSinks.{IsEncodingOf};
 ghost use Rattle.hickory_catalog.specs.Requests.{RequestAnswered};
 ghost use Rattle.hickory_catalog.specs.Server.{server_of};
-ghost use Rattle.hickory_server.specs.Isolation.{BesideIsARun, ZonesAreIsolated};
+ghost use Rattle.hickory_server.specs.Isolation.{BesideIsARun, EachRunIsBeside, EachRunIsIsolated, ZonesAreIsolated};
 ghost use Rattle.hickory_server.specs.Serving.{IsReadAs, LeavesRequest, LeavesUnserved, Run, RunFailed, Step};
 ghost use Rattle.hickory_server.specs.declared.server.serve.ServeError.TheVariants as serve_error;
 
 use hickory_base::access::AccessControl;
+pub use hickory_base::encoding_sink::EncodingSink;
 use hickory_base::errors::CatalogError;
 use hickory_base::server::{Request, RequestHandler};
 use hickory_base::zone_store::ZoneHandler;
@@ -21,8 +22,6 @@ use hickory_wire::message_laws::one_message;
 use hickory_wire::{Items, Octets, ProtoError, Protocol};
 use std::alloc::Global;
 use std::net::SocketAddr;
-
-pub use hickory_base::encoding_sink::EncodingSink;
 
 /// A message as it came.
 #[derive(Drop)]
@@ -51,7 +50,7 @@ pub enum Outcome {
 /// Where memory was refused.
 #[derive(Clone, Copy, Debug, PartialEq, Eq, thiserror::Error)]
 pub enum ServeError {
-    /// Before a message was handled: the catalog is as before it.
+    /// Before or while a message was handled: the catalog is as before it.
     #[error("no memory")]
     Memory,
     /// After a message was handled, for its replies: the catalog is as after it.
@@ -116,7 +115,7 @@ pub fn serve<S: ReplySigner, H: ZoneHandler>(
 ) -> Result<Outcome, ServeError>
     ensures others { catalog.new ≡ record catalog.old { zones = catalog.new.zones } }
     ensures ok { IfOk result (λ outcome. Step access.now (server_of H.ZoneHandler S.signature_for catalog.old) message outcome catalog.new.zones) }
-    ensures err { IfErr result (λ e. LeavesUnserved (server_of H.ZoneHandler S.signature_for catalog.old) message e catalog.new.zones) }
+    ensures err { IfErr result (λ e. LeavesUnserved access.now (server_of H.ZoneHandler S.signature_for catalog.old) message e catalog.new.zones) }
 {
     if !access.allow(message.src.ip()) {
         return Ok(Outcome::Denied);
@@ -156,10 +155,13 @@ pub fn serve_all<S: ReplySigner, H: ZoneHandler>(
 }
 
 /// Each zone of a server is served as if it were the only one: what becomes of the messages to it, and the zone after them, is what becomes of them
-/// where they come alone to a server of that zone alone, with the same identifier and signer.
+/// where they come alone to a server of that zone alone, with the same identifier and signer. Which messages of a run these are
+/// is decided.
 pub fn zones_are_isolated<S: ReplySigner, H: ZoneHandler>()
     ensures isolated { ZonesAreIsolated H.ZoneHandler S.signature_for }
     ensures run { BesideIsARun H.ZoneHandler S.signature_for }
+    ensures beside { EachRunIsBeside H.ZoneHandler S.signature_for }
+    ensures each { EachRunIsIsolated H.ZoneHandler S.signature_for }
 {
     one_message();
     zones_apart::<S, H>();

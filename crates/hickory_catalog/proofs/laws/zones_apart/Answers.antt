@@ -1,5 +1,6 @@
 use Rattle.hickory_catalog.specs.Server.{server_of}
 use Rattle.hickory_catalog.proofs.Alone.{request_alone, request_apexes, request_stays}
+use Rattle.hickory_catalog.proofs.Deciding.{of_zone_decided}
 use Rattle.hickory_catalog.proofs.OneAnswer.{one_at}
 use Rattle.hickory_catalog.proofs.laws.zones_apart.Goals as goal
 
@@ -17,3 +18,6 @@ returns-clause-apexes g c = λ catalog request now replies after answered.
 
 pub returns-clause-one_chain : goal.returns-clause-one_chain
 returns-clause-one_chain g c = one_at
+
+pub returns-clause-decided : goal.returns-clause-decided
+returns-clause-decided g c = of_zone_decided

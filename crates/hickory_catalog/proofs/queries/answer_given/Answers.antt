@@ -14,5 +14,8 @@ returns-in-Some-clause-replied g c =
 pub returns-clause-replied : goal.returns-clause-replied
 returns-clause-replied g c =
     if_ok_map c.answer_transferred.result _ _ c.answer_transferred.ensures.replied
-    (λ info w. (w.0 ∷ [], whole w.1 (search rules) w.2 refl,
-      sent_alone g.R.ResponseHandler c.args.request.now.message.metadata c.args.sink.now c.answer_transferred.new.sink w.0 (header_of info) w.3))
+    (λ info w. (
+      w.0 ∷ [],
+      whole w.1 (search rules) w.2 refl,
+      sent_alone g.R.ResponseHandler c.args.request.now.message.metadata c.args.sink.now c.answer_transferred.new.sink w.0 (header_of info) w.3,
+    ))

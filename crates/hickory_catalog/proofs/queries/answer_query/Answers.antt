@@ -11,7 +11,7 @@ returns-in-Err-clause-replied g c = (
   error_reply c.args.request.now.message c.args.edns.now 1 ∷ [],
   other_count c.in-Err.ensures.err refl,
   sent_alone g.R.ResponseHandler c.args.request.now.message.metadata c.args.sink.now c.send_error.new.sink
-    (error_reply c.args.request.now.message c.args.edns.now 1) (header_of c.send_error.result) (search rules),
+      (error_reply c.args.request.now.message c.args.edns.now 1) (header_of c.send_error.result) (search rules),
 )
 
 pub returns-in-None-clause-replied : goal.returns-in-None-clause-replied
@@ -19,7 +19,7 @@ returns-in-None-clause-replied g c = (
   error_reply c.args.request.now.message c.args.edns.now 5 ∷ [],
   no_zone c.in-Ok.ensures.query (finds_none c.args.catalog.now.zones (λ chain. chain.now.items) c.name.result.now _ c.in_ok-find.field-0 c.in_ok-find.ensures.found c.in-None.is c.name.ensures) refl,
   sent_alone g.R.ResponseHandler c.args.request.now.message.metadata c.args.sink.now c.send_error-in-None.new.sink
-    (error_reply c.args.request.now.message c.args.edns.now 5) (header_of c.send_error-in-None.result) (search rules),
+      (error_reply c.args.request.now.message c.args.edns.now 5) (header_of c.send_error-in-None.result) (search rules),
 )
 
 pub returns-then-value-clause-replied : goal.returns-then-value-clause-replied

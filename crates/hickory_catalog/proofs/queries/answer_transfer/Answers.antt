@@ -11,7 +11,7 @@ returns-in-None-clause-replied g c = (
   error_reply c.args.asked.now.request.now.message c.args.edns.now 2 ∷ [],
   one (untransferred c.requires (rw c.in-None.is at c.ask_for_transfer.ensures) refl) refl,
   sent_alone g.R.ResponseHandler c.args.asked.now.request.now.message.metadata c.args.sink.now c.send_error.new.sink
-    (error_reply c.args.asked.now.request.now.message c.args.edns.now 2) (header_of c.send_error.result) (search rules),
+      (error_reply c.args.asked.now.request.now.message c.args.edns.now 2) (header_of c.send_error.result) (search rules),
 )
 
 pub returns-in-Some-clause-replied : goal.returns-in-Some-clause-replied

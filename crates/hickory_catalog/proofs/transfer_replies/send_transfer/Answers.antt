@@ -2,11 +2,11 @@ use Rattle.std.proofs.Common.{◌≡◌, ℕ, Option, Some, None, refl, subst}
 use Rattle.hickory_wire.specs.op.EdnsFields.{EdnsFields}
 use Rattle.hickory_base.specs.declared.requests.message_request.MessageRequest.{MessageRequest}
 use Rattle.hickory_catalog.specs.ReplyEdns.{with_high_code}
-use Rattle.hickory_catalog.specs.Transfers.{AreRuns, front_size}
+use Rattle.hickory_catalog.specs.Transfers.{AreRuns, size_without_answers}
 use Rattle.hickory_catalog.proofs.transfer_replies.send_transfer.Goals as goal
 
 -- the high bits of a code take no room of their own
-same_front : (request : MessageRequest) (code : ℕ) (edns : Option EdnsFields) → front_size request (with_high_code code edns) ≡ front_size request edns
+same_front : (request : MessageRequest) (code : ℕ) (edns : Option EdnsFields) → size_without_answers request (with_high_code code edns) ≡ size_without_answers request edns
 same_front request code None = refl
 same_front request code (Some e) = refl
 

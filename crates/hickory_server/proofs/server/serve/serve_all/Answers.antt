@@ -29,9 +29,9 @@ loop-message-preserved g c =
     let more : c.loop-message.message-iterator.rest.items ≡ c.in-Some.message ∷ c.next.new.self.rest.items = search rules in (
       others_stay g.H.ZoneHandler g.S.ReplySigner.signature_for c.args.access.now c.args.catalog.now c.loop-message.catalog so_far.0 c.serve.new.catalog c.in-Ok.ensures.others,
       rw (c.push_reserved.ensures.items, c.reserve.ensures.items)
-      (run_more c.args.access.now (server_of g.H.ZoneHandler g.S.ReplySigner.signature_for c.args.catalog.now) c.args.catalog.now.zones c.loop-message.catalog.zones c.serve.new.catalog.zones
-      c.loop-message.yielded c.loop-message.outcomes.items c.in-Some.message c.in-Ok.outcome so_far.1
-      (step_between g.H.ZoneHandler g.S.ReplySigner.signature_for c.args.access.now c.args.catalog.now c.loop-message.catalog so_far.0 c.in-Some.message c.in-Ok.outcome c.serve.new.catalog.zones c.in-Ok.ensures.ok)),
+          (run_more c.args.access.now (server_of g.H.ZoneHandler g.S.ReplySigner.signature_for c.args.catalog.now) c.args.catalog.now.zones c.loop-message.catalog.zones c.serve.new.catalog.zones
+          c.loop-message.yielded c.loop-message.outcomes.items c.in-Some.message c.in-Ok.outcome so_far.1
+          (step_between g.H.ZoneHandler g.S.ReplySigner.signature_for c.args.access.now c.args.catalog.now c.loop-message.catalog so_far.0 c.in-Some.message c.in-Ok.outcome c.serve.new.catalog.zones c.in-Ok.ensures.ok)),
       so_far.2 ∙ ap (λ (xs : List Incoming). c.loop-message.yielded ++ xs) more ∙ sym (append_assoc c.loop-message.yielded (c.in-Some.message ∷ []) c.next.new.self.rest.items),
     )
 

@@ -1,5 +1,5 @@
 use Rattle.hickory_catalog.proofs.SentReplies.{failed_after_err, taken_after_ok}
-use Rattle.hickory_catalog.proofs.sending.hand_over.Goals as goal
+use Rattle.hickory_catalog.proofs.sending.send_once.Goals as goal
 
 pub returns-in-Ok-clause-taken : goal.returns-in-Ok-clause-taken
 returns-in-Ok-clause-taken g c = λ reply so. (c.in-Ok.ensures.settled, taken_after_ok reply so c.in-Ok.ensures.ok c.in-Ok.ensures.uncounted)
