@@ -1,6 +1,7 @@
 //! Why the program ends before its input does.
 
 use crate::arguments::ArgumentFault;
+use crate::frames::StreamFault;
 use crate::zones::ZoneFault;
 use hickory_server::server::serve::ServeError;
 use hickory_server::store::blocklist::AddError;
@@ -39,21 +40,15 @@ pub enum Fault {
         /// What is wrong with it.
         fault: AddError,
     },
-    /// Names are to be blocked that no zone has, and each name is in the zone of the root.
-    #[error("--blocklist blocks names outside the zones, and the zone of the root has them all")]
-    NothingToBlock,
     /// The peer's address may not use the server.
     #[error("denied")]
     Denied,
     /// The bytes of a message begin with none (RFC 1035 section 4.1).
     #[error("unreadable: the bytes begin with no message")]
     Unreadable,
-    /// The input ends within a message, or within its length.
-    #[error("the input ends within a message")]
-    Partial,
-    /// A datagram is longer than one can be.
-    #[error("more than 65535 bytes")]
-    TooLong,
+    /// The input gives no message where one is wanted.
+    #[error("{0}")]
+    Stream(StreamFault),
     /// A line is no transport, address and message.
     #[error("line {number}: not 'udp|tcp ADDRESS HEX'")]
     Line {
@@ -78,11 +73,12 @@ impl Fault {
     /// The status that tells it.
     pub fn status(self) -> u8 {
         match self {
-            Fault::Denied | Fault::Unreadable | Fault::Partial | Fault::TooLong => 1,
-            Fault::Line { .. } => 1,
-            Fault::Argument(_) | Fault::Peer | Fault::NothingToBlock => 2,
-            Fault::Memory => 3,
+            Fault::Denied | Fault::Unreadable | Fault::Line { .. } => 1,
+            Fault::Stream(StreamFault::Partial | StreamFault::TooLong) => 1,
+            Fault::Argument(_) | Fault::Peer => 2,
+            Fault::Memory | Fault::Stream(StreamFault::Memory) => 3,
             Fault::Clock | Fault::Read | Fault::Write => 4,
+            Fault::Stream(StreamFault::Read) => 4,
             Fault::ZoneTwice { .. } | Fault::Zone { .. } | Fault::List { .. } => 5,
         }
     }
@@ -121,5 +117,11 @@ impl From<ArgumentFault> for Fault {
             ArgumentFault::Memory => Fault::Memory,
             other => Fault::Argument(other),
         }
+    }
+}
+
+impl From<StreamFault> for Fault {
+    fn from(e: StreamFault) -> Fault {
+        Fault::Stream(e)
     }
 }

@@ -1,11 +1,10 @@
-//! The handlers of the server's chains, as one type: zones, a list of blocked names, and what is answered outside the zones.
+//! The handlers of the server's chains, as one type: a zone, and a list of blocked names that all chains share.
 
 ghost use Rattle.std.specs.Prelude.{None, false};
 ghost use Rattle.zone_serve.specs.Handlers.{zone_type_of, axfr_policy_of, origin_of};
 
 use crate::keys::NoKeys;
-use crate::outside::Outside;
-use hickory_server::proto::{LowerName, RecordType, TSigResponseContext};
+use hickory_server::proto::{LowerName, RecordType, ResponseCode, TSigResponseContext};
 use hickory_server::server::{Request, RequestInfo};
 use hickory_server::store::blocklist::BlocklistZoneHandler;
 use hickory_server::store::sqlite::SqliteZoneHandler;
@@ -14,6 +13,7 @@ use hickory_server::zone_handler::{
     NxProofKind, UpdateFault, ZoneHandler, ZoneTransfer, ZoneType,
 };
 use std::alloc::Global;
+use std::rc::Rc;
 
 /// A handler of a chain.
 #[derive(Drop)]
@@ -21,9 +21,7 @@ pub enum Handler {
     /// A zone.
     Zone(SqliteZoneHandler<NoKeys>),
     /// A list of blocked names.
-    Blocklist(BlocklistZoneHandler),
-    /// What is answered outside the zones.
-    Outside(Outside),
+    Blocklist(Rc<BlocklistZoneHandler>),
 }
 
 impl ZoneHandler for Handler {
@@ -55,7 +53,6 @@ impl ZoneHandler for Handler {
         match self {
             Handler::Zone(zone) => zone.zone_type(),
             Handler::Blocklist(list) => list.zone_type(),
-            Handler::Outside(outside) => outside.zone_type(),
         }
     }
 
@@ -63,7 +60,6 @@ impl ZoneHandler for Handler {
         match self {
             Handler::Zone(zone) => zone.axfr_policy(),
             Handler::Blocklist(list) => list.axfr_policy(),
-            Handler::Outside(outside) => outside.axfr_policy(),
         }
     }
 
@@ -71,7 +67,6 @@ impl ZoneHandler for Handler {
         match self {
             Handler::Zone(zone) => zone.origin(),
             Handler::Blocklist(list) => list.origin(),
-            Handler::Outside(outside) => outside.origin(),
         }
     }
 
@@ -79,7 +74,6 @@ impl ZoneHandler for Handler {
         match self {
             Handler::Zone(zone) => zone.can_validate_dnssec(),
             Handler::Blocklist(list) => list.can_validate_dnssec(),
-            Handler::Outside(outside) => outside.can_validate_dnssec(),
         }
     }
 
@@ -87,7 +81,6 @@ impl ZoneHandler for Handler {
         match self {
             Handler::Zone(zone) => zone.nx_proof_kind(),
             Handler::Blocklist(list) => list.nx_proof_kind(),
-            Handler::Outside(outside) => outside.nx_proof_kind(),
         }
     }
 
@@ -102,7 +95,6 @@ impl ZoneHandler for Handler {
         match self {
             Handler::Zone(zone) => zone.lookup(alloc, name, record_type, info, options),
             Handler::Blocklist(list) => list.lookup(alloc, name, record_type, info, options),
-            Handler::Outside(outside) => outside.lookup(alloc, name, record_type, info, options),
         }
     }
 
@@ -115,7 +107,6 @@ impl ZoneHandler for Handler {
         match self {
             Handler::Zone(zone) => zone.search(alloc, request, options),
             Handler::Blocklist(list) => list.search(alloc, request, options),
-            Handler::Outside(outside) => outside.search(alloc, request, options),
         }
     }
 
@@ -131,14 +122,6 @@ impl ZoneHandler for Handler {
         match self {
             Handler::Zone(zone) => zone.consult(alloc, name, record_type, info, options, last),
             Handler::Blocklist(list) => list.consult(alloc, name, record_type, info, options, last),
-            Handler::Outside(outside) => outside.consult(
-                alloc,
-                name,
-                record_type,
-                info,
-                options,
-                last,
-            ),
         }
     }
 
@@ -157,7 +140,6 @@ impl ZoneHandler for Handler {
         match self {
             Handler::Zone(zone) => zone.zone_transfer(alloc, request, options, now),
             Handler::Blocklist(list) => list.zone_transfer(alloc, request, options, now),
-            Handler::Outside(outside) => outside.zone_transfer(alloc, request, options, now),
         }
     }
 
@@ -170,7 +152,6 @@ impl ZoneHandler for Handler {
         match self {
             Handler::Zone(zone) => zone.nsec_records(alloc, name, options),
             Handler::Blocklist(list) => list.nsec_records(alloc, name, options),
-            Handler::Outside(outside) => outside.nsec_records(alloc, name, options),
         }
     }
 
@@ -189,7 +170,6 @@ impl ZoneHandler for Handler {
         match self {
             Handler::Zone(zone) => zone.nsec3_records(alloc, info, options),
             Handler::Blocklist(list) => list.nsec3_records(alloc, info, options),
-            Handler::Outside(outside) => outside.nsec3_records(alloc, info, options),
         }
     }
 
@@ -201,8 +181,8 @@ impl ZoneHandler for Handler {
     ) -> (Result<bool, UpdateFault>, Option<TSigResponseContext>) {
         match self {
             Handler::Zone(zone) => zone.update(alloc, request, now),
-            Handler::Blocklist(list) => list.update(alloc, request, now),
-            Handler::Outside(outside) => outside.update(alloc, request, now),
+            // Its zone stands first, and is the one that is asked (RFC 2136 section 3).
+            Handler::Blocklist(_) => (Err(UpdateFault::Code(ResponseCode::NOT_IMP)), None),
         }
     }
 }

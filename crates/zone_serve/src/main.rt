@@ -14,7 +14,6 @@ mod frames;
 mod handler;
 mod keys;
 mod lines;
-mod outside;
 mod peer;
 mod server;
 mod serving;
@@ -24,18 +23,19 @@ use crate::arguments::{ArgumentFault, Mode, Settings, ZoneArgument};
 use crate::fault::Fault;
 use crate::handler::Handler;
 use crate::keys::NoKeys;
-use crate::server::{Zones, access, apex, identifier, put_blocklist, put_zone};
+use crate::server::{Zones, access, apex, chain, identifier, put_chain};
 use crate::serving::{serve_datagram, serve_lines, serve_stream};
 use crate::zones::{ZoneFault, read_zone};
 use hickory_server::proto::Name;
 use hickory_server::store::blocklist::{
-    AddError, BlocklistConfig, BlocklistZoneHandler, CountedReader,
+    AddError, BlocklistConfig, BlocklistConsultAction, BlocklistZoneHandler, CountedReader,
 };
 use hickory_server::zone_handler::Catalog;
 use std::alloc::Global;
 use std::env::VarError;
 use std::net::{IpAddr, Ipv4Addr};
 use std::process::ExitCode;
+use std::rc::Rc;
 use std::rt::{Clock, Env, Files};
 use std::{env, fs, io};
 
@@ -89,12 +89,13 @@ fn load_zone<R: Files + Alloc<A = Global>>(
     }
 }
 
-/// Puts the zone of an argument into the catalog, the one at this place among the zones.
+/// Puts the zone of an argument into the catalog, the one at this place among the zones, with the list of blocked names behind it.
 fn load<R: Files + Alloc<A = Global>>(
     rt: &R,
     catalog: &mut Zones,
     argument: ZoneArgument<'_>,
     place: usize,
+    list: Option<&Rc<BlocklistZoneHandler>>,
 ) -> Result<(), Fault> {
     let apex = apex(rt.alloc(), argument.name, argument.place)?;
     let zone = match load_zone(rt, &apex, argument.file) {
@@ -102,21 +103,23 @@ fn load<R: Files + Alloc<A = Global>>(
         Err(ZoneFault::Memory) => return Err(Fault::Memory),
         Err(fault) => return Err(Fault::Zone { place, fault }),
     };
-    if put_zone(rt.alloc(), catalog, &apex, zone)? {
+    let chain = chain(rt.alloc(), zone, list)?;
+    if put_chain(rt.alloc(), catalog, &apex, chain)? {
         Ok(())
     } else {
         Err(Fault::ZoneTwice { place })
     }
 }
 
-/// Puts the zones of the arguments into the catalog.
+/// Puts the zones of the arguments into the catalog, each with the list of blocked names behind it.
 fn load_zones<R: Files + Alloc<A = Global>>(
     rt: &R,
     catalog: &mut Zones,
     settings: &Settings<'_>,
+    list: Option<&Rc<BlocklistZoneHandler>>,
 ) -> Result<(), Fault> {
     for place in 0..settings.zones.len() {
-        load(rt, catalog, settings.zones[place], place)?;
+        load(rt, catalog, settings.zones[place], place, list)?;
     }
     Ok(())
 }
@@ -136,13 +139,22 @@ fn add_list<R: Files + Alloc<A = Global>>(
     }
 }
 
-/// The list with the names of these files.
+/// What is done with blocked names: their addresses are 0.0.0.0 and `::`, whatever their zone has.
+fn blocking() -> BlocklistConfig {
+    let mut config = BlocklistConfig::default();
+    config.consult_action = BlocklistConsultAction::Enforce;
+    config
+}
+
+/// The list with the names of these files, if there are files.
 fn blocklist<R: Files + Alloc<A = Global>>(
     rt: &R,
     files: &[&str],
-) -> Result<BlocklistZoneHandler, Fault> {
-    let config = BlocklistConfig::default();
-    let mut list = BlocklistZoneHandler::new(rt.alloc(), Name::root(), config)?;
+) -> Result<Option<Rc<BlocklistZoneHandler>>, Fault> {
+    if files.is_empty() {
+        return Ok(None);
+    }
+    let mut list = BlocklistZoneHandler::new(rt.alloc(), Name::root(), blocking())?;
     for place in 0..files.len() {
         match add_list(rt, &mut list, files[place]) {
             Ok(()) => {}
@@ -150,19 +162,16 @@ fn blocklist<R: Files + Alloc<A = Global>>(
             Err(fault) => return Err(Fault::List { place, fault }),
         }
     }
-    Ok(list)
+    Ok(Some(Rc::new(rt.alloc(), list)?))
 }
 
 /// The catalog that the arguments ask for.
 fn catalog<R: Files + Alloc<A = Global>>(rt: &R, settings: &Settings<'_>) -> Result<Zones, Fault> {
     let alloc = rt.alloc();
+    let list = blocklist(rt, &settings.blocklists)?;
     let mut catalog = Catalog::new(alloc, NoKeys);
     catalog.set_nsid(identifier(alloc, settings)?);
-    load_zones(rt, &mut catalog, settings)?;
-    if !settings.blocklists.is_empty() {
-        let list = blocklist(rt, &settings.blocklists)?;
-        put_blocklist(alloc, &mut catalog, list)?;
-    }
+    load_zones(rt, &mut catalog, settings, list.as_ref())?;
     Ok(catalog)
 }
 

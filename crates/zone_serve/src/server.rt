@@ -4,12 +4,12 @@ use crate::arguments::{ArgumentFault, Settings};
 use crate::fault::Fault;
 use crate::handler::Handler;
 use crate::keys::NoKeys;
-use crate::outside::Outside;
 use hickory_server::access::AccessControl;
 use hickory_server::proto::{LowerName, NSIDPayload, Name, NameError};
 use hickory_server::store::blocklist::BlocklistZoneHandler;
 use hickory_server::zone_handler::Catalog;
 use std::alloc::{AllocError, Global};
+use std::rc::Rc;
 
 /// A catalog of this program.
 pub type Zones = Catalog<NoKeys, Handler>;
@@ -52,44 +52,31 @@ pub fn identifier(
     }
 }
 
-/// Puts a chain at an apex; whether there was none.
-fn put_chain(catalog: &mut Zones, name: LowerName, chain: Vec<Handler>) -> Result<bool, Fault> {
-    match catalog.upsert(name, chain) {
-        Ok(old) => Ok(old.is_none()),
-        Err(_) => Err(Fault::Memory),
+/// The chain of a zone: its handler, and behind it the list of blocked names, if there is one. The list is consulted about what the zone
+/// answers, so that it changes answers alone: transfers and updates are for the handler of the zone.
+pub fn chain(
+    alloc: Global,
+    zone: Handler,
+    list: Option<&Rc<BlocklistZoneHandler>>,
+) -> Result<Vec<Handler>, AllocError> {
+    let mut chain = Vec::new(alloc);
+    chain.push(zone)?;
+    if let Some(list) = list {
+        chain.push(Handler::Blocklist(list.clone()?))?;
     }
+    Ok(chain)
 }
 
-/// Puts a zone into the catalog; whether it had none of that apex.
-pub fn put_zone(
+/// Puts the chain of a zone at its apex; whether there was none.
+pub fn put_chain(
     alloc: Global,
     catalog: &mut Zones,
     apex: &Name,
-    zone: Handler,
+    chain: Vec<Handler>,
 ) -> Result<bool, Fault> {
     let name = LowerName::new(alloc, apex)?;
-    let mut chain = Vec::new(alloc);
-    chain.push(zone)?;
-    put_chain(catalog, name, chain)
-}
-
-/// Puts a list of blocked names at the root, with a handler behind it that refuses all other names. Each name of a zone is answered by
-/// its zone, whatever the list says.
-pub fn put_blocklist(
-    alloc: Global,
-    catalog: &mut Zones,
-    list: BlocklistZoneHandler,
-) -> Result<(), Fault> {
-    let root = Name::root();
-    let outside = Outside {
-        origin: LowerName::new(alloc, &root)?,
-    };
-    let mut chain = Vec::new(alloc);
-    chain.push(Handler::Blocklist(list))?;
-    chain.push(Handler::Outside(outside))?;
-    if put_chain(catalog, LowerName::new(alloc, &root)?, chain)? {
-        Ok(())
-    } else {
-        Err(Fault::NothingToBlock)
+    match catalog.upsert(name, chain) {
+        Ok(old) => Ok(old.is_none()),
+        Err(_) => Err(Fault::Memory),
     }
 }
