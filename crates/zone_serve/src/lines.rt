@@ -1,6 +1,8 @@
 //! Messages and what becomes of them, as lines of text.
 
-use crate::fault::Fault;
+ghost use Rattle.std.specs.Prelude.{◌≡◌, ◌++◌, ◌∷◌, [], IfOk, OnOk};
+ghost use Rattle.zone_serve.specs.Lines.{hex_line, hex_lines, outcome_lines};
+
 use crate::peer;
 use hex::FromHexError;
 use hickory_server::proto::{Octets, Protocol};
@@ -73,27 +75,41 @@ pub fn read_line(alloc: Global, line: &[u8]) -> Result<Option<LineMessage>, Allo
 }
 
 /// Puts a line of hex digits for some bytes behind others.
-fn put_line(alloc: Global, lines: &mut Vec<u8>, bytes: &[u8]) -> Result<(), AllocError> {
+fn put_line(alloc: Global, lines: &mut Vec<u8>, bytes: &[u8]) -> Result<(), AllocError>
+    ensures { OnOk result (lines.new.items ≡ lines.old.items ++ hex_line bytes.now) }
+{
     lines.extend_from_slice(hex::encode(alloc, bytes)?.as_bytes())?;
     lines.push(b'\n')?;
     Ok(())
 }
 
-/// A line of hex digits for each of some texts, and an empty one.
-fn reply_lines(alloc: Global, replies: &[Octets]) -> Result<Vec<u8>, AllocError> {
+/// A line of hex digits for each of some texts.
+fn hex_lines(alloc: Global, texts: &[Octets]) -> Result<Vec<u8>, AllocError>
+    ensures { IfOk result (λ lines. lines.items ≡ hex_lines texts.now) }
+{
     let mut lines = Vec::new(alloc);
-    for reply in replies {
-        put_line(alloc, &mut lines, reply.as_slice())?;
+    for bytes in texts {
+        put_line(alloc, &mut lines, bytes.as_slice())?;
     }
+    Ok(lines)
+}
+
+/// A line of hex digits for each of some replies, and an empty one.
+fn reply_lines(alloc: Global, replies: &[Octets]) -> Result<Vec<u8>, AllocError>
+    ensures { IfOk result (λ lines. lines.items ≡ hex_lines replies.now ++ 10 ∷ []) }
+{
+    let mut lines = hex_lines(alloc, replies)?;
     lines.push(b'\n')?;
     Ok(lines)
 }
 
 /// The lines that tell what became of a message: a line of hex digits for each reply and an empty one, or `denied`, or `unreadable`.
-pub fn outcome_lines(alloc: Global, outcome: &Outcome) -> Result<Vec<u8>, Fault> {
+pub fn outcome_lines(alloc: Global, outcome: &Outcome) -> Result<Vec<u8>, AllocError>
+    ensures { IfOk result (λ lines. lines.items ≡ outcome_lines outcome.now) }
+{
     match outcome {
-        Outcome::Denied => Ok(b"denied\n".to_vec(alloc)?),
-        Outcome::Unreadable => Ok(b"unreadable\n".to_vec(alloc)?),
-        Outcome::Replies(replies) => Ok(reply_lines(alloc, replies.as_slice())?),
+        Outcome::Denied => b"denied\n".to_vec(alloc),
+        Outcome::Unreadable => b"unreadable\n".to_vec(alloc),
+        Outcome::Replies(replies) => reply_lines(alloc, replies.as_slice()),
     }
 }
