@@ -89,14 +89,14 @@ pub fn next_message<R: Read>(alloc: Global, reader: &mut R) -> Result<Option<Vec
     ensures { IfOk result (λ message. GivesNext (R.remaining reader.old) (R.remaining reader.new) (option_map (λ v. v.items) message)) }
 {
     let mut length = [0u8; 2];
-    match fill(reader, &mut length)? {
-        0 => Ok(None),
-        1 => Err(StreamFault::Partial),
-        _ => {
-            let [high, low] = length;
-            let size = 256 * usize::from(high) + usize::from(low);
+    let count = fill(reader, &mut length)?;
+    match &length[..count] {
+        [] => Ok(None),
+        [high, low] => {
+            let size = 256 * usize::from(*high) + usize::from(*low);
             Ok(Some(message_of(alloc, reader, size)?))
         }
+        _ => Err(StreamFault::Partial),
     }
 }
 
