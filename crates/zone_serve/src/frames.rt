@@ -1,6 +1,6 @@
 //! Messages in a stream, each behind its length in two bytes (RFC 1035 section 4.2.2).
 
-ghost use Rattle.std.specs.Prelude.{◌≡◌, IfOk, length};
+ghost use Rattle.std.specs.Prelude.{◌≡◌, ◌<◌, IfOk, length};
 ghost use Rattle.std.specs.Io.KnownBytes.{Consumes, IsAtEnd};
 ghost use Rattle.std.specs.Option.{option_map};
 ghost use Rattle.zone_serve.specs.Frames.{Filled, GivesNext, IsFrame};
@@ -71,17 +71,30 @@ fn message_of<R: Read>(alloc: Global, reader: &mut R, size: usize) -> Result<Vec
     Ok(message)
 }
 
-/// All bytes of an input that is one datagram. They are read to the end, and are at most 65,535 (RFC 768).
+/// The next bytes of a reader: so many, or all that are left.
+fn up_to<R: Read>(alloc: Global, reader: &mut R, most: usize) -> Result<Vec<u8>, StreamFault>
+    ensures bytes { IfOk result (λ bytes. Consumes (R.remaining reader.old) (R.remaining reader.new) bytes.items) }
+    ensures end { IfOk result (λ bytes. length bytes.items < most → IsAtEnd (R.remaining reader.new)) }
+{
+    let mut bytes = vec![in alloc; 0; most]?;
+    let count = fill(reader, &mut bytes)?;
+    bytes.truncate(count);
+    Ok(bytes)
+}
+
+/// One more than the bytes that a datagram has at most (RFC 768).
+const TOO_MANY: usize = 65_536;
+
+/// All bytes of an input that is one datagram. They are read to the end, and are at most 65,535.
 pub fn datagram<R: Read>(alloc: Global, reader: &mut R) -> Result<Vec<u8>, StreamFault>
     ensures { IfOk result (λ bytes. Consumes (R.remaining reader.old) (R.remaining reader.new) bytes.items × IsAtEnd (R.remaining reader.new)) }
 {
-    let mut bytes = vec![in alloc; 0; 65_536]?;
-    let count = fill(reader, &mut bytes)?;
-    if count == bytes.len() {
-        return Err(StreamFault::TooLong);
+    let bytes = up_to(alloc, reader, TOO_MANY)?;
+    if bytes.len() < TOO_MANY {
+        Ok(bytes)
+    } else {
+        Err(StreamFault::TooLong)
     }
-    bytes.truncate(count);
-    Ok(bytes)
 }
 
 /// The next message of a stream, or `None` at its end. No byte behind the message is read.
@@ -89,14 +102,14 @@ pub fn next_message<R: Read>(alloc: Global, reader: &mut R) -> Result<Option<Vec
     ensures { IfOk result (λ message. GivesNext (R.remaining reader.old) (R.remaining reader.new) (option_map (λ v. v.items) message)) }
 {
     let mut length = [0u8; 2];
-    match fill(reader, &mut length)? {
-        0 => Ok(None),
-        1 => Err(StreamFault::Partial),
-        _ => {
-            let [high, low] = length;
-            let size = 256 * usize::from(high) + usize::from(low);
+    let count = fill(reader, &mut length)?;
+    match &length[..count] {
+        [] => Ok(None),
+        [high, low] => {
+            let size = 256 * usize::from(*high) + usize::from(*low);
             Ok(Some(message_of(alloc, reader, size)?))
         }
+        _ => Err(StreamFault::Partial),
     }
 }
 
