@@ -1,4 +1,4 @@
-use Rattle.std.proofs.Common.{◌≡◌, ℕ, ◌+◌, ◌*◌, ◌<◌, List, [], ◌∷◌, ◌++◌, rules, arith, length, take, refl, subst}
+use Rattle.std.proofs.Common.{◌≡◌, [], ◌∷◌, rules, take, refl, subst}
 use Rattle.std.specs.Io.KnownBytes.{Consumes}
 use Rattle.std.proofs.KnownBytes.{Consumes-trans}
 use Rattle.zone_serve.proofs.frames.next_message.Goals as goal
