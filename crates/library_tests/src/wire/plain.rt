@@ -29,10 +29,23 @@ fn put_soa(bytes: &mut Vec<u8>, soa: &SOA) -> Result<(), AllocError> {
     Ok(())
 }
 
+/// A length in one byte.
+fn short_length(len: usize) -> Result<u8, Fail> {
+    u8::try_from(len).map_err(|_| Fail::new("longer than 255 bytes"))
+}
+
+/// A length in two bytes.
+fn length(len: usize) -> Result<[u8; 2], Fail> {
+    match u16::try_from(len) {
+        Ok(len) => Ok(len.to_be_bytes()),
+        Err(_) => Err(Fail::new("longer than 65,535 bytes")),
+    }
+}
+
 /// Each string behind its length.
-fn put_strings(bytes: &mut Vec<u8>, strings: &[Octets]) -> Result<(), AllocError> {
+fn put_strings(bytes: &mut Vec<u8>, strings: &[Octets]) -> Result<(), Fail> {
     for text in strings {
-        bytes.push(text.len() as u8)?;
+        bytes.push(short_length(text.len())?)?;
         bytes.extend_from_slice(text.as_slice())?;
     }
     Ok(())
@@ -63,7 +76,7 @@ fn put_record(alloc: Global, bytes: &mut Vec<u8>, record: &Record) -> Result<(),
     bytes.extend_from_slice(&record.rdata.record_type().value().to_be_bytes())?;
     bytes.extend_from_slice(&record.dns_class.value().to_be_bytes())?;
     bytes.extend_from_slice(&record.ttl.to_be_bytes())?;
-    bytes.extend_from_slice(&(data.len() as u16).to_be_bytes())?;
+    bytes.extend_from_slice(&length(data.len())?)?;
     bytes.extend_from_slice(&data)?;
     Ok(())
 }
@@ -71,7 +84,7 @@ fn put_record(alloc: Global, bytes: &mut Vec<u8>, record: &Record) -> Result<(),
 /// A response of id 7 with the question and these answers, each name in full.
 fn in_full(alloc: Global, answers: &[Record]) -> Result<Vec<u8>, Fail> {
     let mut bytes = Vec::from_slice(alloc, b"\x00\x07\x80\x00\x00\x01")?;
-    bytes.extend_from_slice(&(answers.len() as u16).to_be_bytes())?;
+    bytes.extend_from_slice(&length(answers.len())?)?;
     bytes.extend_from_slice(b"\x00\x00\x00\x00")?;
     bytes.extend_from_slice(&WWW)?;
     for record in answers {
