@@ -12,7 +12,7 @@ use Rattle.hickory_wire.specs.declared.protocol.Protocol.{Protocol}
 use Rattle.hickory_base.specs.requests.RequestReading.{IsFaultOf}
 use Rattle.hickory_base.specs.Access.{AccessSets, Network}
 use Rattle.hickory_catalog.specs.Server.{Server}
-use Rattle.hickory_server.specs.Serving.{Run, RunFailed}
+use Rattle.hickory_server.specs.Serving.{LeavesUnserved, Step}
 use Rattle.hickory_server.specs.declared.server.serve.Incoming.{Incoming}
 use Rattle.hickory_server.specs.declared.server.serve.Outcome.{Outcome}
 use Rattle.hickory_server.specs.declared.server.serve.Outcome.TheVariants.{Replies}
@@ -37,23 +37,26 @@ pub record IsIncoming (protocol : Protocol) (bytes : List ℕ) (message : Incomi
   pub protocol_is : message.protocol ≡ protocol
   pub now_is : message.now ≡ 0
 
--- what becomes of messages, one after the other, where each address may use the server
-abbrev pub RunsOpen : {H : Type 0} → Server H → List Incoming → List Outcome → List (DomainName × List H) → Type 0
-RunsOpen server messages outcomes zones = (access : AccessSets) × IsOpen access × Run access server server.zones messages outcomes zones
+-- What becomes of the message of these bytes, which comes alone, and the zones after it, where each address may use the server.
+pub record Becomes {H : Type 0} (server : Server H) (protocol : Protocol) (bytes : List ℕ) (outcome : Outcome) (zones : List (DomainName × List H)) : Type 0 where
+  pub message : Incoming
+  pub is_incoming : IsIncoming protocol bytes message
+  pub access : AccessSets
+  pub is_open : IsOpen access
+  pub step : Step access server message outcome zones
 
--- the same, where memory was refused for one of them
-abbrev pub RunsOpenAndFails : {H : Type 0} → Server H → List Incoming → List (DomainName × List H) → Type 0
-RunsOpenAndFails server messages zones = (access : AccessSets) × IsOpen access × (outcomes : List Outcome) × (e : ServeError) × RunFailed access server messages outcomes e zones
+-- Memory was refused for the message of these bytes, and these are the zones after it.
+pub record Fails {H : Type 0} (server : Server H) (protocol : Protocol) (bytes : List ℕ) (zones : List (DomainName × List H)) : Type 0 where
+  pub message : Incoming
+  pub is_incoming : IsIncoming protocol bytes message
+  pub access : AccessSets
+  pub is_open : IsOpen access
+  pub e : ServeError
+  pub left : LeavesUnserved access server message e zones
 
--- what becomes of the message of these bytes, which comes alone
-abbrev pub Becomes : {H : Type 0} → Server H → Protocol → List ℕ → Outcome → List (DomainName × List H) → Type 0
-Becomes server protocol bytes outcome zones = (message : Incoming) × IsIncoming protocol bytes message × RunsOpen server (message ∷ []) (outcome ∷ []) zones
-
--- The zones after a message: as before, or as it left them, with its replies or without memory for them. Only an update changes any.
+-- The zones after a message: as before, or as it left them, with its outcome or without memory for it. Only an update changes any.
 abbrev pub MessageLeft : {H : Type 0} → Server H → Protocol → List ℕ → List (DomainName × List H) → Type 0
-MessageLeft server protocol bytes zones = (zones ≡ server.zones)
-    ⊎ (((outcome : Outcome) × Becomes server protocol bytes outcome zones)
-    ⊎ ((message : Incoming) × IsIncoming protocol bytes message × RunsOpenAndFails server (message ∷ []) zones))
+MessageLeft server protocol bytes zones = (zones ≡ server.zones) ⊎ (((outcome : Outcome) × Becomes server protocol bytes outcome zones) ⊎ Fails server protocol bytes zones)
 
 -- Why there is no reply to a message: it cannot be read, or memory is refused.
 abbrev pub IsRefusedMessage : List ℕ → Refusal → Type 0

@@ -2,8 +2,9 @@
 
 ghost use Rattle.std.specs.Prelude.{◌≡◌, ◌++◌, ◌∷◌, ◌⊎◌, [], ℕ, List, Result, IfOk, IfErr, OnOk, map, string_bytes};
 ghost use Rattle.hickory_catalog.specs.Server.{server_of};
+ghost use Rattle.hickory_server.specs.declared.server.serve.Outcome.{Outcome};
 ghost use Rattle.hickory_server.specs.declared.server.serve.Outcome.TheVariants.{Replies};
-ghost use Rattle.zone_reply.specs.Answers.{Becomes, InputLeft, IsAnswer, IsIncoming, IsRefusedMessage, MessageLeft, RunsOpen, RunsOpenAndFails, answer_line, answer_status, hex_line, hex_lines, line_items};
+ghost use Rattle.zone_reply.specs.Answers.{Becomes, InputLeft, IsAnswer, IsIncoming, IsRefusedMessage, MessageLeft, answer_line, answer_status, hex_line, hex_lines, line_items};
 ghost use Rattle.zone_reply.specs.Command.{IsPrinted};
 ghost use Rattle.zone_reply.specs.declared.command.Refusal.{Refusal};
 ghost use Rattle.zone_reply.specs.declared.command.Refusal.TheVariants.{Memory, Unreadable};
@@ -50,23 +51,24 @@ fn hex_lines(alloc: Global, texts: &[Octets]) -> Result<Vec<u8>, AllocError>
     Ok(lines)
 }
 
-/// What becomes of a message, where each address may use the server.
+/// What becomes of the message of these bytes, which comes alone: one outcome. Each address may use the server.
 fn outcome<S: ReplySigner, H: ZoneHandler>(
     alloc: Global,
     catalog: &mut Catalog<S, H>,
-    messages: Vec<Incoming>,
+    protocol: Protocol,
+    bytes: Vec<u8>,
 ) -> Result<Vec<Outcome>, Refusal>
     ensures others { catalog.new ≡ record catalog.old { zones = catalog.new.zones } }
-    ensures ok { IfOk result (λ outcomes. RunsOpen (server_of H.ZoneHandler S.signature_for catalog.old) messages.items outcomes.items catalog.new.zones) }
-    ensures err { IfErr result (λ e. (e ≡ Memory) × RunsOpenAndFails (server_of H.ZoneHandler S.signature_for catalog.old) messages.items catalog.new.zones) }
+    ensures left { MessageLeft (server_of H.ZoneHandler S.signature_for catalog.old) protocol bytes.items catalog.new.zones }
+    ensures ok { IfOk result (λ outcomes. (outcome : Outcome) × (outcomes.items ≡ outcome ∷ []) × Becomes (server_of H.ZoneHandler S.signature_for catalog.old) protocol bytes.items outcome catalog.new.zones) }
+    ensures err { IfErr result (λ e. e ≡ Memory) }
 {
+    let mut messages = Vec::new(alloc);
+    messages.push(incoming(protocol, bytes))?;
     let access = AccessControl::new(alloc);
     match serve_all(alloc, &access, catalog, messages) {
         Ok(outcomes) => Ok(outcomes),
-        Err((outcomes, _e)) => {
-            drop(outcomes);
-            Err(Refusal::Memory)
-        }
+        Err(_) => Err(Refusal::Memory),
     }
 }
 
@@ -93,9 +95,7 @@ fn reply_lines<S: ReplySigner, H: ZoneHandler>(
     ensures ok { IfOk result (λ lines. (encoded : List (List ℕ)) × Becomes (server_of H.ZoneHandler S.signature_for catalog.old) protocol message.items (Replies encoded) catalog.new.zones × (lines.items ≡ hex_lines encoded)) }
     ensures err { IfErr result (λ e. IsRefusedMessage message.items e) }
 {
-    let mut messages = Vec::new(alloc);
-    messages.push(incoming(protocol, message))?;
-    let outcomes = outcome(alloc, catalog, messages)?;
+    let outcomes = outcome(alloc, catalog, protocol, message)?;
     outcome_lines(alloc, &outcomes)
 }
 
