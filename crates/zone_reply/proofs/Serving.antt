@@ -15,7 +15,7 @@ use Rattle.hickory_server.specs.declared.server.serve.Incoming.{Incoming}
 use Rattle.hickory_server.specs.declared.server.serve.Outcome.{Outcome}
 use Rattle.hickory_server.specs.declared.server.serve.Outcome.TheVariants.{Replies}
 use Rattle.hickory_server.specs.declared.server.serve.ServeError.{ServeError}
-use Rattle.zone_reply.specs.Answers.{Becomes, IsOpen, IsRefusedMessage, hex_lines}
+use Rattle.zone_reply.specs.Answers.{Becomes, Fails, IsIncoming, IsOpen, IsRefusedMessage, hex_lines}
 use Rattle.zone_reply.specs.declared.command.Refusal.{Refusal}
 use Rattle.zone_reply.specs.declared.command.Refusal.TheVariants.{Memory, Unreadable}
 
@@ -40,7 +40,7 @@ module _ {H : Type 0} (access : AccessSets) (server : Server H) where
   one_step message _ zones (next {outcome = outcome} step none) = (outcome, refl, step)
 
   -- Where memory is refused in a run over one message, it is refused for that message, and no other was served before.
-  pub one_failure : (message : Incoming) (outcomes : List Outcome) (e : ServeError) (zones : List (DomainName × List H)) → RunFailed access server (message ∷ []) outcomes e zones
+  one_failure : (message : Incoming) (outcomes : List Outcome) (e : ServeError) (zones : List (DomainName × List H)) → RunFailed access server (message ∷ []) outcomes e zones
       → LeavesUnserved access server message e zones
   one_failure message outcomes e zones failed = by_front failed.front failed.message failed.behind failed.between outcomes failed.messages_are failed.run failed.left where
     by_front : (front : List Incoming) (m : Incoming) (behind : List Incoming) (between : List (DomainName × List H)) (os : List Outcome) → message ∷ [] ≡ front ++ m ∷ behind
@@ -55,6 +55,17 @@ module _ {H : Type 0} (access : AccessSets) (server : Server H) where
     by_front (first ∷ second ∷ rest) m behind _ _ is run left =
         let items : message ∷ [] ≡ first ∷ second ∷ (rest ++ m ∷ behind) = is in
         absurd cc
+
+  pub fails : (protocol : Protocol) (bytes : List ℕ) (message : Incoming) → IsIncoming protocol bytes message → IsOpen access → (outcomes : List Outcome) (e : ServeError) (zones : List (DomainName × List H))
+      → RunFailed access server (message ∷ []) outcomes e zones → Fails server protocol bytes zones
+  fails protocol bytes message is_incoming is_open outcomes e zones failed = record {
+    message = message;
+    is_incoming = is_incoming;
+    access = access;
+    is_open = is_open;
+    e = e;
+    left = one_failure message outcomes e zones failed;
+  }
 
 module _ {H : Type 0} (server : Server H) (protocol : Protocol) (bytes : List ℕ) (outcome : Outcome) (zones : List (DomainName × List H)) (becomes : Becomes server protocol bytes outcome zones) where
   -- A message that has no replies is unreadable: its bytes have a first fault.
