@@ -1,33 +1,33 @@
 //! From arguments and an input to a line of output and a status.
 
-ghost use Rattle.std.specs.Prelude.{◌≡◌, ◌++◌, ℕ, List, Result, IfOk, IfErr, OnOk, map, string_bytes};
+ghost use Rattle.std.specs.Prelude.{◌≡◌, ◌++◌, ◌∷◌, ◌⊎◌, [], ℕ, List, Result, IfOk, IfErr, OnOk, map, string_bytes};
 ghost use Rattle.hickory_catalog.specs.Server.{server_of};
-ghost use Rattle.zone_reply.specs.Answers.{AreRepliesTo, AreRepliesToRequest, IsAnswer, InputLeft, IsRequestOf, IsRefusedMessage, MessageLeft, RequestLeft, answer_line, answer_status, hex_line, hex_lines, line_items};
+ghost use Rattle.hickory_server.specs.declared.server.serve.Outcome.{Outcome};
+ghost use Rattle.hickory_server.specs.declared.server.serve.Outcome.TheVariants.{Replies};
+ghost use Rattle.zone_reply.specs.Answers.{Becomes, InputLeft, IsAnswer, IsIncoming, IsRefusedMessage, MessageLeft, answer_line, answer_status, hex_line, hex_lines, line_items};
 ghost use Rattle.zone_reply.specs.Command.{IsPrinted};
 ghost use Rattle.zone_reply.specs.declared.command.Refusal.{Refusal};
-ghost use Rattle.zone_reply.specs.declared.command.Refusal.TheVariants.{Memory};
+ghost use Rattle.zone_reply.specs.declared.command.Refusal.TheVariants.{Memory, Unreadable};
 
 use crate::command::{Refusal, print, transport};
 use crate::input::message;
-use hickory_server::proto::{Items, Octets, ProtoError, Protocol};
-use hickory_server::server::serve::EncodingSink;
-use hickory_server::server::{Request, RequestHandler};
-use hickory_server::zone_handler::laws::replies_taken;
+use hickory_server::access::AccessControl;
+use hickory_server::proto::{Octets, Protocol};
+use hickory_server::server::serve::{Incoming, Outcome, serve_all};
 use hickory_server::zone_handler::{Catalog, ReplySigner, ZoneHandler};
 use std::alloc::{AllocError, Global};
 use std::io::{Read, Write};
 use std::net::{IpAddr, Ipv4Addr, SocketAddr};
 
-/// The request that these bytes begin with, which came from 127.0.0.1, port 53.
-fn request(alloc: Global, protocol: Protocol, bytes: Vec<u8>) -> Result<Request, Refusal>
-    ensures ok { IfOk result (λ request. IsRequestOf bytes.items protocol request) }
-    ensures err { IfErr result (λ e. IsRefusedMessage bytes.items e) }
+/// The message of these bytes as it came: from 127.0.0.1, port 53, over this transport, at the moment 0.
+fn incoming(protocol: Protocol, bytes: Vec<u8>) -> Incoming
+    ensures { IsIncoming protocol bytes.items result }
 {
-    let source = SocketAddr::new(IpAddr::V4(Ipv4Addr::LOCALHOST), 53);
-    match Request::from_bytes(alloc, bytes, source, protocol) {
-        Ok(request) => Ok(request),
-        Err(ProtoError::Memory) => Err(Refusal::Memory),
-        Err(_) => Err(Refusal::Unreadable),
+    Incoming {
+        bytes,
+        src: SocketAddr::new(IpAddr::V4(Ipv4Addr::LOCALHOST), 53),
+        protocol,
+        now: 0,
     }
 }
 
@@ -51,42 +51,36 @@ fn hex_lines(alloc: Global, texts: &[Octets]) -> Result<Vec<u8>, AllocError>
     Ok(lines)
 }
 
-/// The bytes of the replies to a request that came over this transport.
-fn replies<S: ReplySigner, H: ZoneHandler>(
+/// What becomes of the message of these bytes, which comes alone: one outcome. Each address may use the server.
+fn outcome<S: ReplySigner, H: ZoneHandler>(
     alloc: Global,
     catalog: &mut Catalog<S, H>,
     protocol: Protocol,
-    request: &Request,
-) -> Result<Items<Octets>, Refusal>
+    bytes: Vec<u8>,
+) -> Result<Vec<Outcome>, Refusal>
     ensures others { catalog.new ≡ record catalog.old { zones = catalog.new.zones } }
-    ensures left { RequestLeft (server_of H.ZoneHandler S.signature_for catalog.old) request.now catalog.new.zones }
-    ensures ok { IfOk result (λ encoded. AreRepliesToRequest (server_of H.ZoneHandler S.signature_for catalog.old) protocol request.now encoded catalog.new.zones) }
+    ensures left { MessageLeft (server_of H.ZoneHandler S.signature_for catalog.old) protocol bytes.items catalog.new.zones }
+    ensures ok { IfOk result (λ outcomes. (outcome : Outcome) × (outcomes.items ≡ outcome ∷ []) × Becomes (server_of H.ZoneHandler S.signature_for catalog.old) protocol bytes.items outcome catalog.new.zones) }
     ensures err { IfErr result (λ e. e ≡ Memory) }
 {
-    let mut sink = EncodingSink::new(alloc, protocol);
-    catalog.handle_request(alloc, request, 0, &mut sink)?;
-    // The sink fails only where it is refused the memory for a reply.
-    if sink.failures() > 0 {
-        return Err(Refusal::Memory);
+    let mut messages = Vec::new(alloc);
+    messages.push(incoming(protocol, bytes))?;
+    let access = AccessControl::new(alloc);
+    match serve_all(alloc, &access, catalog, messages) {
+        Ok(outcomes) => Ok(outcomes),
+        Err(_) => Err(Refusal::Memory),
     }
-    replies_taken::<EncodingSink>();
-    Ok(sink.into_replies())
 }
 
-/// The lines for the replies to a request that came over this transport.
-fn request_lines<S: ReplySigner, H: ZoneHandler>(
-    alloc: Global,
-    catalog: &mut Catalog<S, H>,
-    protocol: Protocol,
-    request: &Request,
-) -> Result<Vec<u8>, Refusal>
-    ensures others { catalog.new ≡ record catalog.old { zones = catalog.new.zones } }
-    ensures left { RequestLeft (server_of H.ZoneHandler S.signature_for catalog.old) request.now catalog.new.zones }
-    ensures ok { IfOk result (λ lines. (encoded : List (List ℕ)) × AreRepliesToRequest (server_of H.ZoneHandler S.signature_for catalog.old) protocol request.now encoded catalog.new.zones × (lines.items ≡ hex_lines encoded)) }
-    ensures err { IfErr result (λ e. e ≡ Memory) }
+/// The lines for what became of a message: it has replies, or it is no message.
+fn outcome_lines(alloc: Global, outcomes: &[Outcome]) -> Result<Vec<u8>, Refusal>
+    ensures ok { IfOk result (λ lines. (encoded : List (List ℕ)) × (outcomes.now ≡ Replies encoded ∷ []) × (lines.items ≡ hex_lines encoded)) }
+    ensures err { IfErr result (λ e. (e ≡ Memory) ⊎ ((e ≡ Unreadable) × ((encoded : List (List ℕ)) → ¬ (outcomes.now ≡ Replies encoded ∷ [])))) }
 {
-    let replies = replies(alloc, catalog, protocol, request)?;
-    Ok(hex_lines(alloc, replies.as_slice())?)
+    match outcomes {
+        [Outcome::Replies(replies)] => Ok(hex_lines(alloc, replies.as_slice())?),
+        _ => Err(Refusal::Unreadable),
+    }
 }
 
 /// The lines for the replies to a message that came over this transport.
@@ -98,11 +92,11 @@ fn reply_lines<S: ReplySigner, H: ZoneHandler>(
 ) -> Result<Vec<u8>, Refusal>
     ensures others { catalog.new ≡ record catalog.old { zones = catalog.new.zones } }
     ensures left { MessageLeft (server_of H.ZoneHandler S.signature_for catalog.old) protocol message.items catalog.new.zones }
-    ensures ok { IfOk result (λ lines. (encoded : List (List ℕ)) × AreRepliesTo (server_of H.ZoneHandler S.signature_for catalog.old) protocol message.items encoded catalog.new.zones × (lines.items ≡ hex_lines encoded)) }
+    ensures ok { IfOk result (λ lines. (encoded : List (List ℕ)) × Becomes (server_of H.ZoneHandler S.signature_for catalog.old) protocol message.items (Replies encoded) catalog.new.zones × (lines.items ≡ hex_lines encoded)) }
     ensures err { IfErr result (λ e. IsRefusedMessage message.items e) }
 {
-    let request = request(alloc, protocol, message)?;
-    request_lines(alloc, catalog, protocol, &request)
+    let outcomes = outcome(alloc, catalog, protocol, message)?;
+    outcome_lines(alloc, &outcomes)
 }
 
 /// The lines for arguments and an input.
