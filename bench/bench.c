@@ -4,6 +4,8 @@
 //                               file for each measurement; what is printed is of how many rounds it is
 //   bench times [WORD]          nanoseconds of processor time for one round
 //   bench allocations [WORD]    how often one round asks for memory; only in a build with COUNT_ALLOCATIONS
+//   bench memory [WORD]         in such a build: the most bytes that are held while the input is made ready, in the place of what a round came
+//                               to, and with one round
 //
 // WORD stands in the names of the cases that are run. A line of the output: case, size, side, what one round came to,
 // and the figures of the mode.
@@ -12,6 +14,7 @@
 
 #include <dirent.h>
 #include <inttypes.h>
+#include <malloc.h>
 #include <stdio.h>
 #include <stdlib.h>
 #include <string.h>
@@ -87,7 +90,8 @@ static int has_call(const struct side *side, const struct job *job)
     case ANSWER_REQUEST:
         return side->answer_request != NULL;
     case ANSWER_TRANSFER:
-        return side->answer_transfer != NULL;
+        // The peer looks through all records for each that it takes, and needs minutes for the largest zone.
+        return side->answer_transfer != NULL && (job->size < 100000 || strcmp(side->name, "ours") == 0);
     case UPDATE:
         return side->update != NULL;
     case FIND_ZONE:
@@ -240,35 +244,48 @@ static void measure_times(const struct job *job)
 }
 
 #ifdef COUNT_ALLOCATIONS
-static uint64_t allocations;
+// Calls that asked for memory; bytes that are held now, and the most that were.
+static uint64_t allocations, held, most_held;
 
 // The allocator of all sides, which counts each call that asks for memory.
 extern void *__libc_malloc(size_t), *__libc_calloc(size_t, size_t), *__libc_realloc(void *, size_t);
 extern void *__libc_memalign(size_t, size_t);
+extern void __libc_free(void *);
 
-void *malloc(size_t size)
+static void *counted(void *at)
 {
     allocations++;
-    return __libc_malloc(size);
+    if (at != NULL)
+        held += malloc_usable_size(at);
+    if (held > most_held)
+        most_held = held;
+    return at;
 }
 
-void *calloc(size_t count, size_t size)
-{
-    allocations++;
-    return __libc_calloc(count, size);
-}
+void *malloc(size_t size) { return counted(__libc_malloc(size)); }
+
+void *calloc(size_t count, size_t size) { return counted(__libc_calloc(count, size)); }
 
 void *realloc(void *at, size_t size)
 {
-    allocations++;
-    return __libc_realloc(at, size);
+    size_t was = at == NULL ? 0 : malloc_usable_size(at);
+    void *now = __libc_realloc(at, size);
+    if (now != NULL)
+        held -= was;
+    return counted(now);
 }
 
 int posix_memalign(void **at, size_t alignment, size_t size)
 {
-    allocations++;
-    *at = __libc_memalign(alignment, size);
+    *at = counted(__libc_memalign(alignment, size));
     return *at == NULL;
+}
+
+void free(void *at)
+{
+    if (at != NULL)
+        held -= malloc_usable_size(at);
+    __libc_free(at);
 }
 
 static uint64_t allocations_in(const struct side *side, const struct job *job, uint64_t rounds)
@@ -285,7 +302,30 @@ static void count_allocations(const struct side *side, const struct job *job)
     print_front(side, job, answer_of_round(side, job));
     printf("%.1f\n", (double)(all - one) / (double)rounds);
 }
+
+// How many bytes are held at most, beyond what was held before, while the input is made ready and so many rounds run.
+static uint64_t most_held_in(const struct side *side, const struct job *job, uint64_t rounds)
+{
+    uint64_t before = most_held = held;
+    run(side, job, rounds);
+    return most_held - before;
+}
+
+static void count_memory(const struct side *side, const struct job *job)
+{
+    uint64_t ready = most_held_in(side, job, 0), one = most_held_in(side, job, 1);
+    print_front(side, job, ready);
+    printf("%" PRIu64 "\n", one);
+}
 #else
+static void count_memory(const struct side *side, const struct job *job)
+{
+    (void)side;
+    (void)job;
+    fprintf(stderr, "bench: built without COUNT_ALLOCATIONS\n");
+    exit(2);
+}
+
 static void count_allocations(const struct side *side, const struct job *job)
 {
     (void)side;
@@ -314,6 +354,8 @@ static void measure(const char *name, uint32_t size, enum call call, struct byte
                 count_instructions(&sides[s], &job);
             else if (strcmp(mode, "allocations") == 0)
                 count_allocations(&sides[s], &job);
+            else if (strcmp(mode, "memory") == 0)
+                count_memory(&sides[s], &job);
         }
         fflush(stdout);
     }
@@ -455,7 +497,7 @@ int main(int argc, char **argv)
 {
     char folder[256];
     if (argc < 2 || argc > 3) {
-        fprintf(stderr, "usage: bench instructions|times|allocations [WORD]\n");
+        fprintf(stderr, "usage: bench instructions|times|allocations|memory [WORD]\n");
         return 2;
     }
     mode = argv[1];
