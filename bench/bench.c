@@ -4,13 +4,17 @@
 //                               file for each measurement; what is printed is of how many rounds it is
 //   bench times [WORD]          nanoseconds of processor time for one round
 //   bench allocations [WORD]    how often one round asks for memory; only in a build with COUNT_ALLOCATIONS
+//   bench memory [WORD]         in such a build: the most bytes that are held while the input is made ready, in the place of what a round came
+//                               to, and with one round
 //
 // WORD stands in the names of the cases that are run. A line of the output: case, size, side, what one round came to,
 // and the figures of the mode.
 #include "bench.h"
 #include "inputs.h"
 
+#include <dirent.h>
 #include <inttypes.h>
+#include <malloc.h>
 #include <stdio.h>
 #include <stdlib.h>
 #include <string.h>
@@ -64,10 +68,17 @@ struct job {
     struct bytes second;
     // The limit or the address.
     uint32_t number;
+    // A bit for each side that does not take the input, where a side may refuse it.
+    unsigned refused_by;
 };
+
+// Whether a side may refuse the input of a case, and is then left out there.
+static int may_refuse;
 
 static int has_call(const struct side *side, const struct job *job)
 {
+    if (job->refused_by & 1u << (side - sides))
+        return 0;
     switch (job->call) {
     case READ_REQUEST:
         return side->read_request != NULL;
@@ -79,7 +90,8 @@ static int has_call(const struct side *side, const struct job *job)
     case ANSWER_REQUEST:
         return side->answer_request != NULL;
     case ANSWER_TRANSFER:
-        return side->answer_transfer != NULL;
+        // The peer looks through all records for each that it takes, and needs minutes for the largest zone.
+        return side->answer_transfer != NULL && (job->size < 100000 || strcmp(side->name, "ours") == 0);
     case UPDATE:
         return side->update != NULL;
     case FIND_ZONE:
@@ -94,7 +106,7 @@ static int has_call(const struct side *side, const struct job *job)
     return 0;
 }
 
-static uint64_t run(const struct side *side, const struct job *job, uint64_t rounds)
+static uint64_t run_or_refuse(const struct side *side, const struct job *job, uint64_t rounds)
 {
     const struct bytes *in = &job->input, *second = &job->second;
     uint64_t answer = WRONG;
@@ -130,6 +142,12 @@ static uint64_t run(const struct side *side, const struct job *job, uint64_t rou
         answer = side->is_blocked(in->at, in->len, second->at, second->len, rounds);
         break;
     }
+    return answer;
+}
+
+static uint64_t run(const struct side *side, const struct job *job, uint64_t rounds)
+{
+    uint64_t answer = run_or_refuse(side, job, rounds);
     if (answer == WRONG) {
         fprintf(stderr, "bench: %s cannot do %s at %u\n", side->name, job->name, job->size);
         exit(1);
@@ -148,8 +166,11 @@ static uint64_t answer_of_round(const struct side *side, const struct job *job)
     return run(side, job, 2) - run(side, job, 1);
 }
 
-// How many rounds are counted.
-static uint64_t rounds_to_count(const struct job *job) { return job->size < 100 ? 100 : job->size < 1000 ? 20 : 5; }
+// How many rounds are counted. What may be refused may take a side long.
+static uint64_t rounds_to_count(const struct job *job)
+{
+    return may_refuse ? 1 : job->size < 100 ? 100 : job->size < 1000 ? 20 : 5;
+}
 
 static void count_instructions(const struct side *side, const struct job *job)
 {
@@ -223,35 +244,48 @@ static void measure_times(const struct job *job)
 }
 
 #ifdef COUNT_ALLOCATIONS
-static uint64_t allocations;
+// Calls that asked for memory; bytes that are held now, and the most that were.
+static uint64_t allocations, held, most_held;
 
 // The allocator of all sides, which counts each call that asks for memory.
 extern void *__libc_malloc(size_t), *__libc_calloc(size_t, size_t), *__libc_realloc(void *, size_t);
 extern void *__libc_memalign(size_t, size_t);
+extern void __libc_free(void *);
 
-void *malloc(size_t size)
+static void *counted(void *at)
 {
     allocations++;
-    return __libc_malloc(size);
+    if (at != NULL)
+        held += malloc_usable_size(at);
+    if (held > most_held)
+        most_held = held;
+    return at;
 }
 
-void *calloc(size_t count, size_t size)
-{
-    allocations++;
-    return __libc_calloc(count, size);
-}
+void *malloc(size_t size) { return counted(__libc_malloc(size)); }
+
+void *calloc(size_t count, size_t size) { return counted(__libc_calloc(count, size)); }
 
 void *realloc(void *at, size_t size)
 {
-    allocations++;
-    return __libc_realloc(at, size);
+    size_t was = at == NULL ? 0 : malloc_usable_size(at);
+    void *now = __libc_realloc(at, size);
+    if (now != NULL)
+        held -= was;
+    return counted(now);
 }
 
 int posix_memalign(void **at, size_t alignment, size_t size)
 {
-    allocations++;
-    *at = __libc_memalign(alignment, size);
+    *at = counted(__libc_memalign(alignment, size));
     return *at == NULL;
+}
+
+void free(void *at)
+{
+    if (at != NULL)
+        held -= malloc_usable_size(at);
+    __libc_free(at);
 }
 
 static uint64_t allocations_in(const struct side *side, const struct job *job, uint64_t rounds)
@@ -268,7 +302,30 @@ static void count_allocations(const struct side *side, const struct job *job)
     print_front(side, job, answer_of_round(side, job));
     printf("%.1f\n", (double)(all - one) / (double)rounds);
 }
+
+// How many bytes are held at most, beyond what was held before, while the input is made ready and so many rounds run.
+static uint64_t most_held_in(const struct side *side, const struct job *job, uint64_t rounds)
+{
+    uint64_t before = most_held = held;
+    run(side, job, rounds);
+    return most_held - before;
+}
+
+static void count_memory(const struct side *side, const struct job *job)
+{
+    uint64_t ready = most_held_in(side, job, 0), one = most_held_in(side, job, 1);
+    print_front(side, job, ready);
+    printf("%" PRIu64 "\n", one);
+}
 #else
+static void count_memory(const struct side *side, const struct job *job)
+{
+    (void)side;
+    (void)job;
+    fprintf(stderr, "bench: built without COUNT_ALLOCATIONS\n");
+    exit(2);
+}
+
 static void count_allocations(const struct side *side, const struct job *job)
 {
     (void)side;
@@ -285,6 +342,9 @@ static void measure(const char *name, uint32_t size, enum call call, struct byte
     struct job job = {.size = size, .call = call, .input = input, .second = second, .number = number};
     snprintf(job.name, sizeof job.name, "%s", name);
     if (strstr(name, word) != NULL) {
+        for (size_t s = 0; may_refuse && s < SIDES; s++)
+            if (has_call(&sides[s], &job) && run_or_refuse(&sides[s], &job, 1) == WRONG)
+                job.refused_by |= 1u << s;
         if (strcmp(mode, "times") == 0)
             measure_times(&job);
         for (size_t s = 0; s < SIDES; s++) {
@@ -294,6 +354,8 @@ static void measure(const char *name, uint32_t size, enum call call, struct byte
                 count_instructions(&sides[s], &job);
             else if (strcmp(mode, "allocations") == 0)
                 count_allocations(&sides[s], &job);
+            else if (strcmp(mode, "memory") == 0)
+                count_memory(&sides[s], &job);
         }
         fflush(stdout);
     }
@@ -358,6 +420,11 @@ static void measure_maps(void)
 {
     EACH(i, entries) {
         char name[64];
+        snprintf(name, sizeof name, "z%u.example.", entries[i] / 2);
+        measure("zone lookup, at the apex", entries[i], FIND_ZONE, zone_names(entries[i]), one_name(name), 0);
+    }
+    EACH(i, entries) {
+        char name[64];
         snprintf(name, sizeof name, "www.z%u.example.", entries[i] / 2);
         measure("zone lookup, one label below", entries[i], FIND_ZONE, zone_names(entries[i]), one_name(name), 0);
     }
@@ -366,6 +433,8 @@ static void measure_maps(void)
         snprintf(name, sizeof name, "a.b.c.d.e.f.g.h.z%u.example.", entries[i] / 2);
         measure("zone lookup, eight labels below", entries[i], FIND_ZONE, zone_names(entries[i]), one_name(name), 0);
     }
+    EACH(i, entries)
+        measure("zone lookup, no zone", entries[i], FIND_ZONE, zone_names(entries[i]), one_name("www.other.test."), 0);
     EACH(i, entries)
         measure("access by networks", entries[i], ALLOW, networks(entries[i]), none, (10u << 24) + (entries[i] / 2 << 8) + 1);
 }
@@ -391,10 +460,44 @@ static void measure_blocklist(void)
     }
 }
 
+static struct bytes bytes_of_file(const char *path)
+{
+    struct bytes made = {.room = UINT16_MAX};
+    FILE *file = fopen(path, "rb");
+    made.at = malloc(made.room);
+    if (file == NULL || made.at == NULL) {
+        perror(path);
+        exit(1);
+    }
+    made.len = fread(made.at, 1, made.room, file);
+    fclose(file);
+    return made;
+}
+
+static int is_shown(const struct dirent *entry) { return entry->d_name[0] != '.'; }
+
+// The messages that hostile.py wrote. A side that does not take one is left out there.
+static void measure_hostile(const char *folder)
+{
+    may_refuse = 1;
+    struct dirent **found;
+    int count = scandir(folder, &found, is_shown, alphasort);
+    for (int i = 0; i < count; i++) {
+        char path[512], name[64];
+        snprintf(path, sizeof path, "%s/%s", folder, found[i]->d_name);
+        snprintf(name, sizeof name, "long, %.50s", found[i]->d_name);
+        measure(name, UINT16_MAX, READ_MESSAGE, bytes_of_file(path), none, 0);
+        free(found[i]);
+    }
+    if (count >= 0)
+        free(found);
+}
+
 int main(int argc, char **argv)
 {
+    char folder[256];
     if (argc < 2 || argc > 3) {
-        fprintf(stderr, "usage: bench instructions|times|allocations [WORD]\n");
+        fprintf(stderr, "usage: bench instructions|times|allocations|memory [WORD]\n");
         return 2;
     }
     mode = argv[1];
@@ -404,5 +507,8 @@ int main(int argc, char **argv)
     measure_zones();
     measure_maps();
     measure_blocklist();
+    // They lie beside this program.
+    snprintf(folder, sizeof folder, "%.*shostile", (int)(strrchr(argv[0], '/') == NULL ? 0 : strrchr(argv[0], '/') - argv[0] + 1), argv[0]);
+    measure_hostile(folder);
     return 0;
 }

@@ -1,5 +1,6 @@
 """The case files of this folder: which there are, and what each asks of which program. `run` says what they hold."""
 import os
+import re
 import shutil
 import subprocess
 import tempfile
@@ -8,11 +9,14 @@ FOLDER = os.path.dirname(os.path.realpath(__file__))
 REPOSITORY = os.path.dirname(FOLDER)
 
 # The folders of cases below this one, and the program that each is for.
-PROGRAMS = {"": "zone_script", "zone_reply": "zone_reply"}
+PROGRAMS = {"": "zone_script", "zone_reply": "zone_reply", "zone_serve": "zone_serve"}
 
-# What a program reads and where it prints are needed of each case, in one of two forms.
-NEEDED = [("in", "stdin"), ("out", "stdout")]
-ENDINGS = {"in", "stdin", "out", "stdout", "args", "status"}
+# The folders of files that programs may be told to read, by the names that their arguments use.
+DATA = {"zone_serve": ["zone_files", "zone_serve/files"]}
+
+# What a program reads and where it prints are needed of each case, in one of these forms.
+NEEDED = [("in", "hex", "stdin"), ("out", "outhex", "stdout")]
+ENDINGS = {"in", "hex", "stdin", "out", "outhex", "stdout", "err", "args", "env", "status"}
 
 # Streams that fail, by the word that NAME.stdin or NAME.stdout has.
 FAILING_INPUTS = {"directory": "/"}
@@ -36,26 +40,48 @@ class Case:
         with open(self.files[ending], "rb") as it:
             return it.read()
 
+    def read_hex(self, ending):
+        """The bytes that the hex digits of the file with this ending stand for, comments aside, or None where there is no such file."""
+        text = self.read(ending)
+        return None if text is None else bytes.fromhex(re.sub("#.*", "", text.decode()))
+
     def word(self, ending):
         text = self.read(ending)
         return None if text is None else text.decode().strip()
 
     def faults(self):
         """What keeps it from being a case."""
-        missing = ["." + "/.".join(pair) for pair in NEEDED if not any(it in self.files for it in pair)]
-        double = ["." + "/.".join(pair) for pair in NEEDED if all(it in self.files for it in pair)]
+        counts = [("." + "/.".join(forms), sum(it in self.files for it in forms)) for forms in NEEDED]
+        missing = [forms for forms, count in counts if count == 0]
+        double = [forms for forms, count in counts if count > 1]
         words = [("stdin", FAILING_INPUTS), ("stdout", FAILING_OUTPUTS)]
         unknown = [f".{ending}" for ending, known in words if ending in self.files and self.word(ending) not in known]
-        return [f"has no {it}" for it in missing] + [f"has both of {it}" for it in double] + [f"has no known word in {it}" for it in unknown]
+        return [f"has no {it}" for it in missing] + [f"has more than one of {it}" for it in double] + [f"has no known word in {it}" for it in unknown]
 
     @property
     def path(self):
         """The file that stands for the case: what is read where there is such a file."""
-        return os.path.relpath(self.files.get("in") or next(iter(self.files.values())), REPOSITORY)
+        return os.path.relpath(self.files.get("in") or self.files.get("hex") or next(iter(self.files.values())), REPOSITORY)
 
     @property
     def arguments(self):
         return (self.read("args") or b"").split(b"\n")[:-1]
+
+    @property
+    def environment(self):
+        """The environment that the program is run in."""
+        lines = (self.read("env") or b"").decode().splitlines()
+        return dict(it.split("=", 1) for it in lines)
+
+    @property
+    def wanted(self):
+        """What the program must print."""
+        return self.read("out") or self.read_hex("outhex") or b""
+
+    @property
+    def is_text(self):
+        """Whether what it must print is lines."""
+        return "outhex" not in self.files
 
     @property
     def status(self):
@@ -64,7 +90,17 @@ class Case:
     def open_input(self):
         if "stdin" in self.files:
             return os.open(FAILING_INPUTS[self.word("stdin")], os.O_RDONLY)
+        if "hex" in self.files:
+            return self.open_bytes(self.read_hex("hex"))
         return os.open(self.files["in"], os.O_RDONLY)
+
+    @staticmethod
+    def open_bytes(given):
+        """A file that holds these bytes, to be read from its front."""
+        file = os.memfd_create("given")
+        os.write(file, given)
+        os.lseek(file, 0, os.SEEK_SET)
+        return file
 
     def open_output(self, path):
         """The file that the program prints into: this one, or one that fails."""
@@ -102,29 +138,31 @@ def programs(name):
 
 
 class Room:
-    """A folder of its own, in which programs run."""
+    """A folder of its own, in which programs run, with what they are told to read."""
 
     def __enter__(self):
         self.folder = tempfile.mkdtemp()
+        for source in (it for sources in DATA.values() for it in sources):
+            shutil.copytree(os.path.join(FOLDER, source), self.folder, dirs_exist_ok=True)
         return self
 
     def __exit__(self, *_):
         shutil.rmtree(self.folder)
 
     def run(self, program, case, environment):
-        """What the program prints for a case, and its status; a signal that ends it is a negative number."""
+        """What the program prints for a case, what it tells on the standard error, and its status; a signal that ends it is a negative number."""
         printed = f"{self.folder}/printed"
         given, taken = case.open_input(), case.open_output(printed)
         try:
             ended = subprocess.run(
                 [program, *case.arguments],
-                stdin=given, stdout=taken, stderr=subprocess.DEVNULL,
-                cwd=self.folder, env=environment, timeout=SECONDS,
+                stdin=given, stdout=taken, stderr=subprocess.PIPE,
+                cwd=self.folder, env={**environment, **case.environment}, timeout=SECONDS,
             )
         finally:
             os.close(given)
             os.close(taken)
         if "stdout" in case.files:
-            return b"", ended.returncode
+            return b"", ended.stderr, ended.returncode
         with open(printed, "rb") as it:
-            return it.read(), ended.returncode
+            return it.read(), ended.stderr, ended.returncode

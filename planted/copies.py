@@ -37,13 +37,16 @@ def output_in(folder, words):
 
 
 class Copy:
-    """A copy of a crate in a folder of its own. Its checks keep there what they proved, which makes the later ones short. What they say goes to files of
-    `output` too, where that is a folder."""
+    """A copy of a crate in a folder of its own. Its checks keep there what they proved, which makes the later ones short; they begin with what stands in
+    the folder `kept`, where there is one. What they say goes to files of `output` too, where that is a folder."""
 
-    def __init__(self, name, texts, room, words, output, tell):
+    def __init__(self, name, texts, room, words, output, tell, kept=None):
         self.name, self.texts, self.room, self.words, self.output, self.tell = name, texts, room, words, output, tell
         self.checks = 0
-        os.makedirs(f"{room}/kept")
+        if kept and os.path.isdir(kept):
+            shutil.copytree(kept, f"{room}/kept")
+        else:
+            os.makedirs(f"{room}/kept")
 
     def write(self, batch):
         """Writes the crate's files anew, with the edits of a batch in them."""

@@ -1,11 +1,14 @@
 -- Each reply belongs to its request.
-use Rattle.std.proofs.Common.{◌≡◌, ℕ, Bool, true, false, cond, List, Option, Some, None, Result, Ok, Err, refl, sym, subst, ◌∙◌}
+use Rattle.std.proofs.Common.{◌≡◌, ℕ, Bool, true, false, cond, List, [], ◌∷◌, map, Option, Some, None, Result, Ok, Err, refl, sym, subst, ◌∙◌}
+use Rattle.std.specs.List.{AllByRecursion}
 use Rattle.std.specs.Prelude.{is_some}
 use Rattle.hickory_wire.specs.rr.domain.DomainName.{DomainName}
 use Rattle.hickory_wire.specs.op.EdnsFields.{EdnsFields}
 use Rattle.hickory_wire.specs.serialize.writing.Reply.{Reply}
 use Rattle.hickory_wire.specs.declared.op.header.Metadata.{Metadata}
 use Rattle.hickory_wire.specs.declared.op.query.Query.{Query}
+use Rattle.hickory_wire.specs.declared.rr.rdata.RData.{RData}
+use Rattle.hickory_wire.specs.declared.rr.record.Record.{Record}
 use Rattle.hickory_wire.specs.declared.rr.tsig.TSigResponseContext.{TSigResponseContext}
 use Rattle.hickory_base.specs.requests.Requests.{ReceivedRequest}
 use Rattle.hickory_base.specs.declared.errors.LookupError.{LookupError}
@@ -16,13 +19,13 @@ use Rattle.hickory_base.specs.declared.zone_store.lookup.AuthLookup.{AuthLookup}
 use Rattle.hickory_base.specs.declared.zone_store.lookup.ZoneTransfer.{ZoneTransfer}
 use Rattle.hickory_catalog.specs.Authoritative.{AuthoritativeReply, refuses, denies, finds}
 use Rattle.hickory_catalog.specs.Forwarded.{findings_of, findings_contents, forwarded_contents, forwarded_metadata, is_authentic, validated}
-use Rattle.hickory_catalog.specs.Queries.{HandlerReply, QueryReply, ZoneReply, lookup, no_zone, other_count, transfer, unanswered, untransferred, zone}
+use Rattle.hickory_catalog.specs.Queries.{GivenReplies, HandlerReply, QueryReplies, ZoneReplies, ZoneReply, lookup, no_zone, one, other_count, split, transfer, unanswered, untransferred, whole, zone}
 use Rattle.hickory_catalog.specs.Replies.{Contents, bare_contents, error_reply, unsigned_reply}
 use Rattle.hickory_catalog.specs.ReplyEdns.{reply_edns, with_high_code}
 use Rattle.hickory_catalog.specs.Requests.{BelongsTo}
 use Rattle.hickory_catalog.specs.Server.{Server}
 use Rattle.hickory_catalog.specs.Signing.{SignedReply, Signer, failed, plain, signed}
-use Rattle.hickory_catalog.specs.Transfers.{transfer_contents}
+use Rattle.hickory_catalog.specs.Transfers.{message_of_transfer, transfer_contents}
 use Rattle.hickory_catalog.specs.Updates.{UpdateReply, answered, no_apex, no_handler, unnamed}
 
 -- what a reply says that has the identifier of this request, and no TC
@@ -78,17 +81,34 @@ module _ (request : ReceivedRequest) (query : Query) (contents : Contents) where
   handler_fits handler h Secondary result r = authoritative_fits handler h result r
   handler_fits handler h External result is = forwarded_fits (handler.validates_dnssec h) result is
 
-module _ {H : Type 0} (server : Server H) (request : ReceivedRequest) (edns : Option EdnsFields) (now : ℕ) (reply : Reply) where
-  zone_belongs : (chain : List H) (query : Query) → ZoneReply server chain request edns now query reply → BelongsTo request edns reply
-  zone_belongs chain query (untransferred _ _ is) = error_belongs request edns reply 2 is
-  zone_belongs chain query (transfer _ _ _ s) = signed_belongs request edns server.signer _ reply (transfer_fits _ _) s
-  zone_belongs chain query (unanswered _ _ _ is) = error_belongs request edns reply 2 is
-  zone_belongs chain query (lookup contents _ _ _ _ _ r s) = signed_belongs request edns server.signer contents reply (handler_fits request query contents server.handler _ _ _ r) s
+module _ (request : ReceivedRequest) (edns : Option EdnsFields) (replies : List Reply) where
+  -- one reply that belongs to its request, as a list
+  belongs_alone : (reply : Reply) → replies ≡ reply ∷ [] → BelongsTo request edns reply → AllByRecursion (BelongsTo request edns) replies
+  belongs_alone reply is belongs = subst (AllByRecursion (BelongsTo request edns)) (sym is) (belongs, tt)
 
-  pub query_belongs : QueryReply server request edns now reply → BelongsTo request edns reply
-  query_belongs (other_count _ is) = error_belongs request edns reply 1 is
-  query_belongs (no_zone _ _ is) = error_belongs request edns reply 5 is
-  query_belongs (zone _ _ r) = zone_belongs _ _ r
+  messages_belong : (runs : List (List (Record RData))) → AllByRecursion (BelongsTo request edns) (map (message_of_transfer request.message (with_high_code 0 edns)) runs)
+  messages_belong [] = tt
+  messages_belong (run ∷ runs) = (unsigned_belongs request edns _ (record { id = refl; untruncated = refl }), messages_belong runs)
+
+  given_belong : (signer : Signer) (result : Result ZoneTransfer LookupError) (context : Option TSigResponseContext) → GivenReplies signer request edns result context replies
+      → AllByRecursion (BelongsTo request edns) replies
+  given_belong signer result context (whole {reply = reply} _ _ s is) = belongs_alone reply is (signed_belongs request edns signer _ reply (transfer_fits _ _) s)
+  given_belong signer result context (split _ _ _ are) = subst (AllByRecursion (BelongsTo request edns)) (sym are.replies_are) (messages_belong are.runs)
+
+module _ {H : Type 0} (server : Server H) (request : ReceivedRequest) (edns : Option EdnsFields) (now : ℕ) where
+  zone_belongs : (chain : List H) (query : Query) (reply : Reply) → ZoneReply server chain request edns now query reply → BelongsTo request edns reply
+  zone_belongs chain query reply (untransferred _ _ is) = error_belongs request edns reply 2 is
+  zone_belongs chain query reply (unanswered _ _ _ is) = error_belongs request edns reply 2 is
+  zone_belongs chain query reply (lookup contents _ _ _ _ _ r s) = signed_belongs request edns server.signer contents reply (handler_fits request query contents server.handler _ _ _ r) s
+
+  zone_all_belong : (chain : List H) (query : Query) (replies : List Reply) → ZoneReplies server chain request edns now query replies → AllByRecursion (BelongsTo request edns) replies
+  zone_all_belong chain query replies (one {reply = reply} r is) = belongs_alone request edns replies reply is (zone_belongs chain query reply r)
+  zone_all_belong chain query replies (transfer {result = result} {context = context} _ _ g) = given_belong request edns replies server.signer result context g
+
+  pub query_belongs : (replies : List Reply) → QueryReplies server request edns now replies → AllByRecursion (BelongsTo request edns) replies
+  query_belongs replies (other_count _ is) = belongs_alone request edns replies _ is (error_belongs request edns _ 1 refl)
+  query_belongs replies (no_zone _ _ is) = belongs_alone request edns replies _ is (error_belongs request edns _ 5 refl)
+  query_belongs replies (zone _ _ r) = zone_all_belong _ _ replies r
 
 -- so does the reply to an update
 pub update_belongs : {H : Type 0} (server : Server H) (request : ReceivedRequest) (edns : Option EdnsFields) (now : ℕ) (reply : Reply) (zones : List (DomainName × List H))
@@ -105,3 +125,9 @@ module _ (identifier : Option (List ℕ)) (request : ReceivedRequest) (reply : R
 
   pub refusal_belongs : (code : ℕ) → reply ≡ error_reply request.message (reply_edns identifier request.message.edns) code → BelongsTo request request.message.edns reply
   refusal_belongs code is = to_request (error_belongs request _ reply code is)
+
+-- from the replies' EDNS to that of the request
+pub all_to_request : (identifier : Option (List ℕ)) (request : ReceivedRequest) (replies : List Reply) → AllByRecursion (BelongsTo request (reply_edns identifier request.message.edns)) replies
+    → AllByRecursion (BelongsTo request request.message.edns) replies
+all_to_request identifier request [] all = tt
+all_to_request identifier request (reply ∷ replies) all = (to_request identifier request reply all.0, all_to_request identifier request replies all.1)

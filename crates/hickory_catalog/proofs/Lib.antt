@@ -1,8 +1,12 @@
+pub mod Alone
 pub mod Asking
 pub mod Belonging
+pub mod Between
 pub mod Consulting
+pub mod Deciding
 pub mod DecodedReplies
 pub mod ForwardedReplies
+pub mod LastUpTo
 pub mod Lookups
 pub mod Nearest
 pub mod OneAnswer
@@ -10,6 +14,10 @@ pub mod OneReply
 pub mod Places
 pub mod QueryReplies
 pub mod RepliesFit
+pub mod Runs
+pub mod SentInOrder
 pub mod SentReplies
+pub mod SharedEnds
+pub mod TransferReplies
 pub mod Transferring
 pub mod Updating

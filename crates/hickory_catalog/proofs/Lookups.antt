@@ -1,6 +1,7 @@
 -- What looking a name up among zones says of them.
-use Rattle.std.proofs.Common.{◌≡◌, Bool, true, false, cond, List, [], ◌∷◌, Option, Some, None, option_map, refl, sym, ap, subst, ◌∙◌, arith}
+use Rattle.std.proofs.Common.{◌≡◌, Bor, Bool, true, false, cond, List, [], ◌∷◌, Option, Some, None, option_map, refl, sym, ap, subst, ◌∙◌, arith}
 use Rattle.std.specs.Prelude.{◌↔◌, IsTrue, is_some}
+use Rattle.std.specs.Option.{option_copied}
 use Rattle.std.specs.List.{All, AllByRecursion, Contains}
 use Rattle.std.specs.List.Sorted.{IsStrictlySortedBy}
 use Rattle.std.specs.Map.{keys_of, lookup}
@@ -71,6 +72,15 @@ module _ {X V : Type 0} (f : X → V) where
   -- a look-up in a list that is seen as `old`
   pub lookup_seen : (name : DomainName) (zones : List (DomainName × X)) (old : List (DomainName × V)) (o : Option X) → shown f zones ≡ old → o ≡ lookup (is_at (name_cmp name)) zones → lookup (is_at (name_cmp name)) old ≡ option_map f o
   lookup_seen name zones old o view_is e = ap (lookup (is_at (name_cmp name))) (sym view_is) ∙ lookup-map_values f (is_at (name_cmp name)) zones ∙ ap (option_map f) (sym e)
+
+  lent : (o : Option (Bor X)) → option_map f (option_copied o) ≡ option_map (λ x. f x.now) o
+  lent None = refl
+  lent (Some x) = refl
+
+  -- the same of what a look-up lends
+  pub lookup_lent : (name : DomainName) (zones : List (DomainName × X)) (old : List (DomainName × V)) (o : Option (Bor X)) → shown f zones ≡ old → option_copied o ≡ lookup (is_at (name_cmp name)) zones
+      → lookup (is_at (name_cmp name)) old ≡ option_map (λ x. f x.now) o
+  lookup_lent name zones old o view_is e = lookup_seen name zones old (option_copied o) view_is e ∙ lent o
 
   pub has_zone : (name : DomainName) (zones : List (DomainName × X)) (old : List (DomainName × V)) (b : Bool) → shown f zones ≡ old → b ≡ is_some (lookup (is_at (name_cmp name)) zones) → IsTrue b ↔ HasZone old name
   has_zone name zones old b view_is e =

@@ -1,15 +1,19 @@
--- The nearest zone is found by looking up the name, then the name above it, and so on to the root.
-use Rattle.std.proofs.Common.{◌≡◌, ℕ, ◌+◌, ◌<◌, ◌≤◌, Bool, true, false, List, [], ◌∷◌, ◌++◌, length, take, drop, Some, None, refl, sym, ap, subst, ◌∙◌, arith, length-append, length-drop, append_assoc}
+-- The nearest zone is found as the last one up to the name, or up to what the name shares with that one at its end.
+use Rattle.std.proofs.Common.{◌≡◌, ℕ, ◌+◌, ◌-◌, ◌<◌, ◌≤◌, inl, inr, Bool, true, false, List, [], ◌∷◌, ◌++◌, length, take, drop, Option, Some, None, refl, sym, ap, subst, ◌∙◌, arith, length-append, length-drop, append_assoc}
 use Rattle.std.specs.Prelude.{slice_index_or}
 use Rattle.std.specs.Bool.{MatchBool}
 use Rattle.std.specs.List.{All}
 use Rattle.std.specs.Map.{lookup}
 use Rattle.std.specs.BTreeMap.{is_at}
+use Rattle.std.specs.BTreeMap.Range.{IsLeBy}
+use Rattle.std.proofs.lemmas.Bool.{cases_lt}
 use Rattle.std.proofs.lemmas.List.{length-map, map-append, take-append-drop}
 use Rattle.hickory_wire.specs.rr.domain.DomainName.{DomainName}
 use Rattle.hickory_wire.specs.rr.domain.NameOrder.{SameName, Encloses, name_cmp, lower_label, lower_labels}
 use Rattle.hickory_catalog.specs.Find.{MayAnswer, Finds}
-use Rattle.hickory_catalog.proofs.Lookups.{Found, HasNone, found_in, none_in}
+use Rattle.hickory_catalog.specs.Search.{IsLastUpTo, LastUpTo, IsSharedEnd}
+use Rattle.hickory_catalog.proofs.Between.{between, between_same, encloses_up_to}
+use Rattle.hickory_catalog.proofs.Lookups.{Found, found_in, none_in}
 
 -- two ends of one list that are as long are the same
 pub ends_same : (front other xs ys : List (List ℕ)) → front ++ xs ≡ other ++ ys → length xs ≡ length ys → xs ≡ ys
@@ -55,51 +59,46 @@ same_at apex name ancestor a may n =
       marks = h.0 ∙ sym a.marked;
     }
 
-may_at : (apex name ancestor : DomainName) → IsAbove name ancestor → SameName apex ancestor → MayAnswer apex name
-may_at apex name ancestor a s =
-    let e : Encloses apex.labels name.labels = record { front = lower_labels a.front; ends = lower_ends name ancestor a ∙ ap (λ (ls : List (List ℕ)). lower_labels a.front ++ ls) (sym s.labels) } in
-    let h : MayBy true apex name = (s.marks ∙ a.marked, e) in
-    subst (λ (b : Bool). MayBy b apex name) (sym a.asked) h
-
 -- the zones that may answer for the name have fewer labels than n
 abbrev pub AreShorter : {V : Type 0} → List (DomainName × V) → DomainName → ℕ → Type 0
 AreShorter {V} zones name n = All (λ (zone : DomainName × V). MayAnswer zone.0 name → length zone.0.labels < n) zones
 
+-- they have fewer labels than the name above, and enclose the other name as well
+abbrev pub EncloseBoth : {V : Type 0} → List (DomainName × V) → DomainName → DomainName → DomainName → Type 0
+EncloseBoth {V} zones name ancestor other = All (λ (zone : DomainName × V). MayAnswer zone.0 name → (length zone.0.labels < length ancestor.labels) × Encloses zone.0.labels other.labels) zones
+
+pub encloses_more : (ns ms : List (List ℕ)) → Encloses ns ms → length ns ≤ length ms
+encloses_more ns ms e = omega (arith, ap length e.ends, length-append e.front (lower_labels ns), lower_length ns, lower_length ms)
+
+-- of two ends of one list the shorter one is the end of the other
+ends_within : (front other xs ys : List (List ℕ)) → front ++ xs ≡ other ++ ys → length xs ≤ length ys → (more : List (List ℕ)) × (ys ≡ more ++ xs)
+ends_within front [] xs ys e n = (front, sym e)
+ends_within [] (m ∷ other) xs ys e n = absurd (omega (arith, ap length e, length-append other ys))
+ends_within (l ∷ front) (m ∷ other) xs ys e n = let rest : front ++ xs ≡ other ++ ys = cc in ends_within front other xs ys rest n
+
+parts : (apex name : DomainName) → name.is_fqdn ≡ true → MayAnswer apex name → MayBy true apex name
+parts apex name asked may = subst (λ (b : Bool). MayBy b apex name) asked may
+
+-- an apex that may answer for the name, and has no more labels than a name above, encloses that one
+encloses_above : (apex name ancestor : DomainName) → IsAbove name ancestor → MayAnswer apex name → length apex.labels ≤ length ancestor.labels → Encloses apex.labels ancestor.labels
+encloses_above apex name ancestor a may n =
+    let h : MayBy true apex name = parts apex name a.asked may in
+    let r = ends_within h.1.front (lower_labels a.front) (lower_labels apex.labels) (lower_labels ancestor.labels) (sym h.1.ends ∙ lower_ends name ancestor a) (omega (arith, lower_length apex.labels, lower_length ancestor.labels)) in
+    record { front = r.0; ends = r.1 }
+
+-- and does not stand behind it
+up_to_above : (apex name ancestor : DomainName) → IsAbove name ancestor → MayAnswer apex name → length apex.labels ≤ length ancestor.labels → IsLeBy name_cmp apex ancestor
+up_to_above apex name ancestor a may n = encloses_up_to apex ancestor (parts apex name a.asked may).0 a.marked (encloses_above apex name ancestor a may n)
+
+-- an apex that encloses a name above may answer
+may_above : (apex name ancestor : DomainName) → IsAbove name ancestor → apex.is_fqdn ≡ true → Encloses apex.labels ancestor.labels → MayAnswer apex name
+may_above apex name ancestor a mark e =
+    let ends : lower_labels name.labels ≡ (lower_labels a.front ++ e.front) ++ lower_labels apex.labels =
+    lower_ends name ancestor a ∙ ap (λ (ls : List (List ℕ)). lower_labels a.front ++ ls) e.ends ∙ sym (append_assoc (lower_labels a.front) e.front (lower_labels apex.labels)) in
+    let h : MayBy true apex name = (mark, record { front = lower_labels a.front ++ e.front; ends = ends }) in
+    subst (λ (b : Bool). MayBy b apex name) (sym a.asked) h
+
 module _ {V : Type 0} (zones : List (DomainName × V)) (name : DomainName) where
-  all_shorter : AreShorter zones name (length name.labels + 1)
-  all_shorter = λ k d h may. omega (arith, no_longer _ name may)
-
-  none_there : (ancestor : DomainName) → IsAbove name ancestor → AreShorter zones name (length ancestor.labels + 1) → HasNone zones ancestor → AreShorter zones name (length ancestor.labels)
-  none_there ancestor a shorter none =
-      λ k d h may.
-      let less = shorter k d h may in
-      let ne = λ (n : length _ ≡ length ancestor.labels). none k d h (same_at _ name ancestor a may n) in
-      omega (arith, less, ne)
-
-  narrowed : (ancestor : DomainName) → IsAbove name ancestor → AreShorter zones name (length ancestor.labels + 1) → lookup (is_at (name_cmp ancestor)) zones ≡ None → AreShorter zones name (length ancestor.labels)
-  narrowed ancestor a shorter e = none_there ancestor a shorter (none_in ancestor zones e)
-
-  reached : (ancestor : DomainName) (v : V) → IsAbove name ancestor → AreShorter zones name (length ancestor.labels + 1) → lookup (is_at (name_cmp ancestor)) zones ≡ Some v → Finds zones name (Some v)
-  reached ancestor v a shorter e =
-      let f : Found zones ancestor v = found_in ancestor zones v e in (
-        f.apex,
-        record {
-          among = f.among;
-          may_answer = may_at f.apex name ancestor a f.same;
-          longest = λ k d h may. omega (arith, shorter k d h may, same_length f.apex ancestor f.same);
-        },
-      )
-
-  -- the name itself
-  itself : name.is_fqdn ≡ true → IsAbove name name
-  itself e = record { front = []; ends = refl; asked = e; marked = e }
-
-  started_itself : name.is_fqdn ≡ true → lookup (is_at (name_cmp name)) zones ≡ None → IsAbove name name × AreShorter zones name (length name.labels)
-  started_itself e none = (itself e, narrowed name (itself e) all_shorter none)
-
-  pub started : (copy : DomainName) → copy ≡ name → name.is_fqdn ≡ true → lookup (is_at (name_cmp name)) zones ≡ None → IsAbove name copy × AreShorter zones name (length copy.labels)
-  started copy is e none = subst (λ (d : DomainName). IsAbove name d × AreShorter zones name (length d.labels)) (sym is) (started_itself e none)
-
   at_relative : (v : V) → name.is_fqdn ≡ false → Found zones name v → Finds zones name (Some v)
   at_relative v e f = (
     f.apex,
@@ -110,47 +109,82 @@ module _ {V : Type 0} (zones : List (DomainName × V)) (name : DomainName) where
     },
   )
 
-  at_by : (b : Bool) (v : V) → name.is_fqdn ≡ b → lookup (is_at (name_cmp name)) zones ≡ Some v → Finds zones name (Some v)
-  at_by true v e found = reached name v (itself e) all_shorter found
-  at_by false v e found = at_relative v e (found_in name zones v found)
-
-  pub at_name : (v : V) → lookup (is_at (name_cmp name)) zones ≡ Some v → Finds zones name (Some v)
-  at_name v found = at_by name.is_fqdn v refl found
-
-  pub not_at_relative : name.is_fqdn ≡ false → lookup (is_at (name_cmp name)) zones ≡ None → Finds zones name None
+  not_at_relative : name.is_fqdn ≡ false → lookup (is_at (name_cmp name)) zones ≡ None → Finds zones name None
   not_at_relative e none = λ k d h may. none_in name zones none k d h (subst (λ (b : Bool). MayBy b (slice_index_or zones k d).0 name) e may)
 
-  -- the name above
-  up : (ancestor next : DomainName) → next ≡ record ancestor { labels = drop 1 ancestor.labels } → IsAbove name ancestor → IsAbove name next
-  up ancestor next e a =
-      subst (IsAbove name) (sym e)
+  -- a name that is not fully qualified is looked up
+  pub looked_up : (found : Option V) → name.is_fqdn ≡ false → lookup (is_at (name_cmp name)) zones ≡ found → Finds zones name found
+  looked_up None e none = not_at_relative e none
+  looked_up (Some v) e found = at_relative v e (found_in name zones v found)
+
+  pub itself : name.is_fqdn ≡ true → IsAbove name name
+  itself e = record { front = []; ends = refl; asked = e; marked = e }
+
+  pub all_shorter : AreShorter zones name (length name.labels + 1)
+  all_shorter = λ k d h may. omega (arith, no_longer _ name may)
+
+  -- the last zone up to a name above that encloses it is the nearest
+  pub reached : (ancestor : DomainName) (zone : DomainName × V) → IsAbove name ancestor → AreShorter zones name (length ancestor.labels + 1) → IsLastUpTo zones ancestor zone
+      → zone.0.is_fqdn ≡ true → Encloses zone.0.labels ancestor.labels → Finds zones name (Some zone.1)
+  reached ancestor zone a shorter last mark e = (
+    zone.0,
+    record {
+      among = last.among;
+      may_answer = may_above zone.0 name ancestor a mark e;
+      longest = λ k d h may.
+          let n : length (slice_index_or zones k d).0.labels ≤ length ancestor.labels = omega (arith, shorter k d h may) in
+          let above : IsLeBy name_cmp (slice_index_or zones k d).0 ancestor = up_to_above _ name ancestor a may n in
+          encloses_more _ _ (between (slice_index_or zones k d).0 zone.0 ancestor (last.last k d h above) last.up_to (encloses_above _ name ancestor a may n));
+    },
+  )
+
+  -- no zone up to a name above: none answers
+  pub none_reached : (ancestor : DomainName) → IsAbove name ancestor → AreShorter zones name (length ancestor.labels + 1) → LastUpTo zones ancestor None → Finds zones name None
+  none_reached ancestor a shorter none = λ k d h may. none k d h (up_to_above _ name ancestor a may (omega (arith, shorter k d h may)))
+
+  -- where the last zone up to a name above does not enclose it, only zones above both may answer
+  pub passed : (ancestor : DomainName) (zone : DomainName × V) → IsAbove name ancestor → AreShorter zones name (length ancestor.labels + 1) → IsLastUpTo zones ancestor zone
+      → ¬ ((zone.0.is_fqdn ≡ true) × Encloses zone.0.labels ancestor.labels) → EncloseBoth zones name ancestor zone.0
+  passed ancestor zone a shorter last apart =
+      λ k d h may.
+      let n : length (slice_index_or zones k d).0.labels ≤ length ancestor.labels = omega (arith, shorter k d h may) in
+      let up : IsLeBy name_cmp (slice_index_or zones k d).0 zone.0 = last.last k d h (up_to_above _ name ancestor a may n) in
+      let ne = λ (size : length (slice_index_or zones k d).0.labels ≡ length ancestor.labels).
+      let s : SameName zone.0 ancestor = between_same (slice_index_or zones k d).0 zone.0 ancestor up last.up_to (same_at _ name ancestor a may size) in
+      apart (s.marks ∙ a.marked, record { front = []; ends = sym s.labels }) in
+      (omega (arith, n, ne), between (slice_index_or zones k d).0 zone.0 ancestor up last.up_to (encloses_above _ name ancestor a may n))
+
+  -- the end that a name above shares with the other name is a name above
+  pub cut_above : (ancestor other next : DomainName) → IsAbove name ancestor → IsSharedEnd ancestor other next → IsAbove name next
+  cut_above ancestor other next a s =
+      subst (IsAbove name) (sym s.ends)
       (record {
-        front = a.front ++ take 1 ancestor.labels;
-        ends = a.ends ∙ ap (λ (ls : List (List ℕ)). a.front ++ ls) (sym (take-append-drop 1 ancestor.labels)) ∙ sym (append_assoc a.front (take 1 ancestor.labels) (drop 1 ancestor.labels));
+        front = a.front ++ take s.count ancestor.labels;
+        ends = a.ends ∙ ap (λ (ls : List (List ℕ)). a.front ++ ls) (sym (take-append-drop s.count ancestor.labels)) ∙ sym (append_assoc a.front (take s.count ancestor.labels) (drop s.count ancestor.labels));
         asked = a.asked;
         marked = a.marked;
       })
 
-  filled : (labels : List (List ℕ)) (mark : Bool) → mark ≡ true → ((let d : DomainName = record { labels = labels; is_fqdn = mark } in d) ≡ record { labels = []; is_fqdn = true } → ⊥) → 0 < length labels
-  filled [] mark e ne = absurd (ne (ap (λ (m : Bool). let d : DomainName = record { labels = []; is_fqdn = m } in d) e))
-  filled (l ∷ labels) mark e ne = omega arith
+  -- an apex that encloses both is no longer than that end
+  cut_apex : (ancestor other next apex : DomainName) → IsAbove name ancestor → IsSharedEnd ancestor other next → MayAnswer apex name → length apex.labels < length ancestor.labels → Encloses apex.labels other.labels
+      → length apex.labels < length next.labels + 1
+  cut_apex ancestor other next apex a s may less e =
+      let left : length next.labels ≡ length ancestor.labels - s.count = ap (λ (d : DomainName). length d.labels) s.ends ∙ length-drop s.count ancestor.labels in
+      elim (cases_lt (length next.labels) (length apex.labels)) [
+        | inl longer ↦
+            let k : ℕ = length ancestor.labels - length apex.labels in
+            let within : Encloses apex.labels ancestor.labels = encloses_above apex name ancestor a may (omega arith) in
+            let size : length (lower_labels (drop k ancestor.labels)) ≡ length (lower_labels apex.labels) = omega (arith, lower_length (drop k ancestor.labels), lower_length apex.labels, length-drop k ancestor.labels) in
+            let split : lower_labels (take k ancestor.labels) ++ lower_labels (drop k ancestor.labels) ≡ within.front ++ lower_labels apex.labels =
+            sym (map-append lower_label (take k ancestor.labels) (drop k ancestor.labels)) ∙ ap lower_labels (take-append-drop k ancestor.labels) ∙ within.ends in
+            let same : lower_labels (drop k ancestor.labels) ≡ lower_labels apex.labels = ends_same (lower_labels (take k ancestor.labels)) within.front _ _ split size in
+            let shared : Encloses (drop k ancestor.labels) other.labels = record { front = e.front; ends = e.ends ∙ ap (λ (ls : List (List ℕ)). e.front ++ ls) (sym same) } in
+            absurd (s.longest k (omega arith) (omega (arith, left)) shared)
+        | inr shorter ↦ omega (arith, shorter)
+      ]
 
-  -- the name above has one label less
-  one_less : (ancestor next : DomainName) → next ≡ record ancestor { labels = drop 1 ancestor.labels } → IsAbove name ancestor → (ancestor ≡ record { labels = []; is_fqdn = true } → ⊥) → length ancestor.labels ≡ length next.labels + 1
-  one_less ancestor next e a ne =
-      omega (arith, ap (λ (d : DomainName). length d.labels) e, length-drop 1 ancestor.labels, filled ancestor.labels ancestor.is_fqdn a.marked ne)
+  pub cut_shorter : (ancestor other next : DomainName) → IsAbove name ancestor → EncloseBoth zones name ancestor other → IsSharedEnd ancestor other next → AreShorter zones name (length next.labels + 1)
+  cut_shorter ancestor other next a both s = λ k d h may. cut_apex ancestor other next _ a s may (both k d h may).0 (both k d h may).1
 
-  went_up : (ancestor next : DomainName) → next ≡ record ancestor { labels = drop 1 ancestor.labels } → IsAbove name ancestor → AreShorter zones name (length ancestor.labels) → (ancestor ≡ record { labels = []; is_fqdn = true } → ⊥)
-      → AreShorter zones name (length next.labels + 1)
-  went_up ancestor next e a shorter ne = subst (AreShorter zones name) (one_less ancestor next e a ne) shorter
-
-  pub found_above : (ancestor next : DomainName) (v : V) → next ≡ record ancestor { labels = drop 1 ancestor.labels } → IsAbove name ancestor → AreShorter zones name (length ancestor.labels) → (ancestor ≡ record { labels = []; is_fqdn = true } → ⊥)
-      → lookup (is_at (name_cmp next)) zones ≡ Some v → Finds zones name (Some v)
-  found_above ancestor next v e a shorter ne found = reached next v (up ancestor next e a) (went_up ancestor next e a shorter ne) found
-
-  pub passed_above : (ancestor next : DomainName) → next ≡ record ancestor { labels = drop 1 ancestor.labels } → IsAbove name ancestor → AreShorter zones name (length ancestor.labels) → (ancestor ≡ record { labels = []; is_fqdn = true } → ⊥)
-      → lookup (is_at (name_cmp next)) zones ≡ None → IsAbove name next × AreShorter zones name (length next.labels)
-  passed_above ancestor next e a shorter ne none = (up ancestor next e a, narrowed next (up ancestor next e a) (went_up ancestor next e a shorter ne) none)
-
-  pub none_left : (ancestor : DomainName) → ancestor ≡ record { labels = []; is_fqdn = true } → AreShorter zones name (length ancestor.labels) → Finds zones name None
-  none_left ancestor e shorter = λ k d h may. absurd (omega (arith, shorter k d h may, ap (λ (d : DomainName). length d.labels) e))
+  pub none_left : (ancestor other : DomainName) → ancestor ≡ record { labels = []; is_fqdn = true } → EncloseBoth zones name ancestor other → Finds zones name None
+  none_left ancestor other e both = λ k d h may. absurd (omega (arith, (both k d h may).0, ap (λ (d : DomainName). length d.labels) e))

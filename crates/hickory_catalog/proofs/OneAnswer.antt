@@ -50,7 +50,7 @@ module _ {V : Type 0} where
   longer zones name one other near far =
       All-contains (λ (z : DomainName × V). MayAnswer z.0 name → length z.0.labels ≤ length one.0.labels) zones other near.longest far.among far.may_answer
 
-  one_nearest : (zones : List (DomainName × V)) (name : DomainName) (one other : DomainName × V) → AreInOrder zones → IsNearest zones name one → IsNearest zones name other → one ≡ other
+  pub one_nearest : (zones : List (DomainName × V)) (name : DomainName) (one other : DomainName × V) → AreInOrder zones → IsNearest zones name one → IsNearest zones name other → one ≡ other
   one_nearest zones name one other sorted near far =
       let n : length one.0.labels ≡ length other.0.labels = omega (arith, longer zones name one other near far, longer zones name other one far near) in
       let s : SameName one.0 other.0 = same_both name.is_fqdn one.0 other.0 name near.may_answer far.may_answer n in
@@ -63,3 +63,7 @@ module _ {V : Type 0} where
   one_answer zones name (Some v) (Some w) sorted f g =
       let p = one_nearest zones name (f.0, v) (g.0, w) sorted f.1 g.1 in
       ap (λ (z : DomainName × V). let o : Option V = Some z.1 in o) p
+
+  pub one_at : (zones : List (DomainName × V)) (apex : DomainName) (one other : V) → AreInOrder zones → Contains zones (apex, one) → Contains zones (apex, other) → one ≡ other
+  one_at zones apex one other sorted here there =
+      ap (λ (z : DomainName × V). z.1) (one_zone zones sorted here.0 there.0 (apex, one) (apex, other) here.1 there.1 here.2 there.2 (record { labels = refl; marks = refl }))

@@ -1,5 +1,5 @@
--- A query has one reply where each call of a handler has one answer.
-use Rattle.std.proofs.Common.{◌≡◌, ℕ, suc, Bool, true, false, List, ◌∷◌, Option, Some, None, Result, Ok, Err, refl, sym, ap, subst, ◌∙◌}
+-- A query has one list of replies where each call of a handler has one answer.
+use Rattle.std.proofs.Common.{◌≡◌, ℕ, suc, Bool, true, false, List, [], ◌∷◌, map, Option, Some, None, Result, Ok, Err, refl, sym, ap, subst, ◌∙◌}
 use Rattle.std.specs.Bool.{MatchBool}
 use Rattle.std.specs.Prelude.{◌==◌, slice_get}
 use Rattle.std.specs.List.{remove}
@@ -8,6 +8,7 @@ use Rattle.hickory_wire.specs.op.EdnsFields.{EdnsFields}
 use Rattle.hickory_wire.specs.rr.domain.NameOrder.{lower_name}
 use Rattle.hickory_wire.specs.serialize.writing.Reply.{Reply}
 use Rattle.hickory_wire.specs.declared.op.query.Query.{Query}
+use Rattle.hickory_wire.specs.declared.rr.rdata.RData.{RData}
 use Rattle.hickory_wire.specs.declared.rr.record.Record.{Record}
 use Rattle.hickory_wire.specs.declared.rr.tsig.TSIG.{TSIG}
 use Rattle.hickory_wire.specs.declared.rr.tsig.TSigResponseContext.{TSigResponseContext}
@@ -27,14 +28,17 @@ use Rattle.hickory_catalog.specs.Authoritative.{AuthoritativeReply, BesideAnswer
 use Rattle.hickory_catalog.specs.Denying.{DenialGiven, DenialOfNegative, is_wildcard_match, needs_denial}
 use Rattle.hickory_catalog.specs.Find.{Finds}
 use Rattle.hickory_catalog.specs.OneReply.{AnswersOnce, Given, SignsOnce, TransferGiven, transfer_wants_memory}
-use Rattle.hickory_catalog.specs.Queries.{HandlerReply, QueryReply, ZoneReply, consult_options, is_out_of_memory, lookup, no_zone, other_count, transfer, unanswered, untransferred, zone}
+use Rattle.hickory_catalog.specs.Queries.{GivenReplies, HandlerReply, QueryReplies, ZoneReplies, ZoneReply, consult_options, is_out_of_memory, lookup, no_zone, other_count, transfer, unanswered, untransferred, zone}
+use Rattle.hickory_catalog.specs.Queries as queries
 use Rattle.hickory_catalog.specs.Replies.{Contents, bare_contents}
+use Rattle.hickory_catalog.specs.ReplyEdns.{with_high_code}
 use Rattle.hickory_catalog.specs.Server.{Server}
 use Rattle.hickory_catalog.specs.Signing.{IsSigned, SignedReply, Signer, failed, plain, signed}
 use Rattle.hickory_catalog.specs.Transcripts.{Asked, ChainAnswers, Consulted, Follows, IsAnswer, all_consulted, consulted, options_of, out_of_memory, wants_memory}
 use Rattle.hickory_catalog.specs.Transcripts as transcripts
-use Rattle.hickory_catalog.specs.Transfers.{TransferAsked, transfer_contents}
+use Rattle.hickory_catalog.specs.Transfers.{AreRuns, TransferAsked, size_without_answers, message_of_transfer, transfer_contents}
 use Rattle.hickory_catalog.specs.Transfers as transfers
+use Rattle.hickory_catalog.proofs.Runs.{runs_once}
 use Rattle.hickory_catalog.specs.Zones.{AreInOrder}
 use Rattle.hickory_catalog.proofs.OneAnswer.{one_answer}
 
@@ -168,25 +172,14 @@ module _ {H : Type 0} (handler : Ghosts H) (once : AnswersOnce handler) (request
 module _ {H : Type 0} (server : Server H) (once : AnswersOnce server.handler) (signs : SignsOnce server.signer) (request : ReceivedRequest) (edns : Option EdnsFields) (now : ℕ) (one other : Reply) where
   zone_once : (chain : List H) (query : Query) → ZoneReply server chain request edns now query one → ZoneReply server chain request edns now query other → one ≡ other
   zone_once chain query (untransferred t a is) (untransferred u b are) = is ∙ sym are
-  zone_once chain query (untransferred t a is) (transfer u b g s) = absurd (let same = transfer_once server.handler once request now chain _ _ refl g a b in cc)
   zone_once chain query (untransferred t a is) (unanswered u b n are) = absurd cc
   zone_once chain query (untransferred t a is) (lookup x u b n at g r s) = absurd cc
-  zone_once chain query (transfer t a f s) (untransferred u b is) = absurd (let same = transfer_once server.handler once request now chain _ _ f refl a b in cc)
-  zone_once chain query (transfer {result = m} {context = c} t a f s) (transfer {result = n} {context = d} u b g v) =
-      let same = transfer_once server.handler once request now chain (Some (m, c)) (Some (n, d)) f g a b in
-      let both : (m, c) ≡ (n, d) = cc in
-      signed_once server.signer signs _ _ one other c s
-      (subst (λ (z : Result ZoneTransfer LookupError × Option TSigResponseContext). SignedReply server.signer request.message edns (transfer_contents request.message.metadata z.0) z.1 other) (sym both) v)
-  zone_once chain query (transfer t a f s) (unanswered u b n are) = absurd cc
-  zone_once chain query (transfer t a f s) (lookup x u b n at g r v) = absurd cc
   zone_once chain query (unanswered t a n is) (untransferred u b are) = absurd cc
-  zone_once chain query (unanswered t a n is) (transfer u b g s) = absurd cc
   zone_once chain query (unanswered t a n is) (unanswered u b m are) = is ∙ sym are
   zone_once chain query (unanswered {place = p} {final = x} {context = c} t a n is) (lookup {place = q} {final = y} {result = m} {context = d} z u b some at g r s) =
       absurd (let all = chain_once server.handler once request (information request query) (consult_options edns) chain p q x y c d (free_none x n) (free_result y m some g) a b in
       let e : result_of x ≡ result_of y = ap result_of all.1 in cc)
   zone_once chain query (lookup z t a some at f r s) (untransferred u b are) = absurd cc
-  zone_once chain query (lookup z t a some at f r s) (transfer u b g v) = absurd cc
   zone_once chain query (lookup {place = p} {final = x} {result = m} {context = c} z t a some at f r s) (unanswered {place = q} {final = y} {context = d} u b n are) =
       absurd (let all = chain_once server.handler once request (information request query) (consult_options edns) chain p q x y c d (free_result x m some f) (free_none y n) a b in
       let e : result_of x ≡ result_of y = ap result_of all.1 in cc)
@@ -202,7 +195,47 @@ module _ {H : Type 0} (server : Server H) (once : AnswersOnce server.handler) (s
       let by_contents = subst (λ (i : Contents). SignedReply server.signer request.message edns i d other) (sym contents) y' in
       signed_once server.signer signs _ _ one other c s (subst (λ (i : Option TSigResponseContext). SignedReply server.signer request.message edns z i other) (sym all.2) by_contents)
 
-  pub query_once : AreInOrder server.zones → QueryReply server request edns now one → QueryReply server request edns now other → one ≡ other
+-- the answer to a transfer that is replied to tells of no memory
+given_free : (signer : Signer) (request : ReceivedRequest) (edns : Option EdnsFields) (result : Result ZoneTransfer LookupError) (context : Option TSigResponseContext) (replies : List Reply)
+    → GivenReplies signer request edns result context replies → is_out_of_memory result ≡ false
+given_free signer request edns result context replies (queries.whole free _ _ _) = free
+given_free signer request edns result context replies (queries.split is _ _ _) = ap is_out_of_memory is
+
+-- it is replied to in one way
+given_once : (signer : Signer) → SignsOnce signer → (request : ReceivedRequest) (edns : Option EdnsFields) (result : Result ZoneTransfer LookupError) (context : Option TSigResponseContext) (one other : List Reply)
+    → GivenReplies signer request edns result context one → GivenReplies signer request edns result context other → one ≡ other
+given_once signer signs request edns result context one other (queries.whole {reply = a} _ _ s is) (queries.whole {reply = b} _ _ t are) =
+    is ∙ ap (λ (x : Reply). x ∷ []) (signed_once signer signs _ _ a b context s t) ∙ sym are
+given_once signer signs request edns result context one other (queries.whole _ not_split _ _) (queries.split _ _ is_split _) = absurd cc
+given_once signer signs request edns result context one other (queries.split _ _ is_split _) (queries.whole _ not_split _ _) = absurd cc
+given_once signer signs request edns result context one other (queries.split {transfer = m} is _ _ are) (queries.split {transfer = n} also _ _ too) =
+    let same : m ≡ n = cc in
+    let runs = runs_once (size_without_answers request.message edns) n.records are.runs too.runs
+    (subst (λ (x : ZoneTransfer). AreRuns (size_without_answers request.message edns) x.records are.runs) same are.are_runs) too.are_runs in
+    are.replies_are ∙ ap (λ (x : List (List (Record RData))). map (message_of_transfer request.message (with_high_code 0 edns)) x) runs ∙ sym too.replies_are
+
+module _ {H : Type 0} (server : Server H) (once : AnswersOnce server.handler) (signs : SignsOnce server.signer) (request : ReceivedRequest) (edns : Option EdnsFields) (now : ℕ) (one other : List Reply) where
+  -- a reply that is not to a transfer that a handler answers is no reply to one
+  not_both : (chain : List H) (query : Query) (reply : Reply) (result : Result ZoneTransfer LookupError) (context : Option TSigResponseContext)
+      → ZoneReply server chain request edns now query reply → (query.query_type == 252) ≡ true → TransferAsked server.handler request now chain (Some (result, context)) → is_out_of_memory result ≡ false → ⊥
+  not_both chain query reply result context (untransferred t a is) u b free = let same = transfer_once server.handler once request now chain _ _ refl free a b in cc
+  not_both chain query reply result context (unanswered t a n is) u b free = cc
+  not_both chain query reply result context (lookup x t a n at g r s) u b free = cc
+
+  zone_all_once : (chain : List H) (query : Query) → ZoneReplies server chain request edns now query one → ZoneReplies server chain request edns now query other → one ≡ other
+  zone_all_once chain query (queries.one {reply = a} r is) (queries.one {reply = b} s are) =
+      is ∙ ap (λ (x : Reply). x ∷ []) (zone_once server once signs request edns now a b chain query r s) ∙ sym are
+  zone_all_once chain query (queries.one {reply = a} r is) (transfer {result = m} {context = c} u b g) =
+      absurd (not_both chain query a m c r u b (given_free server.signer request edns m c other g))
+  zone_all_once chain query (transfer {result = m} {context = c} u b g) (queries.one {reply = a} r is) =
+      absurd (not_both chain query a m c r u b (given_free server.signer request edns m c one g))
+  zone_all_once chain query (transfer {result = m} {context = c} t a g) (transfer {result = n} {context = d} u b h) =
+      let same = transfer_once server.handler once request now chain (Some (m, c)) (Some (n, d)) (given_free server.signer request edns m c one g) (given_free server.signer request edns n d other h) a b in
+      let both : (m, c) ≡ (n, d) = cc in
+      given_once server.signer signs request edns m c one other g
+      (subst (λ (z : Result ZoneTransfer LookupError × Option TSigResponseContext). GivenReplies server.signer request edns z.0 z.1 other) (sym both) h)
+
+  pub query_once : AreInOrder server.zones → QueryReplies server request edns now one → QueryReplies server request edns now other → one ≡ other
   query_once sorted (other_count a is) (other_count b are) = is ∙ sym are
   query_once sorted (other_count a is) (no_zone b f are) = absurd cc
   query_once sorted (other_count a is) (zone b f r) = absurd cc
@@ -219,5 +252,5 @@ module _ {H : Type 0} (server : Server H) (once : AnswersOnce server.handler) (s
       let queries : q ≡ n = cc in
       let found = one_answer server.zones (lower_name q.name) (Some chain) (Some rest) sorted f (subst (λ (x : Query). Finds server.zones (lower_name x.name) (Some rest)) (sym queries) g) in
       let chains : chain ≡ rest = cc in
-      let by_query = subst (λ (x : Query). ZoneReply server rest request edns now x other) (sym queries) s in
-      zone_once chain q r (subst (λ (x : List H). ZoneReply server x request edns now q other) (sym chains) by_query)
+      let by_query = subst (λ (x : Query). ZoneReplies server rest request edns now x other) (sym queries) s in
+      zone_all_once chain q r (subst (λ (x : List H). ZoneReplies server x request edns now q other) (sym chains) by_query)

@@ -1,5 +1,5 @@
 -- Each reply to a query or an update is a reply to its request.
-use Rattle.std.proofs.Common.{◌≡◌, ℕ, ◌<◌, ◌^◌, ◌||◌, nat_eq, Bool, true, false, cond, List, [], ◌∷◌, Option, Result, Ok, Err, refl, sym, ap, subst, ◌∙◌, arith}
+use Rattle.std.proofs.Common.{◌≡◌, ℕ, ◌<◌, ◌^◌, ◌||◌, nat_eq, Bool, true, false, cond, List, [], ◌∷◌, map, Option, Result, Ok, Err, refl, sym, ap, subst, ◌∙◌, arith}
 use Rattle.std.specs.Prelude.{◌==◌}
 use Rattle.std.specs.List.{AllByRecursion}
 use Rattle.std.proofs.lemmas.Bool.Decides.{nat_tests}
@@ -8,6 +8,8 @@ use Rattle.hickory_wire.specs.rr.domain.DomainName.{DomainName}
 use Rattle.hickory_wire.specs.serialize.writing.Reply.{Reply}
 use Rattle.hickory_wire.specs.declared.op.header.Metadata.{Metadata}
 use Rattle.hickory_wire.specs.declared.op.query.Query.{Query}
+use Rattle.hickory_wire.specs.declared.rr.rdata.RData.{RData}
+use Rattle.hickory_wire.specs.declared.rr.record.Record.{Record}
 use Rattle.hickory_wire.specs.declared.rr.tsig.TSigResponseContext.{TSigResponseContext}
 use Rattle.hickory_base.specs.Failures.{is_nx_domain}
 use Rattle.hickory_base.specs.requests.Requests.{ReceivedRequest}
@@ -24,11 +26,12 @@ use Rattle.hickory_catalog.specs.AuthoritativeLaws.{AuthoritativeCodes}
 use Rattle.hickory_catalog.specs.DecodedReplies.{IsReplyHeader, RepliesTo}
 use Rattle.hickory_catalog.specs.Forwarded.{findings_contents, findings_of, forwarded_contents, forwarded_metadata, is_authentic, validated}
 use Rattle.hickory_catalog.specs.ForwardedLaws.{ForwardedCodes, is_one_of}
-use Rattle.hickory_catalog.specs.Queries.{HandlerReply, QueryReply, ZoneReply, lookup, no_zone, other_count, transfer, unanswered, untransferred, zone}
+use Rattle.hickory_catalog.specs.Queries.{GivenReplies, HandlerReply, QueryReplies, ZoneReplies, ZoneReply, lookup, no_zone, one, other_count, split, transfer, unanswered, untransferred, whole, zone}
 use Rattle.hickory_catalog.specs.Replies.{Contents, bare_contents, error_reply, unsigned_reply}
+use Rattle.hickory_catalog.specs.ReplyEdns.{with_high_code}
 use Rattle.hickory_catalog.specs.Server.{Server}
 use Rattle.hickory_catalog.specs.Signing.{SignedReply, Signer, failed, plain, signed}
-use Rattle.hickory_catalog.specs.Transfers.{transfer_contents, transfer_fault}
+use Rattle.hickory_catalog.specs.Transfers.{message_of_transfer, transfer_contents, transfer_fault}
 use Rattle.hickory_catalog.specs.Updates.{UpdateReply, answered, no_apex, no_handler, unnamed}
 
 -- codes of twelve bits
@@ -108,17 +111,35 @@ module _ (request : ReceivedRequest) (query : Query) (contents : Contents) where
     handler_fits forwarded Secondary result r = authoritative_fits result r (coded result r)
     handler_fits forwarded External result is = forwarded_fits forwarded (handler.validates_dnssec h) result is
 
-module _ {H : Type 0} (server : Server H) (forwarded : ForwardedCodes) (codes : AuthoritativeCodes server.handler) (request : ReceivedRequest) (edns : Option EdnsFields) (now : ℕ) (reply : Reply) where
-  zone_fits : (chain : List H) (query : Query) → ZoneReply server chain request edns now query reply → RepliesTo request.message edns reply
-  zone_fits chain query (untransferred _ _ is) = error_is request.message edns reply 2 (omega arith) is
-  zone_fits chain query (transfer _ _ _ s) = signed_fits request.message edns server.signer _ _ reply s (transfer_fits _ _)
-  zone_fits chain query (unanswered _ _ _ is) = error_is request.message edns reply 2 (omega arith) is
-  zone_fits chain query (lookup contents _ _ _ _ _ r s) = signed_fits request.message edns server.signer contents _ reply s (handler_fits request query contents server.handler codes _ forwarded _ _ r)
+-- one reply that fits, as a list
+fits_alone : (request : MessageRequest) (edns : Option EdnsFields) (reply : Reply) (replies : List Reply) → replies ≡ reply ∷ [] → RepliesTo request edns reply → AllByRecursion (RepliesTo request edns) replies
+fits_alone request edns reply replies is fits = subst (AllByRecursion (RepliesTo request edns)) (sym is) (fits, tt)
 
-  pub query_fits : QueryReply server request edns now reply → RepliesTo request.message edns reply
-  query_fits (other_count _ is) = error_is request.message edns reply 1 (omega arith) is
-  query_fits (no_zone _ _ is) = error_is request.message edns reply 5 (omega arith) is
-  query_fits (zone _ _ r) = zone_fits _ _ r
+module _ (request : ReceivedRequest) (edns : Option EdnsFields) (replies : List Reply) where
+  messages_fit : (runs : List (List (Record RData))) → AllByRecursion (RepliesTo request.message edns) (map (message_of_transfer request.message (with_high_code 0 edns)) runs)
+  messages_fit [] = tt
+  messages_fit (run ∷ runs) = (unsigned_fits request.message edns _ (record { id = refl; op_code = refl; response_code = omega arith; untruncated = refl }), messages_fit runs)
+
+  given_fits : (signer : Signer) (result : Result ZoneTransfer LookupError) (context : Option TSigResponseContext) → GivenReplies signer request edns result context replies
+      → AllByRecursion (RepliesTo request.message edns) replies
+  given_fits signer result context (whole {reply = reply} _ _ s is) =
+      fits_alone request.message edns reply replies is (signed_fits request.message edns signer _ context reply s (transfer_fits _ _))
+  given_fits signer result context (split _ _ _ are) = subst (AllByRecursion (RepliesTo request.message edns)) (sym are.replies_are) (messages_fit are.runs)
+
+module _ {H : Type 0} (server : Server H) (forwarded : ForwardedCodes) (codes : AuthoritativeCodes server.handler) (request : ReceivedRequest) (edns : Option EdnsFields) (now : ℕ) where
+  zone_fits : (chain : List H) (query : Query) (reply : Reply) → ZoneReply server chain request edns now query reply → RepliesTo request.message edns reply
+  zone_fits chain query reply (untransferred _ _ is) = error_is request.message edns reply 2 (omega arith) is
+  zone_fits chain query reply (unanswered _ _ _ is) = error_is request.message edns reply 2 (omega arith) is
+  zone_fits chain query reply (lookup contents _ _ _ _ _ r s) = signed_fits request.message edns server.signer contents _ reply s (handler_fits request query contents server.handler codes _ forwarded _ _ r)
+
+  zone_all_fit : (chain : List H) (query : Query) (replies : List Reply) → ZoneReplies server chain request edns now query replies → AllByRecursion (RepliesTo request.message edns) replies
+  zone_all_fit chain query replies (one {reply = reply} r is) = fits_alone request.message edns reply replies is (zone_fits chain query reply r)
+  zone_all_fit chain query replies (transfer {result = result} {context = context} _ _ g) = given_fits request edns replies server.signer result context g
+
+  pub query_fits : (replies : List Reply) → QueryReplies server request edns now replies → AllByRecursion (RepliesTo request.message edns) replies
+  query_fits replies (other_count _ is) = fits_alone request.message edns _ replies is (error_fits request.message edns 1 (omega arith))
+  query_fits replies (no_zone _ _ is) = fits_alone request.message edns _ replies is (error_fits request.message edns 5 (omega arith))
+  query_fits replies (zone _ _ r) = zone_all_fit _ _ replies r
 
 -- so is the reply to an update
 pub update_fits : {H : Type 0} (server : Server H) (request : ReceivedRequest) (edns : Option EdnsFields) (now : ℕ) (reply : Reply) (zones : List (DomainName × List H))

@@ -18,10 +18,12 @@ use Rattle.hickory_wire.specs.declared.op.header.Metadata.{Metadata}
 use Rattle.hickory_wire.specs.declared.rr.rdata.RData.{RData}
 use Rattle.hickory_wire.specs.declared.rr.record.Record.{Record}
 use Rattle.hickory_wire.specs.declared.rr.tsig.TSIG.{TSIG}
-use Rattle.hickory_base.specs.responses.Responses.{GivesBy, IsReplyOf, ReplyBase}
+use Rattle.hickory_base.specs.responses.Responses.{GivesBy, IsReplyOf, ReplyBase, header_of}
 use Rattle.hickory_base.specs.responses.Sinks.{AddsEntry}
 use Rattle.hickory_base.specs.declared.responses.message_response.MessageResponse.{MessageResponse}
-use Rattle.hickory_catalog.specs.Sending.{IsFailed, IsTaken, failure_header}
+use Rattle.hickory_base.specs.declared.responses.message_response.ResponseInfo.{ResponseInfo}
+use Rattle.hickory_base.specs.declared.responses.response_handler.ResponseHandler.{Ghosts}
+use Rattle.hickory_catalog.specs.Sending.{Fails, IsFailed, IsTaken, Sends, Takes, failure_header}
 
 -- the iterator of a slice gives the slice
 pub given_by_slice : {records xs : List (Record RData)} {it : _} → GivesBy iter_steps (λ (x : Bor (Record RData)). x.now) it records → iter_rest it ≡ xs → records ≡ xs
@@ -73,17 +75,25 @@ module _ {Entry : Type 0} {P : Reply → Type 0} {shows : Reply → Entry → Ty
 
   module _ {failures failures' : ℕ} {told : Header} where
     -- the sink took the reply
-    pub sent_after_ok : {informs : Reply → Entry → Header → Type 0} {request : Metadata} (reply : Reply) → ((r : Reply) → P r → r ≡ reply)
+    pub taken_after_ok : {informs : Reply → Entry → Header → Type 0} (reply : Reply) → ((r : Reply) → P r → r ≡ reply)
         → (r : Reply) × P r × AddsEntry (λ entry. shows r entry × informs r entry told) old new → failures' ≡ failures
-        → IsTaken shows informs old new failures failures' reply told ⊎ IsFailed shows request old new failures failures' reply told
-    sent_after_ok {informs = informs} reply so (r, is, added) uncounted =
-        inl (record { uncounted = uncounted; added = subst (λ (x : Reply). AddsEntry (λ entry. shows x entry × informs x entry told) old new) (so r is) added })
+        → IsTaken shows informs old new failures failures' reply told
+    taken_after_ok {informs = informs} reply so (r, is, added) uncounted =
+        record { uncounted = uncounted; added = subst (λ (x : Reply). AddsEntry (λ entry. shows x entry × informs x entry told) old new) (so r is) added }
 
     -- the sink failed
-    pub sent_after_err : {informs : Reply → Entry → Header → Type 0} {request : Metadata} (reply : Reply) → ((r : Reply) → P r → r ≡ reply)
+    pub failed_after_err : {request : Metadata} (reply : Reply) → ((r : Reply) → P r → r ≡ reply)
         → ((r : Reply) × P r × AddsEntry (shows r) old new) ⊎ (new ≡ old) → failures' ≡ (failures + 1) % 2 ^ 64 → told ≡ failure_header request
-        → IsTaken shows informs old new failures failures' reply told ⊎ IsFailed shows request old new failures failures' reply told
-    sent_after_err reply so added counted informed = inr (record { counted = counted; added = added_or_not so added; informed = informed })
+        → IsFailed shows request old new failures failures' reply told
+    failed_after_err reply so added counted informed = record { counted = counted; added = added_or_not so added; informed = informed }
+
+-- what is told of a reply, whether the sink took it or failed
+module _ {S Entry Settings : Type 0} (sink : Ghosts S Entry Settings) (request : Metadata) (old new : S) (reply : Reply) where
+  pub sent_as_told : (handed : Result ResponseInfo ResponseInfo) (told : ResponseInfo) → IfOk handed (λ info. told ≡ info) → IfErr handed (λ info. told ≡ info)
+      → IfOk handed (λ info. Takes sink old new reply (header_of info)) → IfErr handed (λ info. Fails sink request old new reply (header_of info))
+      → Sends sink request old new reply (header_of told)
+  sent_as_told (Ok info) told is _ took _ = subst (λ (i : ResponseInfo). Sends sink request old new reply (header_of i)) (sym is) (took.0, inl took.1)
+  sent_as_told (Err info) told _ is _ failed = subst (λ (i : ResponseInfo). Sends sink request old new reply (header_of i)) (sym is) (failed.0, inr failed.1)
 
 -- from what an encoder's answer says of the reply of a response to what it says of the reply that this must be
 module _ {P : Reply → Type 0} {expected : Reply} (so : (r : Reply) → P r → r ≡ expected) (limit : ℕ) where

@@ -19,7 +19,7 @@ use Rattle.hickory_wire.specs.declared.rr.tsig.TSigResponseContext.{TSigResponse
 use Rattle.hickory_base.specs.requests.Requests.{ReceivedRequest}
 use Rattle.hickory_base.specs.declared.requests.message_request.MessageRequest.{MessageRequest}
 use Rattle.hickory_base.specs.declared.zone_store.handler.ZoneHandler.{Ghosts}
-use Rattle.hickory_catalog.specs.Queries.{QueryReply}
+use Rattle.hickory_catalog.specs.Queries.{QueryReplies}
 use Rattle.hickory_catalog.specs.Replies.{Contents, error_reply}
 use Rattle.hickory_catalog.specs.ReplyEdns.{reply_edns, with_high_code}
 use Rattle.hickory_catalog.specs.Server.{server_of}
@@ -45,8 +45,8 @@ pub record RepliesTo (request : MessageRequest) (edns : Option EdnsFields) (repl
 
 -- Each reply to a query is one to the request, and has no TC of its own.
 abbrev pub QueryRepliesFit : {S H : Type 0} → Ghosts H → (S → Signer) → Type 0
-QueryRepliesFit {S} {H} handler signature_for = (catalog : Catalog S H) (request : ReceivedRequest) (edns : Option EdnsFields) (now : ℕ) (reply : Reply)
-    → QueryReply (server_of handler signature_for catalog) request edns now reply → RepliesTo request.message edns reply
+QueryRepliesFit {S} {H} handler signature_for = (catalog : Catalog S H) (request : ReceivedRequest) (edns : Option EdnsFields) (now : ℕ) (replies : List Reply)
+    → QueryReplies (server_of handler signature_for catalog) request edns now replies → AllByRecursion (RepliesTo request.message edns) replies
 
 -- So is each reply to an update, which is a request of opcode Update, 5 (RFC 2136 section 1.3),
 abbrev pub UpdateRepliesFit : {S H : Type 0} → Ghosts H → (S → Signer) → Type 0

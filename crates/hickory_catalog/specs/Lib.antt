@@ -1,3 +1,4 @@
+pub mod Alone
 pub mod Authoritative
 pub mod AuthoritativeLaws
 pub mod DecodedReplies
@@ -10,10 +11,13 @@ pub mod Queries
 pub mod Replies
 pub mod ReplyEdns
 pub mod Requests
+pub mod Runs
+pub mod Search
 pub mod Sending
 pub mod Server
 pub mod Signing
 pub mod Transcripts
+pub mod TransferLaws
 pub mod Transfers
 pub mod Updates
 pub mod Zones

@@ -1,5 +1,5 @@
--- Where each call of a handler has one answer, a query has one reply.
-use Rattle.std.specs.Prelude.{◌≡◌, ℕ, Bool, false, Option, Some, None, Result}
+-- Where each call of a handler has one answer, a query has one list of replies.
+use Rattle.std.specs.Prelude.{◌≡◌, ℕ, Bool, false, List, Option, Some, None, Result}
 use Rattle.hickory_wire.specs.rr.domain.DomainName.{DomainName}
 use Rattle.hickory_wire.specs.op.EdnsFields.{EdnsFields}
 use Rattle.hickory_wire.specs.serialize.writing.Reply.{Reply}
@@ -13,7 +13,7 @@ use Rattle.hickory_base.specs.declared.errors.LookupError.{LookupError}
 use Rattle.hickory_base.specs.declared.zone_store.handler.ZoneHandler.{Ghosts}
 use Rattle.hickory_base.specs.declared.zone_store.lookup.LookupOptions.{LookupOptions}
 use Rattle.hickory_base.specs.declared.zone_store.lookup.ZoneTransfer.{ZoneTransfer}
-use Rattle.hickory_catalog.specs.Queries.{QueryReply, is_out_of_memory}
+use Rattle.hickory_catalog.specs.Queries.{QueryReplies, is_out_of_memory}
 use Rattle.hickory_catalog.specs.Server.{server_of}
 use Rattle.hickory_catalog.specs.Signing.{IsSignatureOf, Signer}
 use Rattle.hickory_catalog.specs.Transcripts.{wants_memory}
@@ -53,8 +53,8 @@ pub record AnswersOnce {H : Type 0} (handler : Ghosts H) : Type 0 where
 abbrev pub SignsOnce : Signer → Type 0
 SignsOnce signer = (context : TSigResponseContext) (unsigned : Reply) (one other : Option (Record TSIG)) → IsSignatureOf signer context unsigned one → IsSignatureOf signer context unsigned other → one ≡ other
 
--- A query has one reply at most.
+-- A query has one list of replies at most.
 abbrev pub OneReply : {S H : Type 0} → Ghosts H → (S → Signer) → Type 0
 OneReply {S} {H} handler signature_for = (catalog : Catalog S H) → AnswersOnce handler → SignsOnce (signature_for catalog.signer) → AreInOrder catalog.zones
-    → (request : ReceivedRequest) (edns : Option EdnsFields) (now : ℕ) (one other : Reply)
-    → QueryReply (server_of handler signature_for catalog) request edns now one → QueryReply (server_of handler signature_for catalog) request edns now other → one ≡ other
+    → (request : ReceivedRequest) (edns : Option EdnsFields) (now : ℕ) (one other : List Reply)
+    → QueryReplies (server_of handler signature_for catalog) request edns now one → QueryReplies (server_of handler signature_for catalog) request edns now other → one ≡ other

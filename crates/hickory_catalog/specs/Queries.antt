@@ -1,4 +1,4 @@
--- Which reply a query gets.
+-- Which replies a query gets.
 use Rattle.std.specs.Prelude.{◌≡◌, ◌==◌, ℕ, Bool, true, false, List, [], ◌∷◌, slice_get, Option, Some, None, Result, Ok, Err}
 use Rattle.hickory_wire.specs.rr.domain.DomainName.{DomainName}
 use Rattle.hickory_wire.specs.op.EdnsFields.{EdnsFields}
@@ -21,9 +21,9 @@ use Rattle.hickory_catalog.specs.Find.{Finds}
 use Rattle.hickory_catalog.specs.Forwarded.{forwarded_contents}
 use Rattle.hickory_catalog.specs.Replies.{Contents, error_reply}
 use Rattle.hickory_catalog.specs.Server.{Server}
-use Rattle.hickory_catalog.specs.Signing.{SignedReply}
+use Rattle.hickory_catalog.specs.Signing.{SignedReply, Signer}
 use Rattle.hickory_catalog.specs.Transcripts.{ChainAnswers, is_memory}
-use Rattle.hickory_catalog.specs.Transfers.{TransferAsked, transfer_contents}
+use Rattle.hickory_catalog.specs.Transfers.{AreTransferReplies, TransferAsked, is_split, transfer_contents}
 
 -- what a handler that is consulted is told to take care of: what the reply's EDNS says
 abbrev pub consult_options : Option EdnsFields → LookupOptions
@@ -41,19 +41,13 @@ abbrev pub is_out_of_memory : {T : Type 0} → Result T LookupError → Bool
 is_out_of_memory (Ok found) = false
 is_out_of_memory (Err e) = is_memory e
 
--- The reply to a query from the zone of this chain of handlers, at this moment. A transfer of the zone is of type AXFR, which is 252
--- (RFC 1035 section 3.2.3).
+-- The one reply to a query from the zone of this chain of handlers, at this moment, but to a transfer that a handler answers. A transfer of the
+-- zone is of type AXFR, which is 252 (RFC 1035 section 3.2.3).
 pub data ZoneReply {H : Type 0} (server : Server H) (chain : List H) (request : ReceivedRequest) (edns : Option EdnsFields) (now : ℕ) (query : Query) (reply : Reply) : Type 0 where
   -- Nobody answers a transfer: ServFail, which is 2. No signature is asked for.
   untransferred : (query.query_type == 252) ≡ true
       → TransferAsked server.handler request now chain None
       → reply ≡ error_reply request.message edns 2 → ZoneReply server chain request edns now query reply
-  -- A handler gives the transfer, or says why not.
-  transfer : {result : Result ZoneTransfer LookupError} {context : Option TSigResponseContext} → (query.query_type == 252) ≡ true
-      → TransferAsked server.handler request now chain (Some (result, context))
-      → is_out_of_memory result ≡ false
-      → SignedReply server.signer request.message edns (transfer_contents request.message.metadata result) context reply
-      → ZoneReply server chain request edns now query reply
   -- Nobody answers a lookup: ServFail. No signature is asked for.
   unanswered : {place : ℕ} {final : Flow} {context : Option TSigResponseContext} → (query.query_type == 252) ≡ false
       → ChainAnswers server.handler request (information request query) (consult_options edns) chain place final context
@@ -68,23 +62,40 @@ pub data ZoneReply {H : Type 0} (server : Server H) (chain : List H) (request : 
       → SignedReply server.signer request.message edns contents context reply
       → ZoneReply server chain request edns now query reply
 
--- The reply to a query, with this EDNS, at this moment.
-pub data QueryReply {H : Type 0} (server : Server H) (request : ReceivedRequest) (edns : Option EdnsFields) (now : ℕ) (reply : Reply) : Type 0 where
+-- The replies to a transfer, where a handler gives it or says why not.
+pub data GivenReplies (signer : Signer) (request : ReceivedRequest) (edns : Option EdnsFields) (result : Result ZoneTransfer LookupError) (context : Option TSigResponseContext) (replies : List Reply) : Type 0 where
+  -- It is sent in one reply.
+  whole : {reply : Reply} → is_out_of_memory result ≡ false → is_split request.protocol result context ≡ false
+      → SignedReply signer request.message edns (transfer_contents request.message.metadata result) context reply
+      → replies ≡ reply ∷ [] → GivenReplies signer request edns result context replies
+  -- It is sent in as many as it takes.
+  split : {transfer : ZoneTransfer} → result ≡ Ok transfer → context ≡ None → is_split request.protocol result context ≡ true
+      → AreTransferReplies request.message edns transfer.records replies → GivenReplies signer request edns result context replies
+
+-- The replies to a query from the zone of this chain.
+pub data ZoneReplies {H : Type 0} (server : Server H) (chain : List H) (request : ReceivedRequest) (edns : Option EdnsFields) (now : ℕ) (query : Query) (replies : List Reply) : Type 0 where
+  one : {reply : Reply} → ZoneReply server chain request edns now query reply → replies ≡ reply ∷ [] → ZoneReplies server chain request edns now query replies
+  -- A handler gives the transfer, or says why not.
+  transfer : {result : Result ZoneTransfer LookupError} {context : Option TSigResponseContext} → (query.query_type == 252) ≡ true
+      → TransferAsked server.handler request now chain (Some (result, context))
+      → GivenReplies server.signer request edns result context replies
+      → ZoneReplies server chain request edns now query replies
+
+-- The replies to a query, with this EDNS, at this moment.
+pub data QueryReplies {H : Type 0} (server : Server H) (request : ReceivedRequest) (edns : Option EdnsFields) (now : ℕ) (replies : List Reply) : Type 0 where
   -- There is not just one question: FormErr, which is 1.
   other_count : {e : LookupError} → one_query request.message.queries.queries ≡ Err e
-      → reply ≡ error_reply request.message edns 1 → QueryReply server request edns now reply
+      → replies ≡ error_reply request.message edns 1 ∷ [] → QueryReplies server request edns now replies
   -- No zone answers for the name: Refused, which is 5.
   no_zone : {query : Query} → one_query request.message.queries.queries ≡ Ok query
       → Finds server.zones (lower_name query.name) None
-      → reply ≡ error_reply request.message edns 5 → QueryReply server request edns now reply
+      → replies ≡ error_reply request.message edns 5 ∷ [] → QueryReplies server request edns now replies
   -- The zone of this chain answers for the name.
   zone : {query : Query} {chain : List H} → one_query request.message.queries.queries ≡ Ok query
       → Finds server.zones (lower_name query.name) (Some chain)
-      → ZoneReply server chain request edns now query reply → QueryReply server request edns now reply
+      → ZoneReplies server chain request edns now query replies → QueryReplies server request edns now replies
 
--- What a query comes to: the replies that are sent, for now one, and the zones after it, which are as they were.
+-- What a query comes to: the replies that are sent, and the zones after it, which are as they were.
 pub record QueryAnswered {H : Type 0} (server : Server H) (request : ReceivedRequest) (edns : Option EdnsFields) (now : ℕ) (replies : List Reply) (zones : List (DomainName × List H)) : Type 0 where
-  pub reply : Reply
-  pub is_reply : QueryReply server request edns now reply
-  pub only : replies ≡ reply ∷ []
+  pub are_replies : QueryReplies server request edns now replies
   pub kept : zones ≡ server.zones

@@ -1,6 +1,5 @@
 -- Which reply a request gets.
 use Rattle.std.specs.Prelude.{◌≡◌, ◌==◌, ◌||◌, ℕ, Bool, true, false, cond, List, [], ◌∷◌, Option, Some, None, is_some}
-use Rattle.std.specs.Bool.{MatchBool}
 use Rattle.hickory_wire.specs.rr.domain.DomainName.{DomainName}
 use Rattle.hickory_wire.specs.op.EdnsFields.{EdnsFields}
 use Rattle.hickory_wire.specs.serialize.writing.Reply.{Reply}
@@ -9,7 +8,7 @@ use Rattle.hickory_wire.specs.declared.op.header.MessageType.TheVariants as mess
 use Rattle.hickory_base.specs.requests.Questions.{edns_version}
 use Rattle.hickory_base.specs.requests.Requests.{ReceivedRequest}
 use Rattle.hickory_base.specs.declared.errors.CatalogError.{CatalogError}
-use Rattle.hickory_base.specs.declared.errors.CatalogError.TheVariants.{Memory}
+use Rattle.hickory_base.specs.declared.errors.CatalogError.TheVariants.{Memory, MemoryAfterUpdate}
 use Rattle.hickory_base.specs.declared.requests.message_request.MessageRequest.{MessageRequest}
 use Rattle.hickory_catalog.specs.Queries.{QueryAnswered}
 use Rattle.hickory_catalog.specs.Replies.{error_reply}
@@ -50,7 +49,9 @@ pub data RequestAnswered {H : Type 0} (server : Server H) (request : ReceivedReq
 
 -- The zones after a request where memory was refused and no reply was sent: they are as before, but where an update had been made.
 abbrev pub RequestLeaves : {H : Type 0} → Server H → ReceivedRequest → ℕ → CatalogError → List (DomainName × List H) → Type 0
-RequestLeaves server request now e zones = MatchBool (request.message.metadata.op_code == 5) (UpdateLeaves server request now e zones) ((e ≡ Memory) × (zones ≡ server.zones))
+RequestLeaves server request now Memory zones = zones ≡ server.zones
+RequestLeaves server request now MemoryAfterUpdate zones = (request_fault request.message ≡ None) × ((request.message.metadata.op_code == 5) ≡ true)
+    × UpdateLeaves server request now MemoryAfterUpdate zones
 
 -- A reply has the identifier of its request (RFC 1035 section 4.1.1), and an OPT record just where there is EDNS for it (RFC 6891
 -- sections 6.1.1 and 7). TC is set only where it is cut when it is written.

@@ -1,5 +1,6 @@
--- How one reply reaches a sink, and what the caller is told.
-use Rattle.std.specs.Prelude.{◌≡◌, ◌+◌, ◌%◌, ◌^◌, ◌⊎◌, ℕ, List}
+-- How replies reach a sink, and what the caller is told.
+use Rattle.std.specs.Prelude.{◌≡◌, ◌+◌, ◌%◌, ◌^◌, ◌⊎◌, ◌++◌, ◌∷◌, [], ℕ, List}
+use Rattle.std.specs.List.{AllZip}
 use Rattle.hickory_wire.specs.op.Metadata.{bare_metadata}
 use Rattle.hickory_wire.specs.serialize.writing.Reply.{Reply}
 use Rattle.hickory_wire.specs.declared.op.header.Header.{Header}
@@ -39,3 +40,30 @@ abbrev pub Sends : {S Entry Settings : Type 0} → Ghosts S Entry Settings → M
 Sends sink request old new reply told = (sink.settings new ≡ sink.settings old)
     × (IsTaken (sink.shows (sink.settings old)) (sink.informs (sink.settings old)) (sink.entries old) (sink.entries new) (sink.failures old) (sink.failures new) reply told
     ⊎ IsFailed (sink.shows (sink.settings old)) request (sink.entries old) (sink.entries new) (sink.failures old) (sink.failures new) reply told)
+
+-- The reply was handed over, once, and the sink took it, or it failed: the two ways of `Sends`.
+abbrev pub Takes : {S Entry Settings : Type 0} → Ghosts S Entry Settings → S → S → Reply → Header → Type 0
+Takes sink old new reply told = (sink.settings new ≡ sink.settings old)
+    × IsTaken (sink.shows (sink.settings old)) (sink.informs (sink.settings old)) (sink.entries old) (sink.entries new) (sink.failures old) (sink.failures new) reply told
+
+abbrev pub Fails : {S Entry Settings : Type 0} → Ghosts S Entry Settings → Metadata → S → S → Reply → Header → Type 0
+Fails sink request old new reply told = (sink.settings new ≡ sink.settings old)
+    × IsFailed (sink.shows (sink.settings old)) request (sink.entries old) (sink.entries new) (sink.failures old) (sink.failures new) reply told
+
+-- The sink took these replies, one entry for each, in their order, and counted no failure.
+pub record AreTaken {S Entry Settings : Type 0} (sink : Ghosts S Entry Settings) (old new : S) (replies : List Reply) : Type 0 where
+  pub settled : sink.settings new ≡ sink.settings old
+  pub uncounted : sink.failures new ≡ sink.failures old
+  pub added : List Entry
+  pub shown : AllZip (sink.shows (sink.settings old)) replies added
+  pub grew : sink.entries new ≡ sink.entries old ++ added
+
+-- The replies to a request were handed over in their order, each once, up to the first at which the sink failed. What is told is of the last that
+-- was handed over.
+pub data SendsInOrder {S Entry Settings : Type 0} (sink : Ghosts S Entry Settings) (request : Metadata) (old new : S) (replies : List Reply) (told : Header) : Type 0 where
+  -- All were handed over. At the last the sink may have failed.
+  whole : {earlier : List Reply} {reply : Reply} {between : S} → replies ≡ earlier ++ reply ∷ []
+      → AreTaken sink old between earlier → Sends sink request between new reply told → SendsInOrder sink request old new replies told
+  -- The sink failed, and what stands behind that reply was not handed over.
+  ended : {earlier : List Reply} {reply : Reply} {between : S} (later : List Reply) → replies ≡ earlier ++ reply ∷ later
+      → AreTaken sink old between earlier → Fails sink request between new reply told → SendsInOrder sink request old new replies told

@@ -1,13 +1,14 @@
 //! The catalog: which zone answers a request, and with what reply.
 
-ghost use Rattle.std.specs.Prelude.{◌≡◌, ◌↔◌, [], ◌∷◌, Some, None, IfOk, IfErr, OnErr, IsTrue, option_map};
+ghost use Rattle.std.specs.Prelude.{◌≡◌, ◌↔◌, List, [], ◌∷◌, Some, None, IfOk, IfErr, OnErr, IsTrue, option_map};
+ghost use Rattle.std.specs.List.{AllByRecursion};
 ghost use Rattle.std.specs.Option.{option_copied};
 ghost use Rattle.hickory_wire.specs.serialize.writing.Reply.{Reply};
 ghost use Rattle.hickory_base.specs.responses.Responses.{header_of};
 ghost use Rattle.hickory_catalog.specs.Find.{Finds};
 ghost use Rattle.hickory_catalog.specs.Queries.{QueryAnswered};
 ghost use Rattle.hickory_catalog.specs.Requests.{BelongsTo, RequestAnswered, RequestLeaves};
-ghost use Rattle.hickory_catalog.specs.Sending.{IsUntouched, Sends};
+ghost use Rattle.hickory_catalog.specs.Sending.{IsUntouched, Sends, SendsInOrder};
 ghost use Rattle.hickory_catalog.specs.Server.{server_of};
 ghost use Rattle.hickory_catalog.specs.Updates.{UpdateAnswered, UpdateLeaves};
 ghost use Rattle.hickory_catalog.specs.Zones.{AreInOrder, ChangesAt, HasZone};
@@ -104,8 +105,8 @@ impl<S: ReplySigner, H: ZoneHandler> Catalog<S, H> {
         self.nsid.as_ref()
     }
 
-    /// Answers a query by the handlers of its zone, and hands the sink one reply, with this EDNS. `now` is in seconds
-    /// since 1970. QR, opcode and EDNS version of the request are not looked at. The reply's OPT record has the high bits of
+    /// Answers a query by the handlers of its zone, and hands the sink one reply, or those of a transfer, with this EDNS.
+    /// `now` is in seconds since 1970. QR, opcode and EDNS version of the request are not looked at. The reply's OPT record has the high bits of
     /// its response code (RFC 6891 section 6.1.3).
     ///
     /// Where there is not just one question the reply is FormErr, where no zone answers for the name Refused. Else the
@@ -118,13 +119,16 @@ impl<S: ReplySigner, H: ZoneHandler> Catalog<S, H> {
     ///
     /// A transfer, of type AXFR, is asked of the handlers from left to right until one gives it or says why not; where none
     /// does, the reply is ServFail. The reply has AA and the records of the zone as answers (RFC 5936 section 2.2), or a
-    /// code without AA and without records.
+    /// code without AA and without records. A transfer that is given over another transport than UDP, without a context for
+    /// the signer, is sent in as many replies as it takes, which say the same but for their answers: each takes the next
+    /// records as long as it fits 65,535 bytes with every name in full, and one at least.
     ///
     /// Where the answer came with a context for the signer, the reply is written without a signature, within 65,535 bytes,
     /// and signed (RFC 8945 section 5.3). Where it cannot be written, or the signer fails, it is ServFail without records
     /// and without a signature. ServFail for want of an answer is not signed.
     ///
-    /// Where the sink fails the answer tells of ServFail. `Memory` says that no reply was handed over.
+    /// Where the sink fails the answer tells of ServFail, and no further reply is handed over. `Memory` says that no reply
+    /// was handed over.
     pub fn lookup<R: ResponseHandler>(
         &self,
         alloc: Global,
@@ -133,9 +137,9 @@ impl<S: ReplySigner, H: ZoneHandler> Catalog<S, H> {
         now: u64,
         sink: &mut R,
     ) -> Result<ResponseInfo, CatalogError>
-        ensures replied { IfOk result (λ info. (reply : Reply) ×
-            QueryAnswered (server_of H.ZoneHandler S.signature_for self.now) request.now (option_copied edns.entry) now (reply ∷ []) self.now.zones × BelongsTo request.now (option_copied edns.entry) reply ×
-            Sends R.ResponseHandler request.now.message.metadata sink.old sink.new reply (header_of info)) }
+        ensures replied { IfOk result (λ info. (replies : List Reply) ×
+            QueryAnswered (server_of H.ZoneHandler S.signature_for self.now) request.now (option_copied edns.entry) now replies self.now.zones × AllByRecursion (BelongsTo request.now (option_copied edns.entry)) replies ×
+            SendsInOrder R.ResponseHandler request.now.message.metadata sink.old sink.new replies (header_of info)) }
         ensures refused { IfErr result (λ e. (e ≡ CatalogError.Memory) × IsUntouched R.ResponseHandler sink.old sink.new) }
     {
         let mut edns = cloned(edns)?;
@@ -177,7 +181,7 @@ impl<S: ReplySigner, H: ZoneHandler> Catalog<S, H> {
 }
 
 impl<S: ReplySigner, H: ZoneHandler> RequestHandler for Catalog<S, H> {
-    /// Hands the sink one reply. Where the request has an OPT record, so has the reply: version 0, DO as asked, the payload
+    /// Hands the sink one reply, or those of a transfer. Where the request has an OPT record, so has the reply: version 0, DO as asked, the payload
     /// that was asked for but at least 512 bytes, and the server's identifier where it is set and the request asks for it
     /// (RFC 6891 section 6, RFC 5001).
     ///
@@ -195,9 +199,9 @@ impl<S: ReplySigner, H: ZoneHandler> RequestHandler for Catalog<S, H> {
         now: u64,
         sink: &mut R,
     ) -> Result<ResponseInfo, CatalogError>
-        ensures replied { IfOk result (λ info. (reply : Reply) ×
-            RequestAnswered (server_of H.ZoneHandler S.signature_for self.old) request.now now (reply ∷ []) self.new.zones × BelongsTo request.now request.now.message.edns reply ×
-            Sends R.ResponseHandler request.now.message.metadata sink.old sink.new reply (header_of info)) }
+        ensures replied { IfOk result (λ info. (replies : List Reply) ×
+            RequestAnswered (server_of H.ZoneHandler S.signature_for self.old) request.now now replies self.new.zones × AllByRecursion (BelongsTo request.now request.now.message.edns) replies ×
+            SendsInOrder R.ResponseHandler request.now.message.metadata sink.old sink.new replies (header_of info)) }
         ensures refused { IfErr result (λ e. RequestLeaves (server_of H.ZoneHandler S.signature_for self.old) request.now now e self.new.zones ×
             IsUntouched R.ResponseHandler sink.old sink.new) }
         ensures others { self.new ≡ record self.old { zones = self.new.zones } }

@@ -107,3 +107,35 @@ pub(crate) fn response<'q>(
         contents.additionals.as_slice().iter(),
     )
 }
+
+/// A reply whose answers are lent, and which has no other records.
+type AnswersResponse<'q> = MessageResponse<
+    'q,
+    'q,
+    Iter<'q, Record>,
+    EmptySection<'q>,
+    EmptySection<'q>,
+    EmptySection<'q>,
+>;
+
+/// The reply to a request of this metadata and these answers, with this EDNS, and without a signature.
+pub(crate) fn answers_response<'q>(
+    request: &'q MessageRequest,
+    edns: Option<&'q Edns>,
+    metadata: Metadata,
+    answers: &'q [Record],
+) -> AnswersResponse<'q>
+    ensures parts { IsBuilt (record { questions = request.now.queries; edns = option_copied edns.entry }) metadata result }
+    ensures answers { iter_rest result.answers ≡ answers.now }
+    ensures authorities { once_item result.authorities ≡ None }
+    ensures soa { once_item result.soa ≡ None }
+    ensures additionals { once_item result.additionals ≡ None }
+{
+    MessageResponseBuilder::new(&request.queries, edns).build(
+        metadata,
+        answers.iter(),
+        iter::empty::<&Record>(),
+        iter::empty::<&Record>(),
+        iter::empty::<&Record>(),
+    )
+}

@@ -1,11 +1,19 @@
 //! Laws of the definitions, each the contract of a function with nothing to do.
 
+ghost use Rattle.std.specs.Prelude.{◌≡◌, List};
+ghost use Rattle.hickory_wire.specs.serialize.writing.Reply.{Reply};
+ghost use Rattle.hickory_wire.specs.declared.op.header.Header.{Header};
+ghost use Rattle.hickory_wire.specs.declared.op.header.Metadata.{Metadata};
+ghost use Rattle.hickory_catalog.specs.Alone.{ApexesStay, OfZoneIsDecided, OneChain, OthersStay, ServedAlone};
 ghost use Rattle.hickory_catalog.specs.AuthoritativeLaws.{AuthoritativeCodes, AuthoritativeHeaders, NegativeReplies, ReferralsAreNoAnswers};
 ghost use Rattle.hickory_catalog.specs.DecodedReplies.{CatalogReplyDecodes, ErrorRepliesFit, QueryRepliesFit, ReplyEdnsFits, SignedRepliesFit, UpdateRepliesFit};
 ghost use Rattle.hickory_catalog.specs.ForwardedLaws.{AuthenticWhereProved, DnssecRecordsOnDemand, ForwardedCodes, ForwardedHeaders, NothingBogusPassedOn, RefusedWithoutRecursion, SoaOfNegativeAnswer};
 ghost use Rattle.hickory_catalog.specs.OneReply.{OneReply};
+ghost use Rattle.hickory_catalog.specs.Sending.{AreTaken, SendsInOrder};
+ghost use Rattle.hickory_catalog.specs.TransferLaws.{AnswersAreTheTransfer, NoAnswerIsCut, OneWayToRun};
 
 use crate::signer::ReplySigner;
+use hickory_base::server::ResponseHandler;
 use hickory_base::zone_store::ZoneHandler;
 use hickory_wire::encoder_laws::what_reads_back_is_written;
 use hickory_wire::record_laws::questions_of_replies;
@@ -57,7 +65,31 @@ pub fn replies_decode()
     questions_of_replies();
 }
 
-/// Where each call of a handler has one answer, want of memory aside, and the signer one for each reply, a query has one reply.
+/// What the replies of a transfer that is sent in as many as it takes have of it: their answers, one after the other, are its records; there is one
+/// way to take these in runs; and none is cut that has more than one answer (RFC 5936 section 2.2).
+pub fn transfers_in_several_replies()
+    ensures joined { AnswersAreTheTransfer }
+    ensures once { OneWayToRun }
+    ensures uncut { NoAnswerIsCut }
+{}
+
+/// Each zone is served as if it were the only one: a request to it has the replies that it would have there, and leaves it as it would there; any
+/// other request leaves it as it was; no request makes or removes a zone; and of each request it is decided whether it is to a zone.
+pub fn zones_apart<S: ReplySigner, H: ZoneHandler>()
+    ensures alone { ServedAlone H.ZoneHandler S.signature_for }
+    ensures others { OthersStay H.ZoneHandler S.signature_for }
+    ensures apexes { ApexesStay H.ZoneHandler S.signature_for }
+    ensures one_chain { OneChain H }
+    ensures decided { OfZoneIsDecided H }
+{}
+
+/// A sink that counted no failure took all replies that were handed over, in their order, one entry for each.
+pub fn replies_taken<R: ResponseHandler>()
+    ensures { (request : Metadata) (old new : R) (replies : List Reply) (told : Header) → SendsInOrder R.ResponseHandler request old new replies told
+        → R.failures new ≡ R.failures old → AreTaken R.ResponseHandler old new replies }
+{}
+
+/// Where each call of a handler has one answer, want of memory aside, and the signer one for each reply, a query has one list of replies.
 pub fn one_reply<S: ReplySigner, H: ZoneHandler>()
     ensures { OneReply H.ZoneHandler S.signature_for }
 {}

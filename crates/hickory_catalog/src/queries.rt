@@ -1,11 +1,11 @@
-//! From a query to its one reply.
+//! From a query to its replies.
 
-ghost use Rattle.std.specs.Prelude.{◌≡◌, ◌==◌, true, false, IfOk, IfErr};
+ghost use Rattle.std.specs.Prelude.{◌≡◌, ◌==◌, true, false, List, IfOk, IfErr};
 ghost use Rattle.hickory_wire.specs.serialize.writing.Reply.{Reply};
 ghost use Rattle.hickory_base.specs.responses.Responses.{header_of};
-ghost use Rattle.hickory_catalog.specs.Queries.{HandlerReply, QueryReply, ZoneReply, is_out_of_memory};
+ghost use Rattle.hickory_catalog.specs.Queries.{GivenReplies, HandlerReply, QueryReplies, ZoneReplies, ZoneReply, is_out_of_memory};
 ghost use Rattle.hickory_catalog.specs.Replies.{Contents, contents_of};
-ghost use Rattle.hickory_catalog.specs.Sending.{IsUntouched, Sends};
+ghost use Rattle.hickory_catalog.specs.Sending.{IsUntouched, Sends, SendsInOrder};
 ghost use Rattle.hickory_catalog.specs.Server.{server_of};
 ghost use Rattle.hickory_catalog.specs.Signing.{SignedReply};
 ghost use Rattle.hickory_catalog.specs.Transfers.{transfer_contents};
@@ -18,7 +18,8 @@ use crate::forwarded::forwarded_contents;
 use crate::sending::send_error;
 use crate::signer::ReplySigner;
 use crate::signing::send_signed;
-use crate::transfers::{ask_for_transfer, transfer_contents};
+use crate::transfer_replies::send_transfer;
+use crate::transfers::{ask_for_transfer, split_records, transfer_contents};
 use hickory_base::errors::{CatalogError, LookupError};
 use hickory_base::server::{Request, RequestInfo, ResponseHandler, ResponseInfo};
 use hickory_base::zone_store::{AuthLookup, LookupOptions, ZoneHandler, ZoneTransfer, ZoneType};
@@ -108,7 +109,7 @@ fn answer_outcome<S: ReplySigner, H: ZoneHandler, R: ResponseHandler>(
     told
 }
 
-/// Answers to what a handler gave for a transfer.
+/// Answers to what a handler gave for a transfer, in one reply.
 fn answer_transferred<S: ReplySigner, R: ResponseHandler>(
     signer: &S,
     alloc: Global,
@@ -141,16 +142,38 @@ fn answer_transferred<S: ReplySigner, R: ResponseHandler>(
     told
 }
 
-/// Answers a transfer of a zone by its handlers, and hands the reply over, with this EDNS.
+/// Answers to what a handler gave for a transfer, in as many replies as it takes.
+fn answer_given<S: ReplySigner, R: ResponseHandler>(
+    signer: &S,
+    alloc: Global,
+    request: &Request,
+    edns: &mut Option<Edns>,
+    outcome: Result<ZoneTransfer, LookupError>,
+    context: &Option<TSigResponseContext>,
+    sink: &mut R,
+) -> Result<ResponseInfo, CatalogError>
+    ensures replied { IfOk result (λ info. (replies : List Reply) × GivenReplies (S.signature_for signer.now) request.now edns.old outcome context.now replies ×
+        SendsInOrder R.ResponseHandler request.now.message.metadata sink.old sink.new replies (header_of info)) }
+    ensures refused { IfErr result (λ e. (e ≡ CatalogError.Memory) × IsUntouched R.ResponseHandler sink.old sink.new) }
+{
+    if let Some(records) = split_records(request.protocol(), &outcome, context) {
+        let told = send_transfer(sink, alloc, request.message(), edns, records);
+        drop(outcome);
+        return Ok(told);
+    }
+    answer_transferred(signer, alloc, request, edns, outcome, context, sink)
+}
+
+/// Answers a transfer of a zone by its handlers, and hands its replies over, with this EDNS.
 fn answer_transfer<S: ReplySigner, H: ZoneHandler, R: ResponseHandler>(
     asked: &ZoneQuery<'_, S, H>,
     edns: &mut Option<Edns>,
     sink: &mut R,
 ) -> Result<ResponseInfo, CatalogError>
     requires { (asked.now.query.now.query_type == 252) ≡ true }
-    ensures replied { IfOk result (λ info. (reply : Reply) ×
-        ZoneReply (server_of H.ZoneHandler S.signature_for asked.now.catalog.now) asked.now.chain.now asked.now.request.now edns.old asked.now.moment asked.now.query.now reply ×
-        Sends R.ResponseHandler asked.now.request.now.message.metadata sink.old sink.new reply (header_of info)) }
+    ensures replied { IfOk result (λ info. (replies : List Reply) ×
+        ZoneReplies (server_of H.ZoneHandler S.signature_for asked.now.catalog.now) asked.now.chain.now asked.now.request.now edns.old asked.now.moment asked.now.query.now replies ×
+        SendsInOrder R.ResponseHandler asked.now.request.now.message.metadata sink.old sink.new replies (header_of info)) }
     ensures refused { IfErr result (λ e. (e ≡ CatalogError.Memory) × IsUntouched R.ResponseHandler sink.old sink.new) }
 {
     let alloc = asked.alloc;
@@ -161,15 +184,8 @@ fn answer_transfer<S: ReplySigner, H: ZoneHandler, R: ResponseHandler>(
             Ok(send_error(sink, alloc, message, edns, ResponseCode::SERV_FAIL))
         }
         Some((outcome, context)) => {
-            let told = answer_transferred(
-                &asked.catalog.signer,
-                alloc,
-                request,
-                edns,
-                outcome,
-                &context,
-                sink,
-            );
+            let signer = &asked.catalog.signer;
+            let told = answer_given(signer, alloc, request, edns, outcome, &context, sink);
             drop(context);
             told
         }
@@ -218,7 +234,7 @@ fn answer_lookup<S: ReplySigner, H: ZoneHandler, R: ResponseHandler>(
     }
 }
 
-/// Answers a query, and hands the reply over, with this EDNS.
+/// Answers a query, and hands the replies over, with this EDNS.
 pub(crate) fn answer_query<S: ReplySigner, H: ZoneHandler, R: ResponseHandler>(
     catalog: &Catalog<S, H>,
     alloc: Global,
@@ -227,9 +243,9 @@ pub(crate) fn answer_query<S: ReplySigner, H: ZoneHandler, R: ResponseHandler>(
     now: u64,
     sink: &mut R,
 ) -> Result<ResponseInfo, CatalogError>
-    ensures replied { IfOk result (λ info. (reply : Reply) ×
-        QueryReply (server_of H.ZoneHandler S.signature_for catalog.now) request.now edns.old now reply ×
-        Sends R.ResponseHandler request.now.message.metadata sink.old sink.new reply (header_of info)) }
+    ensures replied { IfOk result (λ info. (replies : List Reply) ×
+        QueryReplies (server_of H.ZoneHandler S.signature_for catalog.now) request.now edns.old now replies ×
+        SendsInOrder R.ResponseHandler request.now.message.metadata sink.old sink.new replies (header_of info)) }
     ensures refused { IfErr result (λ e. (e ≡ CatalogError.Memory) × IsUntouched R.ResponseHandler sink.old sink.new) }
 {
     let message = request.message();

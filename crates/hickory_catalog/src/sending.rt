@@ -1,14 +1,16 @@
 //! Handing replies to a sink.
 
-ghost use Rattle.std.specs.Prelude.{◌≡◌};
+ghost use Rattle.std.specs.Prelude.{◌≡◌, IfOk, IfErr};
 ghost use Rattle.std.specs.Iterator.{IsFinite};
 ghost use Rattle.std.specs.Option.{option_copied};
 ghost use Rattle.hickory_wire.specs.serialize.writing.Reply.{Reply};
 ghost use Rattle.hickory_base.specs.responses.Responses.{IsReplyBy, header_of};
 ghost use Rattle.hickory_catalog.specs.Replies.{contents_of, error_reply, plain_reply};
-ghost use Rattle.hickory_catalog.specs.Sending.{Sends, failure_header};
+ghost use Rattle.hickory_catalog.specs.Sending.{Fails, Sends, Takes, failure_header};
+ghost use Rattle.hickory_catalog.specs.Transfers.{message_of_transfer};
 
-use crate::contents::{ReplyContents, response};
+use crate::authoritative::authoritative_metadata;
+use crate::contents::{ReplyContents, answers_response, response};
 use crate::edns::set_high_code;
 use hickory_base::message_request::MessageRequest;
 use hickory_base::message_response::MessageResponse;
@@ -35,13 +37,13 @@ fn failure(request: &Metadata) -> ResponseInfo
     })
 }
 
-/// Hands a response over, once, and tells what the sink tells of it. Where the sink fails, a failure is told.
-fn send<'q, 'a, R, A, N, S, D>(
+/// Hands a response over, once. The answer tells what the sink tells of it, or where the sink fails that it failed.
+fn send_once<'q, 'a, R, A, N, S, D>(
     sink: &mut R,
     alloc: Global,
     request: &Metadata,
     response: MessageResponse<'q, 'a, A, N, S, D>,
-) -> ResponseInfo
+) -> Result<ResponseInfo, ResponseInfo>
 where
     R: ResponseHandler,
     A: Iterator + Drop,
@@ -57,12 +59,25 @@ where
     requires soa { S.can_next response.soa × IsFinite (S.remaining response.soa) }
     requires additionals { D.can_next response.additionals × IsFinite (D.remaining response.additionals) }
     // The reply that is sent is the one that the response determines.
-    ensures { (reply : Reply) → ((r : Reply) → IsReplyBy A.next_gives A.Item.record_of N.next_gives N.Item.record_of S.next_gives S.Item.record_of D.next_gives D.Item.record_of response.entry r → r ≡ reply)
-        → Sends R.ResponseHandler request.now sink.old sink.new reply (header_of result) }
+    ensures taken { IfOk result (λ info. (reply : Reply) → ((r : Reply) → IsReplyBy A.next_gives A.Item.record_of N.next_gives N.Item.record_of S.next_gives S.Item.record_of D.next_gives D.Item.record_of response.entry r → r ≡ reply)
+        → Takes R.ResponseHandler sink.old sink.new reply (header_of info)) }
+    ensures failed { IfErr result (λ info. (reply : Reply) → ((r : Reply) → IsReplyBy A.next_gives A.Item.record_of N.next_gives N.Item.record_of S.next_gives S.Item.record_of D.next_gives D.Item.record_of response.entry r → r ≡ reply)
+        → Fails R.ResponseHandler request.now sink.old sink.new reply (header_of info)) }
 {
     match sink.send_response(alloc, response) {
+        Ok(info) => Ok(info),
+        Err(_) => Err(failure(request)),
+    }
+}
+
+/// What is told of a reply, whether the sink took it or failed.
+fn told(handed: Result<ResponseInfo, ResponseInfo>) -> ResponseInfo
+    ensures taken { IfOk handed (λ info. result ≡ info) }
+    ensures failed { IfErr handed (λ info. result ≡ info) }
+{
+    match handed {
         Ok(info) => info,
-        Err(_) => failure(request),
+        Err(info) => info,
     }
 }
 
@@ -80,7 +95,24 @@ pub(crate) fn send_contents<R: ResponseHandler>(
 {
     let mut response = response(request, edns, contents);
     response.signature = signature;
-    send(sink, alloc, &request.metadata, response)
+    told(send_once(sink, alloc, &request.metadata, response))
+}
+
+/// Hands over the records of one reply of a transfer, with this EDNS. The answer tells what the sink tells of it, or where the sink fails that it
+/// failed.
+pub(crate) fn send_records<R: ResponseHandler>(
+    sink: &mut R,
+    alloc: Global,
+    request: &MessageRequest,
+    edns: Option<&Edns>,
+    records: &[Record],
+) -> Result<ResponseInfo, ResponseInfo>
+    ensures taken { IfOk result (λ info. Takes R.ResponseHandler sink.old sink.new (message_of_transfer request.now (option_copied edns.entry) records.now) (header_of info)) }
+    ensures failed { IfErr result (λ info. Fails R.ResponseHandler request.now.metadata sink.old sink.new (message_of_transfer request.now (option_copied edns.entry) records.now) (header_of info)) }
+{
+    let metadata = authoritative_metadata(&request.metadata, ResponseCode::NO_ERROR);
+    let response = answers_response(request, edns, metadata, records);
+    send_once(sink, alloc, &request.metadata, response)
 }
 
 /// Hands an error reply over, with this EDNS: a response code, and no records.

@@ -1,8 +1,8 @@
 //! Transfers of whole zones (RFC 5936).
 
-ghost use Rattle.std.specs.Prelude.{◌≡◌};
+ghost use Rattle.std.specs.Prelude.{◌≡◌, true, false, None, Ok, IfSome, IfNone};
 ghost use Rattle.hickory_catalog.specs.Replies.{contents_of};
-ghost use Rattle.hickory_catalog.specs.Transfers.{TransferAsked, transfer_contents, transfer_fault};
+ghost use Rattle.hickory_catalog.specs.Transfers.{TransferAsked, is_split, transfer_contents, transfer_fault};
 
 use crate::authoritative::{authoritative_metadata, negative_code, refusal_code};
 use crate::chains::options_of;
@@ -10,7 +10,7 @@ use crate::contents::ReplyContents;
 use hickory_base::errors::LookupError;
 use hickory_base::server::Request;
 use hickory_base::zone_store::{ZoneHandler, ZoneTransfer};
-use hickory_wire::{Metadata, ResponseCode, TSigResponseContext};
+use hickory_wire::{Metadata, Protocol, Record, ResponseCode, TSigResponseContext};
 use std::alloc::Global;
 
 /// Asks the handlers of a chain for a transfer of the zone, from left to right. After `None` the next one is asked.
@@ -35,6 +35,26 @@ pub(crate) fn ask_for_transfer<H: ZoneHandler>(
         }
     }
     None
+}
+
+/// The records of a transfer that is sent in as many replies as it takes, if it is.
+pub(crate) fn split_records<'t>(
+    transport: Protocol,
+    outcome: &'t Result<ZoneTransfer, LookupError>,
+    context: &Option<TSigResponseContext>,
+) -> Option<&'t [Record]>
+    ensures split { IfSome result (λ records. (context.now ≡ None) × (outcome.now ≡ Ok (record { records = records.now })) × (is_split transport outcome.now context.now ≡ true)) }
+    ensures whole { IfNone result (is_split transport outcome.now context.now ≡ false) }
+{
+    match outcome {
+        Ok(transfer) => {
+            if transport == Protocol::Udp || context.is_some() {
+                return None;
+            }
+            Some(transfer.records.as_slice())
+        }
+        Err(_) => None,
+    }
 }
 
 /// The code of a transfer that is not given.

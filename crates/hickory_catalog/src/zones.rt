@@ -1,9 +1,11 @@
 //! The zones by name.
 
-ghost use Rattle.std.specs.Prelude.{◌≡◌, ◌↔◌, [], IfOk, IfErr, OnErr, IsTrue, Some, None, option_map};
+ghost use Rattle.std.specs.Prelude.{◌≡◌, ◌↔◌, [], true, IfOk, IfErr, OnErr, IsTrue, Some, None, option_map};
+ghost use Rattle.hickory_wire.specs.rr.domain.NameOrder.{Encloses};
 ghost use Rattle.hickory_catalog.specs.Zones.{AreInOrder, HasZone, ChangesAt};
 ghost use Rattle.hickory_catalog.specs.Updates.{ZoneUpdated};
 ghost use Rattle.hickory_catalog.specs.Find.{Finds, OneAnswers, CaseDoesNotMatter};
+ghost use Rattle.hickory_catalog.specs.Search.{AnswerFromAbove, IsSharedEnd, LastUpTo};
 
 use crate::updates::{ZoneUpdate, update_chain};
 use hickory_base::server::Request;
@@ -83,20 +85,47 @@ impl<H: Drop> Zones<H> {
         ensures found { IfOk result (λ found. Finds self.now name.now (option_map (λ chain. chain.now.items) found)) }
         ensures ordered { AreInOrder self.now }
     {
-        if let Some(chain) = self.chains.get(name) {
+        if !name.as_name().is_fqdn() {
+            return Ok(self.chains.get(name));
+        }
+        // What a name encloses stands right behind it, in the order of names: so this one is the nearest, or stands beside.
+        let Some((apex, chain)) = self.last_up_to(name) else {
+            return Ok(None);
+        };
+        if answers_for(apex, name) {
             return Ok(Some(chain));
         }
-        if !name.as_name().is_fqdn() {
-            return Ok(None);
-        }
+        self.find_above(name, apex)
+    }
+
+    /// The chain of handlers of the zone that answers for a fully qualified name, where only zones above both it and the
+    /// other name may answer.
+    fn find_above(&self, name: &LowerName, other: &LowerName) -> Result<Option<&Vec<H>>, AllocError>
+        requires qualified { name.now.is_fqdn ≡ true }
+        requires above { AnswerFromAbove self.now name.now other.now }
+        ensures { IfOk result (λ found. Finds self.now name.now (option_map (λ chain. chain.now.items) found)) }
+    {
         let mut ancestor = name.clone()?;
+        let mut beside = other;
         while !ancestor.as_name().is_root() {
-            ancestor.remove_first_label();
-            if let Some(chain) = self.chains.get(&ancestor) {
+            keep_shared_end(&mut ancestor, beside);
+            let Some((apex, chain)) = self.last_up_to(&ancestor) else {
+                return Ok(None);
+            };
+            if answers_for(apex, &ancestor) {
                 return Ok(Some(chain));
             }
+            beside = apex;
         }
         Ok(None)
+    }
+
+    /// The last zone, in the order of names, whose apex is the name or stands before it.
+    fn last_up_to(&self, name: &LowerName) -> Option<(&LowerName, &Vec<H>)>
+        ensures last { LastUpTo self.now name.now (option_map (λ zone. (zone.0.now, zone.1.now.items)) result) }
+        ensures ordered { AreInOrder self.now }
+    {
+        self.chains.range(..=name).next_back()
     }
 }
 
@@ -118,6 +147,23 @@ impl<H: ZoneHandler> Zones<H> {
             None => ZoneUpdate::NoHandler,
             Some((answer, context)) => ZoneUpdate::Answered(answer, context),
         }
+    }
+}
+
+/// Whether a zone of this apex answers for a fully qualified name, where no other one is nearer.
+fn answers_for(apex: &LowerName, name: &LowerName) -> bool
+    ensures { IsTrue result ↔ ((apex.now.is_fqdn ≡ true) × Encloses apex.now.labels name.now.labels) }
+{
+    apex.as_name().is_fqdn() && apex.as_name().zone_of(name.as_name())
+}
+
+/// Takes labels off the front of a name, one at least, until it encloses the other name.
+fn keep_shared_end(name: &mut LowerName, other: &LowerName)
+    ensures { IsSharedEnd name.old other.now name.new }
+{
+    name.remove_first_label();
+    while !name.as_name().zone_of(other.as_name()) {
+        name.remove_first_label();
     }
 }
 

@@ -1,0 +1,3 @@
+pub mod Isolation
+pub mod Serving
+pub mod ZoneFiles

@@ -1,5 +1,5 @@
-//! Records and messages as text: the lines of a zone's text (RFC 1035 section 5.1, RFC 3597 section 5), read, and whole
-//! messages, printed.
+//! Records and messages as text: the lines of a zone's text (RFC 1035 section 5.1, RFC 3597 section 5), and whole
+//! zone files, read, and whole messages, printed.
 //!
 //! Values are printed by their `Display`.
 
@@ -10,10 +10,13 @@ mod generic;
 mod message;
 mod names;
 mod record;
+mod ttl;
 mod words;
+mod zone_file;
 
 pub use crate::zone_text::data::read_data;
-pub use crate::zone_text::error::{TextError, TextFault};
+pub use crate::zone_text::error::{TextError, TextFault, ZoneFileError, ZoneFileFault};
 pub use crate::zone_text::message::MessageText;
 pub use crate::zone_text::names::read_name;
 pub use crate::zone_text::record::{read_class, read_record, read_type};
+pub use crate::zone_text::zone_file::read_zone_file;

@@ -23,9 +23,9 @@ ghost use Rattle.hickory_wire.specs.worked.Worked.{header_of_flags, with_counts,
 ghost use Rattle.hickory_wire.specs.worked.Worked.{saying, with_sig, opt_every_field, every_field, opt_record_at_root, opt_record_at_a, with_edns, with_signature, two_opts};
 ghost use Rattle.hickory_wire.specs.worked.Worked.{www_query, www_question, asking, www_message, chaos_query, chaos_question, chaos_message, query_version_one, version_one_message, message_of_two_opts, bad_version, bad_version_message, empty_message};
 ghost use Rattle.hickory_wire.specs.worked.WorkedLists.{additions_left_out, five_lists, five_lists_cut, five_lists_in_full, five_lists_truncated, five_lists_whole, formless_and_large};
-ghost use Rattle.hickory_wire.specs.serialize.writing.OwnerNames.{PutsRepeating};
-ghost use Rattle.hickory_wire.specs.worked.WorkedReplies.{www_answer, www_answer_bytes, www_answer_again, first_owner, www_reply, www_reply_in_full, www_reply_compressed, www_reply_cut, serv_fail, one_answer, answer_left_out, opt_alone, signature_alone, dnssec_ok_reply, dnssec_ok_bytes, bad_version_reply, bad_version_bytes, signed_reply, signed_bytes, long_reply, one_of_three, long_reply_cut, hundred_answers, sixteen_of_hundred, sixteen_answers, formless_reply};
-ghost use Rattle.hickory_wire.specs.serialize.writing.Writing.{Written, Encoded, written_header, fallback_header};
+ghost use Rattle.hickory_wire.specs.worked.WorkedPointers.{mail_reply, mail_bytes, large_reply, large_bytes, additional_alone};
+ghost use Rattle.hickory_wire.specs.worked.WorkedReplies.{www_answer, www_answer_bytes, www_answer_again, first_owner, www_reply, www_reply_in_full, www_reply_compressed, www_reply_cut, serv_fail, one_answer, answer_left_out, opt_alone, signature_alone, dnssec_ok_reply, dnssec_ok_bytes, bad_version_reply, bad_version_bytes, signed_reply, signed_bytes, long_reply, one_of_three, long_reply_cut, hundred_answers, thirty_of_hundred, thirty_answers, formless_reply};
+ghost use Rattle.hickory_wire.specs.serialize.writing.Writing.{Written, Encoded, PutsRepeating, written_header, fallback_header};
 ghost use Rattle.hickory_wire.specs.declared.error.DecodeError.TheVariants as decode_error;
 ghost use Rattle.hickory_wire.specs.declared.protocol.Protocol.TheVariants as protocol;
 ghost use Rattle.hickory_wire.specs.declared.rr.rdata.RData.TheVariants as rdata;
@@ -198,7 +198,7 @@ pub fn worked_replies()
     ensures not_left_out { ¬ Written 64 www_reply www_reply_cut answer_left_out }
     ensures question_alone { Written 33 www_reply www_reply_cut answer_left_out }
     ensures lists_cut_apart { Written 60 long_reply long_reply_cut one_of_three }
-    ensures hundred_answers { Written 512 hundred_answers sixteen_answers sixteen_of_hundred }
+    ensures hundred_answers { Written 512 hundred_answers thirty_answers thirty_of_hundred }
     ensures dnssec_ok { Written 512 dnssec_ok_reply dnssec_ok_bytes opt_alone }
     ensures bad_version { Written 512 bad_version_reply bad_version_bytes opt_alone }
     ensures signed { Written 512 signed_reply signed_bytes signature_alone }
@@ -209,6 +209,14 @@ pub fn worked_owner_names()
     ensures repeated { PutsRepeating 512 (first_owner ∷ []) www_reply_compressed (www_answer ∷ []) (www_reply_compressed ++ www_answer_again) }
     ensures in_full_again { ¬ PutsRepeating 512 (first_owner ∷ []) www_reply_compressed (www_answer ∷ []) (www_reply_compressed ++ www_answer_bytes) }
     ensures in_full_first { PutsRepeating 512 [] www_reply_compressed (www_answer ∷ []) (www_reply_compressed ++ www_answer_bytes) }
+{}
+
+/// As which bytes replies may be written with a name in data that ends in a pointer, and behind a record that was left out.
+pub fn worked_pointers()
+    ensures exchange { Written 512 mail_reply mail_bytes one_answer }
+    ensures exchange_read { ReadsAs message mail_bytes 0 (decoded_message mail_reply [] one_answer) 44 }
+    ensures behind_a_cut { Written 512 large_reply large_bytes additional_alone }
+    ensures behind_a_cut_read { ReadsAs message large_bytes 0 (decoded_message large_reply [] additional_alone) 41 }
 {}
 
 /// As which bytes a reply with all five lists may be written within a limit: in full, and without OPT and TSIG.
@@ -238,7 +246,7 @@ pub fn worked_decoding()
     ensures compressed { ReadsAs message www_reply_compressed 0 (decoded_message www_reply (www_question ∷ []) one_answer) 49 }
     ensures answer_left_out { ReadsAs message www_reply_cut 0 (decoded_message www_reply (www_question ∷ []) answer_left_out) 33 }
     ensures lists_cut_apart { ReadsAs message long_reply_cut 0 (decoded_message long_reply [] one_of_three) 58 }
-    ensures hundred_answers { ReadsAs message sixteen_answers 0 (decoded_message hundred_answers [] sixteen_of_hundred) 508 }
+    ensures hundred_answers { ReadsAs message thirty_answers 0 (decoded_message hundred_answers [] thirty_of_hundred) 507 }
     ensures dnssec_ok { ReadsAs message dnssec_ok_bytes 0 (decoded_message dnssec_ok_reply [] opt_alone) 23 }
     ensures bad_version { ReadsAs message bad_version_bytes 0 (decoded_message bad_version_reply [] opt_alone) 23 }
     ensures signed { ReadsAs message signed_bytes 0 (decoded_message signed_reply [] signature_alone) 40 }

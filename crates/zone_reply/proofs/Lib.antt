@@ -1,1 +1,1 @@
-pub mod LastEntry
+pub mod Serving

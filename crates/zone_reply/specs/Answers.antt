@@ -1,21 +1,22 @@
 -- What the command prints for its input, and the status that it gives.
-use Rattle.std.specs.Prelude.{◌≡◌, ◌⊎◌, ◌++◌, ◌∷◌, [], ℕ, List, Option, Some, None, IfSome, IsSome, Result, Ok, Err}
+use Rattle.std.specs.Prelude.{◌≡◌, ◌⊎◌, ◌++◌, ◌∷◌, [], ℕ, List, Option, Some, None, IfSome, IsSome, Result, Ok, Err, Contains}
 use Rattle.std.specs.Global.{Vec}
+use Rattle.std.specs.List.{flat_map}
 use Rattle.std.specs.Io.BufRead.{first_piece}
 use Rattle.std.specs.declared.net.SocketAddr.{SocketAddr}
 use Rattle.std.specs.declared.net.SocketAddr.TheVariants.{V4}
 use Rattle.hex.specs.Hex.{decode_of, encode_lower}
 use Rattle.hickory_wire.specs.rr.domain.DomainName.{DomainName}
-use Rattle.hickory_wire.specs.serialize.reading.MessageReading.{Reads}
-use Rattle.hickory_wire.specs.serialize.writing.Reply.{Reply}
 use Rattle.hickory_wire.specs.declared.error.ProtoError.{ProtoError}
 use Rattle.hickory_wire.specs.declared.protocol.Protocol.{Protocol}
-use Rattle.hickory_base.specs.requests.RequestReading.{IsFaultOf, IsQuestionSection, message_of}
-use Rattle.hickory_base.specs.requests.Requests.{ReceivedRequest}
-use Rattle.hickory_base.specs.declared.errors.CatalogError.{CatalogError}
-use Rattle.hickory_catalog.specs.Requests.{RequestAnswered, RequestLeaves}
+use Rattle.hickory_base.specs.requests.RequestReading.{IsFaultOf}
+use Rattle.hickory_base.specs.Access.{AccessSets, Network}
 use Rattle.hickory_catalog.specs.Server.{Server}
-use Rattle.hickory_base.specs.responses.EncodingSinks.{IsEncodingOf}
+use Rattle.hickory_server.specs.Serving.{LeavesUnserved, Step}
+use Rattle.hickory_server.specs.declared.server.serve.Incoming.{Incoming}
+use Rattle.hickory_server.specs.declared.server.serve.Outcome.{Outcome}
+use Rattle.hickory_server.specs.declared.server.serve.Outcome.TheVariants.{Replies}
+use Rattle.hickory_server.specs.declared.server.serve.ServeError.{ServeError}
 use Rattle.zone_reply.specs.Command.{transport_of, refusal_line, refusal_status}
 use Rattle.zone_reply.specs.declared.command.Refusal.{Refusal}
 use Rattle.zone_reply.specs.declared.command.Refusal.TheVariants.{Usage, NotHex, Unreadable, Memory}
@@ -24,34 +25,38 @@ use Rattle.zone_reply.specs.declared.command.Refusal.TheVariants.{Usage, NotHex,
 abbrev pub local_source : SocketAddr
 local_source = V4 (record { ip = record { octets = 127 ∷ 0 ∷ 0 ∷ 1 ∷ [] }; port = 53 })
 
--- The request is what these bytes are read as, from that source and over this transport (RFC 1035 section 4.1).
-pub record IsRequestOf (bytes : List ℕ) (protocol : Protocol) (request : ReceivedRequest) : Type 0 where
-  pub reads : Reads bytes (message_of request.message)
-  pub questions : IsQuestionSection bytes request.message.queries
-  pub raw : request.bytes ≡ bytes
-  pub source_is : request.source ≡ local_source
-  pub protocol_is : request.protocol ≡ protocol
+-- No network is denied, and none is allowed: each address may use the server.
+pub record IsOpen (access : AccessSets) : Type 0 where
+  pub deny : (network : Network) → ¬ (Contains access.deny network)
+  pub allow : (network : Network) → ¬ (Contains access.allow network)
 
--- The bytes are an encoding, at the transport's limit, of the one reply that the server gives to the request at the moment 0, and these are its
--- zones after it.
-pub record IsReplyToRequest {H : Type 0} (server : Server H) (protocol : Protocol) (request : ReceivedRequest) (bytes : List ℕ) (zones : List (DomainName × List H)) : Type 0 where
-  pub reply : Reply
-  pub is_reply : RequestAnswered server request 0 (reply ∷ []) zones
-  pub is_encoded : IsEncodingOf protocol reply bytes
+-- The message of these bytes as it came: from that source, over this transport, at the moment 0.
+pub record IsIncoming (protocol : Protocol) (bytes : List ℕ) (message : Incoming) : Type 0 where
+  pub bytes_are : message.bytes.items ≡ bytes
+  pub source_is : message.src ≡ local_source
+  pub protocol_is : message.protocol ≡ protocol
+  pub now_is : message.now ≡ 0
 
--- The bytes are an encoding of the reply to the request that the message is read as.
-pub record IsReplyTo {H : Type 0} (server : Server H) (protocol : Protocol) (message bytes : List ℕ) (zones : List (DomainName × List H)) : Type 0 where
-  pub request : ReceivedRequest
-  pub is_read : IsRequestOf message protocol request
-  pub is_reply : IsReplyToRequest server protocol request bytes zones
+-- What becomes of the message of these bytes, which comes alone, and the zones after it, where each address may use the server.
+pub record Becomes {H : Type 0} (server : Server H) (protocol : Protocol) (bytes : List ℕ) (outcome : Outcome) (zones : List (DomainName × List H)) : Type 0 where
+  pub message : Incoming
+  pub is_incoming : IsIncoming protocol bytes message
+  pub access : AccessSets
+  pub is_open : IsOpen access
+  pub step : Step access server message outcome zones
 
--- The zones after a request, whether it got a reply or memory was refused for one. Only an update changes any.
-abbrev pub RequestLeft : {H : Type 0} → Server H → ReceivedRequest → List (DomainName × List H) → Type 0
-RequestLeft server request zones = ((reply : Reply) × RequestAnswered server request 0 (reply ∷ []) zones) ⊎ ((e : CatalogError) × RequestLeaves server request 0 e zones)
+-- Memory was refused for the message of these bytes, and these are the zones after it.
+pub record Fails {H : Type 0} (server : Server H) (protocol : Protocol) (bytes : List ℕ) (zones : List (DomainName × List H)) : Type 0 where
+  pub message : Incoming
+  pub is_incoming : IsIncoming protocol bytes message
+  pub access : AccessSets
+  pub is_open : IsOpen access
+  pub e : ServeError
+  pub left : LeavesUnserved access server message e zones
 
--- The zones after a message: as before, or those after the request that it is read as.
+-- The zones after a message: as before, or as it left them, with its outcome or without memory for it. Only an update changes any.
 abbrev pub MessageLeft : {H : Type 0} → Server H → Protocol → List ℕ → List (DomainName × List H) → Type 0
-MessageLeft server protocol message zones = (zones ≡ server.zones) ⊎ ((request : ReceivedRequest) × IsRequestOf message protocol request × RequestLeft server request zones)
+MessageLeft server protocol bytes zones = (zones ≡ server.zones) ⊎ (((outcome : Outcome) × Becomes server protocol bytes outcome zones) ⊎ Fails server protocol bytes zones)
 
 -- Why there is no reply to a message: it cannot be read, or memory is refused.
 abbrev pub IsRefusedMessage : List ℕ → Refusal → Type 0
@@ -80,33 +85,37 @@ IsRefusedInput Unreadable = ⊥
 abbrev pub hex_line : List ℕ → List ℕ
 hex_line bytes = encode_lower bytes ++ 10 ∷ []
 
--- The line is that of an encoded reply to the message of the input, over the transport that the arguments name.
-pub record IsReplyLine {H : Type 0} (server : Server H) (arguments : List (List ℕ)) (input : Option (List ℕ)) (line : List ℕ) (zones : List (DomainName × List H)) : Type 0 where
+-- a line for each of some texts
+abbrev pub hex_lines : List (List ℕ) → List ℕ
+hex_lines texts = flat_map hex_line texts
+
+-- The lines are those of the replies that become of the message of the input, over the transport that the arguments name.
+pub record AreReplyLines {H : Type 0} (server : Server H) (arguments : List (List ℕ)) (input : Option (List ℕ)) (lines : List ℕ) (zones : List (DomainName × List H)) : Type 0 where
   pub protocol : Protocol
   pub is_named : transport_of arguments ≡ Some protocol
   pub message : List ℕ
   pub is_first : IsFirstMessage input message
-  pub bytes : List ℕ
-  pub is_reply : IsReplyTo server protocol message bytes zones
-  pub line_is : line ≡ hex_line bytes
+  pub encoded : List (List ℕ)
+  pub becomes : Becomes server protocol message (Replies encoded) zones
+  pub lines_are : lines ≡ hex_lines encoded
 
--- What is answered: the line of a reply, or why there is none. A reader may fail at any time, and memory may be refused at any time once the
+-- What is answered: the lines of the replies, or why there are none. A reader may fail at any time, and memory may be refused at any time once the
 -- arguments name a transport. The zones are those after it.
 abbrev pub IsAnswer : {H : Type 0} → Server H → List (List ℕ) → Option (List ℕ) → Result (List ℕ) Refusal → List (DomainName × List H) → Type 0
-IsAnswer server arguments input (Ok line) zones = IsReplyLine server arguments input line zones
+IsAnswer server arguments input (Ok lines) zones = AreReplyLines server arguments input lines zones
 IsAnswer server arguments input (Err Usage) zones = transport_of arguments ≡ None
 IsAnswer server arguments input (Err NotHex) zones = IsSome (transport_of arguments)
 IsAnswer server arguments input (Err Unreadable) zones = IsSome (transport_of arguments) × (message : List ℕ) × IsFirstMessage input message × (e : ProtoError) × IsFaultOf message e
 IsAnswer server arguments input (Err Memory) zones = IsSome (transport_of arguments)
 
--- an answer with the bytes of its line
+-- an answer with the bytes of its lines
 abbrev pub line_items : Result (Vec ℕ) Refusal → Result (List ℕ) Refusal
-line_items (Ok line) = Ok line.items
+line_items (Ok lines) = Ok lines.items
 line_items (Err refusal) = Err refusal
 
--- the line that tells an answer, with its newline
+-- the lines that tell an answer, each with its newline
 abbrev pub answer_line : Result (List ℕ) Refusal → List ℕ
-answer_line (Ok line) = line
+answer_line (Ok lines) = lines
 answer_line (Err refusal) = refusal_line refusal
 
 -- the status that tells an answer

@@ -5,7 +5,6 @@ ghost use Rattle.zone_reply.specs.Command.{IsPrinted, transport_of, transport_na
 ghost use Rattle.zone_reply.specs.declared.command.Refusal.TheVariants as refusal;
 
 use hickory_server::proto::{NameError, Protocol};
-use hickory_server::zone_handler::CatalogError;
 use std::alloc::{AllocError, AllocFailed};
 use std::io::Write;
 use thiserror::Error;
@@ -73,15 +72,6 @@ impl From<NameError> for Refusal {
     ghost from_gives = { λ _ e. e ≡ refusal.Memory };
 
     fn from(_e: NameError) -> Refusal {
-        Refusal::Memory
-    }
-}
-
-// A catalog that hands over no reply was refused memory.
-impl From<CatalogError> for Refusal {
-    ghost from_gives = { λ _ e. e ≡ refusal.Memory };
-
-    fn from(_e: CatalogError) -> Refusal {
         Refusal::Memory
     }
 }

@@ -1,5 +1,5 @@
-//! One DNS message in, one reply out: `zone_reply udp|tcp` reads a message as a line of hex digits, and prints the reply as
-//! one. It serves the zone example.com., as the server `ns1`.
+//! One DNS message in, its replies out: `zone_reply udp|tcp` reads a message as a line of hex digits, and prints each reply as
+//! one; only a transfer has several. It serves the zone example.com., as the server `ns1`.
 #![tactic(auto)]
 
 mod command;

@@ -1,83 +1,90 @@
 //! From arguments and an input to a line of output and a status.
 
-ghost use Rattle.std.specs.Prelude.{◌≡◌, ℕ, List, Result, IfOk, IfErr, map, string_bytes};
+ghost use Rattle.std.specs.Prelude.{◌≡◌, ◌++◌, ◌∷◌, ◌⊎◌, [], ℕ, List, Result, IfOk, IfErr, OnOk, map, string_bytes};
 ghost use Rattle.hickory_catalog.specs.Server.{server_of};
-ghost use Rattle.zone_reply.specs.Answers.{IsAnswer, IsReplyTo, IsReplyToRequest, InputLeft, IsRequestOf, IsRefusedMessage, MessageLeft, RequestLeft, answer_line, answer_status, hex_line, line_items};
+ghost use Rattle.hickory_server.specs.declared.server.serve.Outcome.{Outcome};
+ghost use Rattle.hickory_server.specs.declared.server.serve.Outcome.TheVariants.{Replies};
+ghost use Rattle.zone_reply.specs.Answers.{Becomes, InputLeft, IsAnswer, IsIncoming, IsRefusedMessage, MessageLeft, answer_line, answer_status, hex_line, hex_lines, line_items};
 ghost use Rattle.zone_reply.specs.Command.{IsPrinted};
 ghost use Rattle.zone_reply.specs.declared.command.Refusal.{Refusal};
-ghost use Rattle.zone_reply.specs.declared.command.Refusal.TheVariants.{Memory};
+ghost use Rattle.zone_reply.specs.declared.command.Refusal.TheVariants.{Memory, Unreadable};
 
 use crate::command::{Refusal, print, transport};
 use crate::input::message;
-use hickory_server::proto::{Octets, ProtoError, Protocol};
-use hickory_server::server::serve::EncodingSink;
-use hickory_server::server::{Request, RequestHandler};
+use hickory_server::access::AccessControl;
+use hickory_server::proto::{Octets, Protocol};
+use hickory_server::server::serve::{Incoming, Outcome, serve_all};
 use hickory_server::zone_handler::{Catalog, ReplySigner, ZoneHandler};
 use std::alloc::{AllocError, Global};
 use std::io::{Read, Write};
 use std::net::{IpAddr, Ipv4Addr, SocketAddr};
 
-/// The request that these bytes begin with, which came from 127.0.0.1, port 53.
-fn request(alloc: Global, protocol: Protocol, bytes: Vec<u8>) -> Result<Request, Refusal>
-    ensures ok { IfOk result (λ request. IsRequestOf bytes.items protocol request) }
-    ensures err { IfErr result (λ e. IsRefusedMessage bytes.items e) }
+/// The message of these bytes as it came: from 127.0.0.1, port 53, over this transport, at the moment 0.
+fn incoming(protocol: Protocol, bytes: Vec<u8>) -> Incoming
+    ensures { IsIncoming protocol bytes.items result }
 {
-    let source = SocketAddr::new(IpAddr::V4(Ipv4Addr::LOCALHOST), 53);
-    match Request::from_bytes(alloc, bytes, source, protocol) {
-        Ok(request) => Ok(request),
-        Err(ProtoError::Memory) => Err(Refusal::Memory),
-        Err(_) => Err(Refusal::Unreadable),
+    Incoming {
+        bytes,
+        src: SocketAddr::new(IpAddr::V4(Ipv4Addr::LOCALHOST), 53),
+        protocol,
+        now: 0,
     }
 }
 
-/// The line of hex digits for some bytes.
-fn hex_line(alloc: Global, bytes: &[u8]) -> Result<Vec<u8>, AllocError>
-    ensures { IfOk result (λ line. line.items ≡ hex_line bytes.now) }
+/// Puts a line of hex digits for some bytes behind others.
+fn put_line(alloc: Global, lines: &mut Vec<u8>, bytes: &[u8]) -> Result<(), AllocError>
+    ensures { OnOk result (lines.new.items ≡ lines.old.items ++ hex_line bytes.now) }
 {
-    let mut line = hex::encode(alloc, bytes)?.into_bytes();
-    line.push(b'\n')?;
-    Ok(line)
+    lines.extend_from_slice(hex::encode(alloc, bytes)?.as_bytes())?;
+    lines.push(b'\n')?;
+    Ok(())
 }
 
-/// The bytes of the reply to a request that came over this transport.
-fn reply<S: ReplySigner, H: ZoneHandler>(
+/// A line of hex digits for each of some texts.
+fn hex_lines(alloc: Global, texts: &[Octets]) -> Result<Vec<u8>, AllocError>
+    ensures { IfOk result (λ lines. lines.items ≡ hex_lines texts.now) }
+{
+    let mut lines = Vec::new(alloc);
+    for bytes in texts {
+        put_line(alloc, &mut lines, bytes.as_slice())?;
+    }
+    Ok(lines)
+}
+
+/// What becomes of the message of these bytes, which comes alone: one outcome. Each address may use the server.
+fn outcome<S: ReplySigner, H: ZoneHandler>(
     alloc: Global,
     catalog: &mut Catalog<S, H>,
     protocol: Protocol,
-    request: &Request,
-) -> Result<Octets, Refusal>
+    bytes: Vec<u8>,
+) -> Result<Vec<Outcome>, Refusal>
     ensures others { catalog.new ≡ record catalog.old { zones = catalog.new.zones } }
-    ensures left { RequestLeft (server_of H.ZoneHandler S.signature_for catalog.old) request.now catalog.new.zones }
-    ensures ok { IfOk result (λ bytes. IsReplyToRequest (server_of H.ZoneHandler S.signature_for catalog.old) protocol request.now bytes catalog.new.zones) }
+    ensures left { MessageLeft (server_of H.ZoneHandler S.signature_for catalog.old) protocol bytes.items catalog.new.zones }
+    ensures ok { IfOk result (λ outcomes. (outcome : Outcome) × (outcomes.items ≡ outcome ∷ []) × Becomes (server_of H.ZoneHandler S.signature_for catalog.old) protocol bytes.items outcome catalog.new.zones) }
     ensures err { IfErr result (λ e. e ≡ Memory) }
 {
-    let mut sink = EncodingSink::new(alloc, protocol);
-    catalog.handle_request(alloc, request, 0, &mut sink)?;
-    match sink.into_last() {
-        Some(bytes) => Ok(bytes),
-        // The sink has no reply only where it was refused the memory for one.
-        None => Err(Refusal::Memory),
+    let mut messages = Vec::new(alloc);
+    messages.push(incoming(protocol, bytes))?;
+    let access = AccessControl::new(alloc);
+    match serve_all(alloc, &access, catalog, messages) {
+        Ok(outcomes) => Ok(outcomes),
+        Err(_) => Err(Refusal::Memory),
     }
 }
 
-/// The line for the reply to a request that came over this transport.
-fn request_line<S: ReplySigner, H: ZoneHandler>(
-    alloc: Global,
-    catalog: &mut Catalog<S, H>,
-    protocol: Protocol,
-    request: &Request,
-) -> Result<Vec<u8>, Refusal>
-    ensures others { catalog.new ≡ record catalog.old { zones = catalog.new.zones } }
-    ensures left { RequestLeft (server_of H.ZoneHandler S.signature_for catalog.old) request.now catalog.new.zones }
-    ensures ok { IfOk result (λ line. (bytes : List ℕ) × IsReplyToRequest (server_of H.ZoneHandler S.signature_for catalog.old) protocol request.now bytes catalog.new.zones × (line.items ≡ hex_line bytes)) }
-    ensures err { IfErr result (λ e. e ≡ Memory) }
+/// The lines for what became of a message: it has replies, or it is no message.
+fn outcome_lines(alloc: Global, outcomes: &[Outcome]) -> Result<Vec<u8>, Refusal>
+    ensures ok { IfOk result (λ lines. (encoded : List (List ℕ)) × (outcomes.now ≡ Replies encoded ∷ []) × (lines.items ≡ hex_lines encoded)) }
+    ensures err { IfErr result (λ e. (e ≡ Memory) ⊎ ((e ≡ Unreadable) × ((encoded : List (List ℕ)) → ¬ (outcomes.now ≡ Replies encoded ∷ [])))) }
 {
-    let bytes = reply(alloc, catalog, protocol, request)?;
-    Ok(hex_line(alloc, bytes.as_slice())?)
+    match outcomes {
+        [Outcome::Replies(replies)] => Ok(hex_lines(alloc, replies.as_slice())?),
+        _ => Err(Refusal::Unreadable),
+    }
 }
 
-/// The line for the reply to a message that came over this transport.
-fn reply_line<S: ReplySigner, H: ZoneHandler>(
+/// The lines for the replies to a message that came over this transport.
+fn reply_lines<S: ReplySigner, H: ZoneHandler>(
     alloc: Global,
     catalog: &mut Catalog<S, H>,
     protocol: Protocol,
@@ -85,14 +92,14 @@ fn reply_line<S: ReplySigner, H: ZoneHandler>(
 ) -> Result<Vec<u8>, Refusal>
     ensures others { catalog.new ≡ record catalog.old { zones = catalog.new.zones } }
     ensures left { MessageLeft (server_of H.ZoneHandler S.signature_for catalog.old) protocol message.items catalog.new.zones }
-    ensures ok { IfOk result (λ line. (bytes : List ℕ) × IsReplyTo (server_of H.ZoneHandler S.signature_for catalog.old) protocol message.items bytes catalog.new.zones × (line.items ≡ hex_line bytes)) }
+    ensures ok { IfOk result (λ lines. (encoded : List (List ℕ)) × Becomes (server_of H.ZoneHandler S.signature_for catalog.old) protocol message.items (Replies encoded) catalog.new.zones × (lines.items ≡ hex_lines encoded)) }
     ensures err { IfErr result (λ e. IsRefusedMessage message.items e) }
 {
-    let request = request(alloc, protocol, message)?;
-    request_line(alloc, catalog, protocol, &request)
+    let outcomes = outcome(alloc, catalog, protocol, message)?;
+    outcome_lines(alloc, &outcomes)
 }
 
-/// The line for arguments and an input.
+/// The lines for arguments and an input.
 fn answer<S: ReplySigner, H: ZoneHandler, R: Read>(
     alloc: Global,
     catalog: &mut Catalog<S, H>,
@@ -107,14 +114,14 @@ fn answer<S: ReplySigner, H: ZoneHandler, R: Read>(
         return Err(Refusal::Usage);
     };
     let message = message(alloc, reader)?;
-    reply_line(alloc, catalog, protocol, message)
+    reply_lines(alloc, catalog, protocol, message)
 }
 
-/// Answers one message: prints one line, and gives the status. The arguments name the transport, `udp` or `tcp`; the
+/// Answers one message: prints a line for each reply, and gives the status. The arguments name the transport, `udp` or `tcp`; the
 /// first line of the input is the message in hex digits.
 ///
-/// The line is the reply in lower-case hex digits, with status 0, or one of the refusals with its status: wrong usage 2,
-/// no hex 2, no DNS message 1, no memory 3. Where printing fails, the status is 4. Only an update
+/// Each line is a reply in lower-case hex digits, with status 0, and only a transfer may have several; or the one line is a refusal with its
+/// status: wrong usage 2, no hex 2, no DNS message 1, no memory 3. Where printing fails, the status is 4. Only an update
 /// changes the catalog, and it may stand where there was no memory for its reply.
 pub fn run<S: ReplySigner, H: ZoneHandler, R: Read, W: Write>(
     alloc: Global,
@@ -130,7 +137,7 @@ pub fn run<S: ReplySigner, H: ZoneHandler, R: Read, W: Write>(
         IsPrinted (W.contents writer.old) (W.contents writer.new) (answer_line answer) (answer_status answer) result }
 {
     match answer(alloc, catalog, arguments, reader) {
-        Ok(line) => print(writer, line.as_slice(), 0),
+        Ok(lines) => print(writer, lines.as_slice(), 0),
         Err(refusal) => print(writer, refusal.line(), refusal.status()),
     }
 }

@@ -70,6 +70,17 @@ pub(crate) fn read_record(alloc: Global, bytes: &[u8]) -> Result<(Record, usize)
     Ok((record, decoder.index()))
 }
 
+/// The record that stands behind the header of a message without questions, and where it ends.
+pub(crate) fn read_first_record(
+    alloc: Global,
+    bytes: &[u8],
+) -> Result<(Record, usize), DecodeError> {
+    let mut decoder = BinDecoder::new(bytes);
+    decoder.read_header()?;
+    let record = decoder.read_record(alloc)?;
+    Ok((record, decoder.index()))
+}
+
 /// Where a section of so many records ends.
 fn section_end(
     alloc: Global,

@@ -1,3 +1,168 @@
-//! What serving needs beside the catalog.
+//! Serving: each message of a list, one after the other.
 
+ghost use Rattle.std.specs.Prelude.{◌≡◌, List, IfOk, IfErr};
+ghost use Rattle.std.specs.List.{AllZip};
+ghost use Rattle.hickory_wire.specs.serialize.writing.Reply.{Reply};
+ghost use Rattle.hickory_base.specs.responses.EncodingSinks.{IsEncodingOf};
+ghost use Rattle.hickory_catalog.specs.Requests.{RequestAnswered};
+ghost use Rattle.hickory_catalog.specs.Server.{server_of};
+ghost use Rattle.hickory_server.specs.Isolation.{BesideIsARun, EachRunIsBeside, EachRunIsIsolated, ZonesAreIsolated};
+ghost use Rattle.hickory_server.specs.Serving.{IsReadAs, LeavesRequest, LeavesUnserved, Run, RunFailed, Step};
+ghost use Rattle.hickory_server.specs.declared.server.serve.ServeError.TheVariants as serve_error;
+
+use hickory_base::access::AccessControl;
 pub use hickory_base::encoding_sink::EncodingSink;
+use hickory_base::errors::CatalogError;
+use hickory_base::server::{Request, RequestHandler};
+use hickory_base::zone_store::ZoneHandler;
+use hickory_catalog::catalog::Catalog;
+use hickory_catalog::laws::{replies_taken, zones_apart};
+use hickory_catalog::signer::ReplySigner;
+use hickory_wire::message_laws::one_message;
+use hickory_wire::{Items, Octets, ProtoError, Protocol};
+use std::alloc::Global;
+use std::net::SocketAddr;
+
+/// A message as it came.
+#[derive(Drop)]
+pub struct Incoming {
+    /// Its bytes.
+    pub bytes: Vec<u8>,
+    /// The address and port that it came from.
+    pub src: SocketAddr,
+    /// The transport that it came over.
+    pub protocol: Protocol,
+    /// When it came, in seconds since 1970.
+    pub now: u64,
+}
+
+/// What becomes of a message.
+#[derive(Drop)]
+pub enum Outcome {
+    /// Its address may not use the server. Nobody looks at its bytes, and no reply is sent.
+    Denied,
+    /// Its bytes begin with no message (RFC 1035 section 4.1). No reply is sent.
+    Unreadable,
+    /// The bytes of its replies, in the order in which they are sent. Only a transfer may have several.
+    Replies(Items<Octets>),
+}
+
+/// Where memory was refused.
+#[derive(Clone, Copy, Debug, PartialEq, Eq, thiserror::Error)]
+pub enum ServeError {
+    /// Before or while a message was handled: the catalog is as before it.
+    #[error("no memory")]
+    Memory,
+    /// After a message was handled, for its replies: the catalog is as after it.
+    #[error("no memory for the replies to a message that was handled")]
+    MemoryAfterHandling,
+}
+
+/// The request that a message is read as, or `None` where its bytes begin with none.
+fn request_of(alloc: Global, message: Incoming) -> Result<Option<Request>, ServeError>
+    ensures ok { IfOk result (λ request. IsReadAs message request) }
+    ensures err { IfErr result (λ e. e ≡ serve_error.Memory) }
+{
+    let Incoming {
+        bytes,
+        src,
+        protocol,
+        ..
+    } = message;
+    match Request::from_bytes(alloc, bytes, src, protocol) {
+        Ok(request) => Ok(Some(request)),
+        Err(ProtoError::Memory) => Err(ServeError::Memory),
+        Err(_) => Ok(None),
+    }
+}
+
+/// The bytes of the replies to a request, in their order.
+fn replies_to<S: ReplySigner, H: ZoneHandler>(
+    alloc: Global,
+    catalog: &mut Catalog<S, H>,
+    request: &Request,
+    now: u64,
+) -> Result<Items<Octets>, ServeError>
+    ensures others { catalog.new ≡ record catalog.old { zones = catalog.new.zones } }
+    ensures ok { IfOk result (λ encoded. (replies : List Reply) ×
+        RequestAnswered (server_of H.ZoneHandler S.signature_for catalog.old) request.now now replies catalog.new.zones ×
+        AllZip (IsEncodingOf request.now.protocol) replies encoded) }
+    ensures err { IfErr result (λ e. LeavesRequest (server_of H.ZoneHandler S.signature_for catalog.old) request.now now e catalog.new.zones) }
+{
+    let mut sink = EncodingSink::new(alloc, request.protocol());
+    match catalog.handle_request(alloc, request, now, &mut sink) {
+        Ok(_) => {}
+        Err(CatalogError::Memory) => return Err(ServeError::Memory),
+        Err(CatalogError::MemoryAfterUpdate) => return Err(ServeError::MemoryAfterHandling),
+    }
+    // The sink fails only where it is refused the memory for a reply.
+    if sink.failures() > 0 {
+        return Err(ServeError::MemoryAfterHandling);
+    }
+    replies_taken::<EncodingSink>();
+    Ok(sink.into_replies())
+}
+
+/// Serves one message: what becomes of it. Only an update changes the catalog.
+///
+/// A message is denied where its address may not use the server, and else unreadable where its bytes begin with no message; neither changes
+/// anything. `Memory` says that the catalog is as before, and `MemoryAfterHandling` that the message was handled and its replies are missing.
+pub fn serve<S: ReplySigner, H: ZoneHandler>(
+    alloc: Global,
+    access: &AccessControl,
+    catalog: &mut Catalog<S, H>,
+    message: Incoming,
+) -> Result<Outcome, ServeError>
+    ensures others { catalog.new ≡ record catalog.old { zones = catalog.new.zones } }
+    ensures ok { IfOk result (λ outcome. Step access.now (server_of H.ZoneHandler S.signature_for catalog.old) message outcome catalog.new.zones) }
+    ensures err { IfErr result (λ e. LeavesUnserved access.now (server_of H.ZoneHandler S.signature_for catalog.old) message e catalog.new.zones) }
+{
+    if !access.allow(message.src.ip()) {
+        return Ok(Outcome::Denied);
+    }
+    let now = message.now;
+    match request_of(alloc, message)? {
+        None => Ok(Outcome::Unreadable),
+        Some(request) => Ok(Outcome::Replies(replies_to(alloc, catalog, &request, now)?)),
+    }
+}
+
+/// Serves messages, one after the other, each over the catalog as those before it left it: what becomes of each.
+///
+/// Where memory is refused for a message, those before it have their outcomes, those behind it are not looked at, and the error says whether the
+/// catalog is as before that message or as after it. The place of an outcome is made before its message is handled.
+pub fn serve_all<S: ReplySigner, H: ZoneHandler>(
+    alloc: Global,
+    access: &AccessControl,
+    catalog: &mut Catalog<S, H>,
+    messages: Vec<Incoming>,
+) -> Result<Vec<Outcome>, (Vec<Outcome>, ServeError)>
+    ensures others { catalog.new ≡ record catalog.old { zones = catalog.new.zones } }
+    ensures ok { IfOk result (λ outcomes. Run access.now (server_of H.ZoneHandler S.signature_for catalog.old) catalog.old.zones messages.items outcomes.items catalog.new.zones) }
+    ensures err { IfErr result (λ failed. RunFailed access.now (server_of H.ZoneHandler S.signature_for catalog.old) messages.items failed.0.items failed.1 catalog.new.zones) }
+{
+    let mut outcomes = Vec::new(alloc);
+    for message in messages {
+        if outcomes.reserve(1).is_err() {
+            return Err((outcomes, ServeError::Memory));
+        }
+        match serve(alloc, access, catalog, message) {
+            Ok(outcome) => outcomes.push_reserved(outcome),
+            Err(e) => return Err((outcomes, e)),
+        }
+    }
+    Ok(outcomes)
+}
+
+/// Each zone of a server is served as if it were the only one: what becomes of the messages to it, and the zone after them, is what becomes of them
+/// where they come alone to a server of that zone alone, with the same identifier and signer. Which messages of a run these are
+/// is decided.
+pub fn zones_are_isolated<S: ReplySigner, H: ZoneHandler>()
+    ensures isolated { ZonesAreIsolated H.ZoneHandler S.signature_for }
+    ensures run { BesideIsARun H.ZoneHandler S.signature_for }
+    ensures beside { EachRunIsBeside H.ZoneHandler S.signature_for }
+    ensures each { EachRunIsIsolated H.ZoneHandler S.signature_for }
+{
+    one_message();
+    zones_apart::<S, H>();
+}

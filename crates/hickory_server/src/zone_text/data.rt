@@ -8,7 +8,7 @@ use crate::zone_text::escapes::{MAX_STRING_LEN, read_string};
 use crate::zone_text::generic::read_generic;
 use crate::zone_text::names::next_name;
 use crate::zone_text::words::{Word, Words};
-use hickory_wire::{Boxed, Items, MX, Octets, RData, RecordType, SOA};
+use hickory_wire::{Boxed, Items, MX, Name, Octets, RData, RecordType, SOA};
 use std::alloc::Global;
 use std::net::{Ipv4Addr, Ipv6Addr};
 
@@ -41,11 +41,15 @@ fn number_u32(words: &mut Words<'_>) -> Result<u32, TextError> {
 }
 
 /// A mail exchange.
-fn mail_exchange(alloc: Global, words: &mut Words<'_>) -> Result<RData, TextError>
+fn mail_exchange(
+    alloc: Global,
+    words: &mut Words<'_>,
+    origin: Option<&Name>,
+) -> Result<RData, TextError>
     ensures { IfOk result (λ rdata. type_of rdata ≡ 15) }
 {
     let preference = number_u16(words)?;
-    let exchange = next_name(alloc, words)?;
+    let exchange = next_name(alloc, words, origin)?;
     Ok(RData::MX(MX {
         preference,
         exchange,
@@ -53,11 +57,15 @@ fn mail_exchange(alloc: Global, words: &mut Words<'_>) -> Result<RData, TextErro
 }
 
 /// The start of a zone.
-fn start_of_authority(alloc: Global, words: &mut Words<'_>) -> Result<RData, TextError>
+fn start_of_authority(
+    alloc: Global,
+    words: &mut Words<'_>,
+    origin: Option<&Name>,
+) -> Result<RData, TextError>
     ensures { IfOk result (λ rdata. type_of rdata ≡ 6) }
 {
-    let mname = next_name(alloc, words)?;
-    let rname = next_name(alloc, words)?;
+    let mname = next_name(alloc, words, origin)?;
+    let rname = next_name(alloc, words, origin)?;
     let serial = number_u32(words)?;
     let refresh = number_u32(words)?;
     let retry = number_u32(words)?;
@@ -96,27 +104,34 @@ fn strings(alloc: Global, words: &mut Words<'_>) -> Result<RData, TextError>
 }
 
 /// Data in the form of their type.
-fn form(alloc: Global, record_type: RecordType, words: &mut Words<'_>) -> Result<RData, TextError>
+fn form(
+    alloc: Global,
+    record_type: RecordType,
+    words: &mut Words<'_>,
+    origin: Option<&Name>,
+) -> Result<RData, TextError>
     ensures { IfOk result (λ rdata. type_of rdata ≡ record_type) }
 {
     match record_type {
         RecordType::A => Ok(RData::A(ipv4(words)?)),
         RecordType::AAAA => Ok(RData::AAAA(ipv6(words)?)),
-        RecordType::NS => Ok(RData::NS(next_name(alloc, words)?)),
-        RecordType::CNAME => Ok(RData::CNAME(next_name(alloc, words)?)),
-        RecordType::PTR => Ok(RData::PTR(next_name(alloc, words)?)),
-        RecordType::MX => mail_exchange(alloc, words),
-        RecordType::SOA => start_of_authority(alloc, words),
+        RecordType::NS => Ok(RData::NS(next_name(alloc, words, origin)?)),
+        RecordType::CNAME => Ok(RData::CNAME(next_name(alloc, words, origin)?)),
+        RecordType::PTR => Ok(RData::PTR(next_name(alloc, words, origin)?)),
+        RecordType::MX => mail_exchange(alloc, words, origin),
+        RecordType::SOA => start_of_authority(alloc, words, origin),
         RecordType::TXT => strings(alloc, words),
         _ => Err(words.field()?.fault(TextFault::NoTextForm)),
     }
 }
 
-/// The data that stand next, to the end of the line.
+/// The data that stand next, to the end of the line or the entry. Names that are not fully qualified are relative to the origin, and
+/// without one a fault.
 pub(crate) fn data_of(
     alloc: Global,
     record_type: RecordType,
     words: &mut Words<'_>,
+    origin: Option<&Name>,
 ) -> Result<RData, TextError>
     ensures { IfOk result (λ rdata. type_of rdata ≡ record_type) }
 {
@@ -126,7 +141,7 @@ pub(crate) fn data_of(
         *words = ahead;
         read_generic(alloc, record_type, words)?
     } else {
-        form(alloc, record_type, words)?
+        form(alloc, record_type, words, origin)?
     };
     words.end()?;
     Ok(rdata)
@@ -141,5 +156,5 @@ pub(crate) fn data_of(
 pub fn read_data(alloc: Global, record_type: RecordType, text: &str) -> Result<RData, TextError>
     ensures { IfOk result (λ rdata. type_of rdata ≡ record_type) }
 {
-    data_of(alloc, record_type, &mut Words::new(text))
+    data_of(alloc, record_type, &mut Words::new(text), None)
 }

@@ -51,6 +51,12 @@ pub enum TextFault {
     /// A quoted string does not end.
     #[error("the quote does not end")]
     UnclosedQuote,
+    /// A parenthesis of a zone file is not closed.
+    #[error("the parenthesis does not close")]
+    OpenParenthesis,
+    /// A parenthesis of a zone file closes none that is open.
+    #[error("no parenthesis is open")]
+    StrayParenthesis,
     /// The field is no hexadecimal digits, two for each byte.
     #[error("not hexadecimal digits")]
     BadHex,
@@ -91,4 +97,47 @@ impl<T: Drop> From<AllocFailed<T>> for TextError {
     fn from(_e: AllocFailed<T>) -> TextError {
         TextError::Memory
     }
+}
+
+/// What is wrong with a zone file.
+#[derive(Clone, Copy, Debug, PartialEq, Eq, Error)]
+pub enum ZoneFileFault {
+    /// A field, a quote or a parenthesis is wrong, or a field is missing.
+    #[error("{0}")]
+    Text(TextFault),
+    /// A line begins with `$` and a word that is neither `$ORIGIN` nor `$TTL`.
+    #[error("unknown directive")]
+    UnknownDirective,
+    /// A line is `$INCLUDE`, which is not taken.
+    #[error("$INCLUDE is not taken")]
+    IncludeNotTaken,
+    /// The first record has no owner name: its line begins with a blank.
+    #[error("no record before has an owner name")]
+    NoOwner,
+    /// The first record has no TTL, and no `$TTL` stands before it.
+    #[error("no TTL here and none before")]
+    NoTtl,
+    /// The class is another than IN.
+    #[error("the class is not IN")]
+    ClassNotIn,
+    /// Records of the type stand in messages alone (RFC 6895 section 3.1), as OPT and ANY.
+    #[error("no zone has records of the type")]
+    NotZoneData,
+}
+
+/// Why a zone file could not be read: what is wrong and where, or want of memory.
+#[derive(Clone, Copy, Debug, PartialEq, Eq, Error)]
+pub enum ZoneFileError {
+    /// Something is wrong with the file.
+    #[error("line {line}: {fault}")]
+    At {
+        /// Which line the wrong field begins on; the first is 1. Where a field is missing, the line that ends the entry; where a quote or a
+        /// parenthesis is not closed, the line where it opens.
+        line: usize,
+        /// What is wrong.
+        fault: ZoneFileFault,
+    },
+    /// Memory was refused.
+    #[error("out of memory")]
+    Memory,
 }

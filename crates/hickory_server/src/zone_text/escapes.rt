@@ -1,6 +1,6 @@
 //! Bytes that are spelled in text.
 
-ghost use Rattle.std.specs.Prelude.{◌≤◌, ◌<◌, length, IfOk, IfSome};
+ghost use Rattle.std.specs.Prelude.{◌≡◌, ◌≤◌, ◌<◌, false, get_or, length, IfOk, IfSome};
 
 use crate::zone_text::error::{TextError, TextFault};
 use crate::zone_text::words::Word;
@@ -30,7 +30,8 @@ fn byte_of(hundreds: u8, tens: u8, ones: u8) -> Option<u8> {
 
 /// The byte that the text begins with, where its escape is whole (RFC 1035 section 5.1).
 pub(crate) fn first_byte(text: &[u8]) -> Option<SpelledByte>
-    ensures { IfSome result (λ spelled. spelled.len ≤ length text.now) }
+    ensures within { IfSome result (λ spelled. spelled.len ≤ length text.now) }
+    ensures plain { IfSome result (λ spelled. spelled.escaped ≡ false → get_or text.now 0 0 ≡ spelled.byte) }
 {
     match text {
         [b'\\', hundreds, tens, ones, ..] if hundreds.is_ascii_digit() => Some(SpelledByte {

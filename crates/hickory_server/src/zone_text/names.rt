@@ -1,6 +1,7 @@
 //! Names in text.
 
-ghost use Rattle.std.specs.Prelude.{◌≡◌, ◌≤◌, true, length, IfOk};
+ghost use Rattle.std.specs.Prelude.{◌≡◌, ◌≤◌, ◌<◌, ◌++◌, true, get_or, length, IfOk, IfSome, IsTrue};
+ghost use Rattle.hickory_server.specs.ZoneFiles.{EndsInDot, IsRelativeTo};
 
 use crate::zone_text::error::{TextError, TextFault};
 use crate::zone_text::escapes::first_byte;
@@ -21,7 +22,8 @@ fn read_label(
     label: &mut [u8; MAX_LABEL_LEN],
 ) -> Result<(usize, usize), TextError>
     requires { start ≤ length word.now.bytes.now }
-    ensures { IfOk result (λ ends. (ends.0 ≤ 63) × (start ≤ ends.1) × (ends.1 ≤ length word.now.bytes.now)) }
+    ensures within { IfOk result (λ ends. (ends.0 ≤ 63) × (start ≤ ends.1) × (ends.1 ≤ length word.now.bytes.now)) }
+    ensures dot { IfOk result (λ ends. ends.1 < length word.now.bytes.now → get_or word.now.bytes.now ends.1 0 ≡ 46) }
 {
     let text = word.bytes;
     let mut place = start;
@@ -50,7 +52,9 @@ fn read_label(
 }
 
 /// Reads labels with dots between them, and whether a dot stands last.
-fn read_labels(word: &Word<'_>, labels: &mut Labels) -> Result<bool, TextError> {
+fn read_labels(word: &Word<'_>, labels: &mut Labels) -> Result<bool, TextError>
+    ensures { IfOk result (λ dot. IsTrue dot → EndsInDot word.now.bytes.now) }
+{
     let text = word.bytes;
     let mut place = 0;
     'labels: loop {
@@ -73,32 +77,70 @@ fn read_labels(word: &Word<'_>, labels: &mut Labels) -> Result<bool, TextError> 
     }
 }
 
-/// The name of a field.
-pub(crate) fn name_of(alloc: Global, word: &Word<'_>) -> Result<Name, TextError> {
+/// Reads the labels of a name, and whether it is fully qualified: `.` and `@` have none, and the first of them is.
+fn spelled_labels(word: &Word<'_>, labels: &mut Labels) -> Result<bool, TextError>
+    ensures { IfOk result (λ is_fqdn. IsTrue is_fqdn → EndsInDot word.now.bytes.now) }
+{
     if word.quoted {
         return Err(word.fault(TextFault::BadName));
     }
-    let mut labels = Labels::new();
     match word.bytes {
-        b"." => return Ok(labels.to_name(alloc, true)?),
-        b"@" => return Ok(labels.to_name(alloc, false)?),
-        _ => {}
+        b"." => Ok(true),
+        b"@" => Ok(false),
+        _ => read_labels(word, labels),
     }
-    let is_fqdn = read_labels(word, &mut labels)?;
-    Ok(labels.to_name(alloc, is_fqdn)?)
 }
 
-/// The name of the next field, which has to be fully qualified.
-pub(crate) fn next_name(alloc: Global, words: &mut Words<'_>) -> Result<Name, TextError>
+/// Puts the labels of a name behind others. With them a name has at most 255 bytes.
+fn append_labels(word: &Word<'_>, labels: &mut Labels, name: &Name) -> Result<(), TextError>
+    ensures { IfOk result (λ _. labels.new ≡ labels.old ++ name.now.labels) }
+{
+    let wire = name.as_wire();
+    if labels.wire_len() + wire.len() > MAX_LABELS_LEN {
+        return Err(word.fault(TextFault::NameTooLong));
+    }
+    let mut place = 0;
+    let mut count = 0usize;
+    'labels: while place < wire.len() {
+        let end = place + 1 + usize::from(wire[place]);
+        labels.push(&wire[place + 1..end]);
+        place = end;
+        count += 1;
+    }
+    Ok(())
+}
+
+/// The name that a field stands for, fully qualified: one without a dot at its end is relative to the origin (RFC 1035 section 5.1), and
+/// without an origin a fault.
+pub(crate) fn absolute_name(
+    alloc: Global,
+    word: &Word<'_>,
+    origin: Option<&Name>,
+) -> Result<Name, TextError>
+    ensures qualified { IfOk result (λ name. name.is_fqdn ≡ true) }
+    ensures relative { IfOk result (λ name. (EndsInDot word.now.bytes.now → ⊥) → IfSome origin.entry (λ o. IsRelativeTo o.now name)) }
+{
+    let mut labels = Labels::new();
+    let is_fqdn = spelled_labels(word, &mut labels)?;
+    if !is_fqdn {
+        let Some(origin) = origin else {
+            return Err(word.fault(TextFault::NotFullyQualified));
+        };
+        append_labels(word, &mut labels, origin)?;
+    }
+    Ok(labels.to_name(alloc, true)?)
+}
+
+/// The name of the next field, as `absolute_name` tells it.
+pub(crate) fn next_name(
+    alloc: Global,
+    words: &mut Words<'_>,
+    origin: Option<&Name>,
+) -> Result<Name, TextError>
     ensures { IfOk result (λ name. name.is_fqdn ≡ true) }
 {
     let word = words.field()?;
-    let name = name_of(alloc, &word)?;
-    if name.is_fqdn() {
-        Ok(name)
-    } else {
-        Err(word.fault(TextFault::NotFullyQualified))
-    }
+    absolute_name(alloc, &word, origin)
 }
 
 /// Reads a name (RFC 1035 section 5.1): labels with dots between them, fully qualified where a dot stands last, as `www.example.com.`;
@@ -109,7 +151,9 @@ pub(crate) fn next_name(alloc: Global, words: &mut Words<'_>) -> Result<Name, Te
 pub fn read_name(alloc: Global, text: &str) -> Result<Name, TextError> {
     let mut words = Words::new(text);
     let word = words.field()?;
-    let name = name_of(alloc, &word)?;
+    let mut labels = Labels::new();
+    let is_fqdn = spelled_labels(&word, &mut labels)?;
+    let name = labels.to_name(alloc, is_fqdn)?;
     words.end()?;
     Ok(name)
 }

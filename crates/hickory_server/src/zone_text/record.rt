@@ -6,36 +6,23 @@ ghost use Rattle.hickory_wire.specs.declared.rr.record.Proof.TheVariants.{Indete
 use crate::zone_text::data::data_of;
 use crate::zone_text::error::{TextError, TextFault};
 use crate::zone_text::names::next_name;
+use crate::zone_text::ttl::ttl_of;
 use crate::zone_text::words::{Word, Words};
 use hickory_wire::{DNSClass, Proof, Record, RecordType};
 use std::alloc::Global;
 
 /// The type of a field.
-fn type_of(word: &Word<'_>) -> Result<RecordType, TextError> {
+pub(crate) fn type_of(word: &Word<'_>) -> Result<RecordType, TextError> {
     let unknown = word.fault(TextFault::UnknownType);
     let text = word.plain_text().ok_or(unknown)?;
     text.parse::<RecordType>().map_err(|_| unknown)
 }
 
 /// The class of a field.
-fn class_of(word: &Word<'_>) -> Result<DNSClass, TextError> {
+pub(crate) fn class_of(word: &Word<'_>) -> Result<DNSClass, TextError> {
     let unknown = word.fault(TextFault::UnknownClass);
     let text = word.plain_text().ok_or(unknown)?;
     text.parse::<DNSClass>().map_err(|_| unknown)
-}
-
-/// The TTL of a field.
-fn ttl_of(word: &Word<'_>) -> Result<u32, TextError> {
-    word.number().map_err(|e| match e {
-        TextError::At {
-            column,
-            fault: TextFault::BadNumber,
-        } => TextError::At {
-            column,
-            fault: TextFault::NotATtl,
-        },
-        other => other,
-    })
 }
 
 /// Reads a type: its mnemonic, in any letter case, or `TYPE` and a number of 16 bits (RFC 3597 section 5). Blanks may stand around it,
@@ -66,11 +53,11 @@ pub fn read_record(alloc: Global, line: &str) -> Result<Record, TextError>
     ensures unproved { IfOk result (λ r. r.proof ≡ Indeterminate) }
 {
     let mut words = Words::new(line);
-    let name = next_name(alloc, &mut words)?;
+    let name = next_name(alloc, &mut words, None)?;
     let ttl = ttl_of(&words.field()?)?;
     let dns_class = class_of(&words.field()?)?;
     let record_type = type_of(&words.field()?)?;
-    let rdata = data_of(alloc, record_type, &mut words)?;
+    let rdata = data_of(alloc, record_type, &mut words, None)?;
     Ok(Record {
         name,
         dns_class,

@@ -3,12 +3,16 @@ pub mod Decoding
 pub mod Encoder
 pub mod Endings
 pub mod FullForm
+pub mod NameTable
+pub mod Noted
 pub mod OwnerNames
 pub mod QuestionForm
+pub mod QuestionNames
 pub mod ReadingBack
 pub mod RecordSize
 pub mod Reply
 pub mod ReplyParts
 pub mod WholeReply
 pub mod Writing
+pub mod WritingByNotes
 pub mod WrittenParts

@@ -135,7 +135,7 @@ long_reply_cut = 0x12 ∷ 0x34 ∷ 0x87 ∷ 0x00 ∷ 0x00 ∷ 0x00 ∷ 0x00 ∷ 
     ∷ 0x01 ∷ 0x00 ∷ 0x00 ∷ 0x0e ∷ 0x10 ∷ 0x00 ∷ 0x04 ∷ 0x5d ∷ 0xb8 ∷ 0xd7 ∷ 0x0e ∷ 0x00 ∷ 0x00 ∷ 0x01 ∷ 0x00 ∷ 0x01
     ∷ 0x00 ∷ 0x00 ∷ 0x00 ∷ 0x00 ∷ 0x00 ∷ 0x04 ∷ 0xc0 ∷ 0x00 ∷ 0x02 ∷ 0x01 ∷ []
 
--- a hundred answers of 31 bytes, of which sixteen fit 512 bytes, since 12 + 16 * 31 is 508
+-- a hundred answers of 31 bytes in full, and of 16 with their name as a pointer, of which thirty fit 512 bytes, since 12 + 31 + 29 * 16 is 507
 abbrev pub hundred_answers : Reply
 hundred_answers = plain_reply www_metadata (replicate 100 www_answer) [] None
 
@@ -144,11 +144,15 @@ abbrev pub repeated : ℕ → List ℕ → List ℕ
 repeated zero text = []
 repeated (suc count) text = text ++ repeated count text
 
-abbrev pub sixteen_of_hundred : Fronts
-sixteen_of_hundred = fronts_with (cut_to 16) (all_of 0) (all_of 0)
+abbrev pub thirty_of_hundred : Fronts
+thirty_of_hundred = fronts_with (cut_to 30) (all_of 0) (all_of 0)
 
-abbrev pub sixteen_answers : List ℕ
-sixteen_answers = 0x12 ∷ 0x34 ∷ 0x87 ∷ 0x00 ∷ 0x00 ∷ 0x00 ∷ 0x00 ∷ 0x10 ∷ 0x00 ∷ 0x00 ∷ 0x00 ∷ 0x00 ∷ [] ++ repeated 16 www_answer_bytes
+-- an answer whose name is a pointer to the first answer's, behind the header
+abbrev pub answer_by_pointer : List ℕ
+answer_by_pointer = 0xc0 ∷ 0x0c ∷ 0x00 ∷ 0x01 ∷ 0x00 ∷ 0x01 ∷ 0x00 ∷ 0x00 ∷ 0x0e ∷ 0x10 ∷ 0x00 ∷ 0x04 ∷ 0x5d ∷ 0xb8 ∷ 0xd7 ∷ 0x0e ∷ []
+
+abbrev pub thirty_answers : List ℕ
+thirty_answers = 0x12 ∷ 0x34 ∷ 0x87 ∷ 0x00 ∷ 0x00 ∷ 0x00 ∷ 0x00 ∷ 0x1e ∷ 0x00 ∷ 0x00 ∷ 0x00 ∷ 0x00 ∷ [] ++ www_answer_bytes ++ repeated 29 answer_by_pointer
 
 -- a reply with a character string of 256 bytes
 abbrev pub too_long_string : Record RData

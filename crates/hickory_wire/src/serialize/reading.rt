@@ -5,6 +5,7 @@ pub mod decoder;
 pub mod edns_options;
 pub mod fault_laws;
 pub mod header_decoder;
+pub mod known_names;
 pub mod message_decoder;
 pub mod message_laws;
 pub mod name_laws;

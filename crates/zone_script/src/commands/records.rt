@@ -1,7 +1,7 @@
 //! Records as text and in bytes, and beside each other.
 
 use crate::fault::Fault;
-use crate::reading::{put_fault, read_record};
+use crate::reading::{put_fault, read_first_record, read_record};
 use crate::text;
 use crate::words::behind_word;
 use hickory_server::proto::{
@@ -32,13 +32,18 @@ fn write_alone(alloc: Global, record: &Record, bytes: &mut Vec<u8>) -> Result<()
     Ok(())
 }
 
-/// The bytes of a record, with all names in full.
+/// The bytes of a message whose only record is this one.
 fn wire(alloc: Global, record: &Record) -> Result<Vec<u8>, Fault> {
     let mut message = Vec::new(alloc);
     write_alone(alloc, record, &mut message)?;
-    match message.as_slice().split_at_checked(12) {
-        Some((_, bytes)) => Ok(Vec::from_slice(alloc, bytes)?),
-        None => Ok(message),
+    Ok(message)
+}
+
+/// What stands behind the header of a message: its only record, in which pointers lead to places of the message.
+fn behind_header(message: &[u8]) -> &[u8] {
+    match message.split_at_checked(12) {
+        Some((_, record)) => record,
+        None => message,
     }
 }
 
@@ -48,7 +53,7 @@ fn read_again(alloc: Global, record: &Record) -> Result<Record, Fault> {
     text::record(alloc, line.as_str())
 }
 
-/// The bytes of the record that the text of a record reads back as.
+/// The message of the record that the text of a record reads back as.
 fn wire_again(alloc: Global, record: &Record) -> Result<Vec<u8>, Fault> {
     let again = read_again(alloc, record)?;
     let bytes = wire(alloc, &again);
@@ -56,15 +61,15 @@ fn wire_again(alloc: Global, record: &Record) -> Result<Vec<u8>, Fault> {
     bytes
 }
 
-/// Whether the text of a record reads back as the record of these bytes, letter case and TTL included.
+/// Whether the text of a record reads back as the record of this message, letter case and TTL included.
 fn text_reads_back(alloc: Global, record: &Record, bytes: &[u8]) -> Result<bool, Fault> {
     let again = wire_again(alloc, record)?;
     Ok(again.as_slice() == bytes)
 }
 
-/// Whether the bytes of a record read back as that record, and end where they do.
+/// Whether the only record of a message reads back as that record, and ends where the message does.
 fn bytes_read_back(alloc: Global, record: &Record, bytes: &[u8]) -> Result<bool, Fault> {
-    let (again, end) = read_record(alloc, bytes)?;
+    let (again, end) = read_first_record(alloc, bytes)?;
     let is_same = again == *record && again.ttl == record.ttl;
     drop(again);
     Ok(is_same && end == bytes.len())
@@ -83,13 +88,13 @@ fn put_record(alloc: Global, record: &Record, bytes: &[u8], out: &mut String) ->
     Ok(())
 }
 
-/// Puts bytes in hex digits behind a text.
+/// Puts the record of a message in hex digits behind a text.
 fn put_wire(alloc: Global, bytes: &[u8], out: &mut String) -> Result<(), AllocError> {
-    let digits = hex::encode(alloc, bytes)?;
+    let digits = hex::encode(alloc, behind_header(bytes))?;
     writeln!(out, ", wire {digits}")
 }
 
-/// Tells of a record, and of its bytes in full.
+/// Tells of a record, and of its bytes as the only record of a message.
 fn put_described(alloc: Global, record: &Record, out: &mut String) -> Result<(), Fault> {
     let bytes = wire(alloc, record)?;
     put_record(alloc, record, bytes.as_slice(), out)?;
@@ -104,7 +109,7 @@ fn copied(alloc: Global, line: &str) -> Result<Record, Fault> {
     copy.map_err(Fault::from)
 }
 
-/// Tells of a copy of the record of a line: its text, and its bytes in full.
+/// Tells of a copy of the record of a line: its text, and its bytes.
 fn describe(alloc: Global, line: &str, out: &mut String) -> Result<(), Fault> {
     let record = copied(alloc, line)?;
     let put = put_described(alloc, &record, out);

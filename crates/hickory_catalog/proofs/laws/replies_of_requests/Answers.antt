@@ -3,8 +3,8 @@ use Rattle.hickory_catalog.proofs.RepliesFit.{error_fits, query_fits, signed_fit
 use Rattle.hickory_catalog.proofs.laws.replies_of_requests.Goals as goal
 
 pub returns-clause-queries : goal.returns-clause-queries
-returns-clause-queries g c = λ catalog request edns now reply r.
-    query_fits (server_of g.H.ZoneHandler g.S.ReplySigner.signature_for catalog) c.forwarded_replies.ensures.codes c.authoritative_replies.ensures.codes request edns now reply r
+returns-clause-queries g c = λ catalog request edns now replies r.
+    query_fits (server_of g.H.ZoneHandler g.S.ReplySigner.signature_for catalog) c.forwarded_replies.ensures.codes c.authoritative_replies.ensures.codes request edns now replies r
 
 pub returns-clause-updates : goal.returns-clause-updates
 returns-clause-updates g c = λ catalog request edns now reply zones updates r.

@@ -8,6 +8,7 @@ pub mod GivesReadings
 pub mod HeaderLaws
 pub mod HeaderReadings
 pub mod ItemsRead
+pub mod KnownRests
 pub mod LabelLoop
 pub mod LabelSteps
 pub mod MessageFaultLaws

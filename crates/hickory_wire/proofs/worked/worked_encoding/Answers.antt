@@ -1,12 +1,12 @@
 -- Replies that are encoded: the one that fits, those that are too large, and one with no form.
 use Rattle.std.proofs.Common.{◌++◌, [], refl, arith}
 use Rattle.hickory_wire.specs.worked.Worked.{a_record}
-use Rattle.hickory_wire.specs.worked.WorkedReplies.{formless_reply, too_long_string}
+use Rattle.hickory_wire.specs.worked.WorkedReplies.{all_of, fronts_with, formless_reply, too_long_string}
 use Rattle.hickory_wire.specs.serialize.writing.Writing.{header_and_questions}
 use Rattle.hickory_wire.specs.serialize.writing.Writing.Encoded.{written, too_large, formless}
 use Rattle.hickory_wire.specs.serialize.writing.Writing.ListsWritten.{stuck_list}
 use Rattle.hickory_wire.specs.declared.error.ProtoError.TheVariants.{CharacterDataTooLong}
-use Rattle.hickory_wire.proofs.lemmas.worked.LiteralReplies.{www_written, put_address}
+use Rattle.hickory_wire.proofs.lemmas.worked.LiteralReplies.{www_written, one_owner, put_address}
 use Rattle.hickory_wire.proofs.worked.worked_encoding.Goals as goal
 
 pub returns-clause-www : goal.returns-clause-www
@@ -28,4 +28,6 @@ returns-clause-formless c = formless {e = CharacterDataTooLong} (record {
     puts = (header_and_questions formless_reply ++ a_record, put_address 512 (header_and_questions formless_reply) (omega arith) (omega arith), refl);
     ends = record { next = too_long_string; rest = []; is = refl; formless = refl };
   });
+  put = fronts_with (all_of 1) (all_of 0) (all_of 0);
+  owners = record { sections = header_and_questions formless_reply ++ a_record; repeating = one_owner (put_address 512 (header_and_questions formless_reply) (omega arith) (omega arith)); last = refl };
 }) refl

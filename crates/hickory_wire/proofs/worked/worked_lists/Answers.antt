@@ -9,7 +9,7 @@ use Rattle.hickory_wire.specs.serialize.writing.RecordSize.{data_len, unwritable
 use Rattle.hickory_wire.specs.serialize.writing.Reply.{opt_record}
 use Rattle.hickory_wire.specs.worked.Worked.{root, record_of, address, signature_record}
 use Rattle.hickory_wire.specs.worked.WorkedLists.{five_lists, formless_and_large, root_authority, root_pointer, root_server}
-use Rattle.hickory_wire.specs.worked.WorkedReplies.{dnssec_ok_fields, too_long_string}
+use Rattle.hickory_wire.specs.worked.WorkedReplies.{all_of, fronts_with, dnssec_ok_fields, too_long_string}
 use Rattle.hickory_wire.specs.serialize.writing.Writing.{Puts, header_and_questions}
 use Rattle.hickory_wire.specs.serialize.writing.Writing.Encoded.{formless}
 use Rattle.hickory_wire.specs.serialize.writing.Writing.ListsWritten.{none_left, next_list, stuck_list}
@@ -78,6 +78,7 @@ returns-clause-in_full c = record {
       (next_list (record { counted = omega arith; puts = (four, put_pointer 123 (omega arith), refl); ends = refl })
       (next_list (record { counted = omega arith; puts = (five, put_opt, refl); ends = refl })
       (next_list (record { counted = omega arith; puts = (six, put_signature, refl); ends = refl }) none_left))));
+  owners = record { sections = four; repeating = (one, put_answer 123 (omega arith), λ earlier has low some. absurd (some refl), (two, put_server 123 (omega arith), λ earlier has low some. absurd (some refl), (three, put_authority 123 (omega arith), λ earlier has low some. absurd (some refl), (four, put_pointer 123 (omega arith), λ earlier has low some. absurd (some refl), refl)))); last = (five, put_opt, (six, put_signature, refl)) };
   is = refl;
 }
 
@@ -90,6 +91,7 @@ returns-clause-left_out c = record {
       (next_list (record { counted = omega arith; puts = (four, put_pointer 84 (omega arith), refl); ends = refl })
       (next_list (record { counted = omega arith; puts = refl; ends = record { next = opt_record dnssec_ok_fields; rest = []; is = refl; formed = refl; large = omega arith } })
       (next_list (record { counted = omega arith; puts = refl; ends = record { next = tsig_record signature_record; rest = []; is = refl; formed = refl; large = omega arith } }) none_left))));
+  owners = record { sections = four; repeating = (one, put_answer 84 (omega arith), λ earlier has low some. absurd (some refl), (two, put_server 84 (omega arith), λ earlier has low some. absurd (some refl), (three, put_authority 84 (omega arith), λ earlier has low some. absurd (some refl), (four, put_pointer 84 (omega arith), λ earlier has low some. absurd (some refl), refl)))); last = refl };
   is = refl;
 }
 
@@ -99,4 +101,6 @@ returns-clause-no_form_first c = formless {e = CharacterDataTooLong} (record {
   fronts = [];
   fits = omega arith;
   lists = stuck_list {count = 0} (record { counted = omega arith; puts = refl; ends = record { next = too_long_string; rest = []; is = refl; formless = refl } });
+  put = fronts_with (all_of 0) (all_of 0) (all_of 0);
+  owners = record { sections = header_and_questions formless_and_large; repeating = refl; last = refl };
 }) refl

@@ -3,14 +3,14 @@ use Rattle.std.proofs.Common.{◌≡◌, ℕ, List, [], ◌∷◌, ◌++◌, len
 use Rattle.hickory_wire.specs.serialize.layout.MessageLayout.{tsig_record}
 use Rattle.hickory_wire.specs.serialize.writing.Reply.{opt_record}
 use Rattle.hickory_wire.specs.worked.Worked.{a_record, signature_record}
-use Rattle.hickory_wire.specs.worked.WorkedReplies.{www_answer, www_answer_bytes, www_reply, www_reply_in_full, www_reply_compressed, dnssec_ok_fields, dnssec_ok_reply, dnssec_ok_bytes, bad_version_fields, bad_version_reply, bad_version_bytes, signed_reply, signed_bytes, long_reply, hundred_answers, sixteen_answers}
-use Rattle.hickory_wire.specs.serialize.writing.Writing.{Puts, ListFront, ListWritten, ListsWritten, cut, ending_of, header_and_questions}
+use Rattle.hickory_wire.specs.worked.WorkedReplies.{www_answer, www_answer_bytes, www_reply, www_reply_in_full, www_reply_compressed, dnssec_ok_fields, dnssec_ok_reply, dnssec_ok_bytes, bad_version_fields, bad_version_reply, bad_version_bytes, signed_reply, signed_bytes, long_reply, hundred_answers, thirty_answers}
+use Rattle.hickory_wire.specs.serialize.writing.Writing.{Puts, PutsRepeating, ListFront, ListWritten, ListsWritten, cut, ending_of, header_and_questions}
 use Rattle.hickory_wire.specs.serialize.writing.Writing.ListsWritten.{none_left, next_list}
 use Rattle.hickory_wire.specs.serialize.writing.RecordSize.{full_size}
 use Rattle.hickory_wire.specs.declared.rr.rdata.RData.{RData}
 use Rattle.hickory_wire.specs.declared.rr.record.Record.{Record}
 use Rattle.hickory_wire.proofs.lemmas.worked.Literals.{stands, root_at, octets_at, end_at, label_at, pointer_at}
-use Rattle.hickory_wire.proofs.lemmas.worked.LiteralReplies.{no_records, three_empty, four_empty, put_answer, put_answers, put_address, body_of, www_written}
+use Rattle.hickory_wire.proofs.lemmas.worked.LiteralReplies.{no_records, three_empty, four_empty, answered_once, put_answer, put_again, all_put, none_before, one_owner, put_address, body_of, www_written}
 use Rattle.hickory_wire.proofs.worked.worked_replies.Goals as goal
 
 pub returns-clause-in_full : goal.returns-clause-in_full
@@ -21,6 +21,7 @@ returns-clause-just_enough c = record {
   body = body_of www_reply_in_full;
   fits = omega arith;
   lists = next_list (record { counted = omega arith; puts = (body_of www_reply_in_full, put_answer 64 (header_and_questions www_reply) (omega arith) (omega arith), refl); ends = refl }) (four_empty 64 (body_of www_reply_in_full));
+  owners = record { sections = body_of www_reply_in_full; repeating = one_owner (put_answer 64 (header_and_questions www_reply) (omega arith) (omega arith)); last = refl };
   is = refl;
 }
 
@@ -50,6 +51,7 @@ returns-clause-compressed c = record {
   body = body_of www_reply_compressed;
   fits = omega arith;
   lists = next_list (record { counted = omega arith; puts = (body_of www_reply_compressed, answer_compressed, refl); ends = refl }) (four_empty 512 (body_of www_reply_compressed));
+  owners = record { sections = body_of www_reply_compressed; repeating = one_owner answer_compressed; last = refl };
   is = refl;
 }
 
@@ -58,6 +60,7 @@ returns-clause-answer_left_out c = record {
   body = header_and_questions www_reply;
   fits = omega arith;
   lists = next_list (record { counted = omega arith; puts = refl; ends = record { next = www_answer; rest = []; is = refl; formed = refl; large = omega arith } }) (four_empty 63 (header_and_questions www_reply));
+  owners = record { sections = header_and_questions www_reply; repeating = refl; last = refl };
   is = refl;
 }
 
@@ -82,6 +85,7 @@ returns-clause-question_alone c = record {
   body = header_and_questions www_reply;
   fits = omega arith;
   lists = next_list (record { counted = omega arith; puts = refl; ends = record { next = www_answer; rest = []; is = refl; formed = refl; large = omega arith } }) (four_empty 33 (header_and_questions www_reply));
+  owners = record { sections = header_and_questions www_reply; repeating = refl; last = refl };
   is = refl;
 }
 
@@ -95,15 +99,21 @@ returns-clause-lists_cut_apart c = record {
   fits = omega arith;
   lists = next_list (record { counted = omega arith; puts = (first_answer, put_answer 60 (header_and_questions long_reply) (omega arith) (omega arith), refl); ends = record { next = www_answer; rest = www_answer ∷ []; is = refl; formed = refl; large = omega arith } })
       (next_list (record { counted = omega arith; puts = (first_answer ++ a_record, put_address 60 first_answer (omega arith) (omega arith), refl); ends = refl }) (three_empty 60 (first_answer ++ a_record)));
+  owners = record { sections = first_answer ++ a_record; repeating = (first_answer, put_answer 60 (header_and_questions long_reply) (omega arith) (omega arith), none_before first_answer 12 www_answer.name.labels, (first_answer ++ a_record, put_address 60 first_answer (omega arith) (omega arith), λ earlier has low some. absurd (some refl), refl)); last = refl };
   is = refl;
 }
 
+-- the first answer in full, and the others by pointers
+thirty_put : PutsRepeating 512 [] (header_and_questions hundred_answers) (replicate 30 www_answer) (body_of thirty_answers)
+thirty_put = (answered_once, put_answer 512 (header_and_questions hundred_answers) (omega arith) (omega arith), none_before answered_once 12 www_answer.name.labels, put_again 512 29 (record { place = 12; labels = www_answer.name.labels } ∷ []) [] (body_of thirty_answers) (omega arith) refl)
+
 pub returns-clause-hundred_answers : goal.returns-clause-hundred_answers
 returns-clause-hundred_answers c = record {
-  body = body_of sixteen_answers;
+  body = body_of thirty_answers;
   fits = omega arith;
-  lists = next_list (record { counted = omega arith; puts = put_answers 512 16 (header_and_questions hundred_answers) (body_of sixteen_answers) (omega arith) (omega arith) refl; ends = record { next = www_answer; rest = replicate 83 www_answer; is = refl; formed = refl; large = omega arith } })
-      (four_empty 512 (body_of sixteen_answers));
+  lists = next_list (record { counted = omega arith; puts = all_put 512 [] (replicate 30 www_answer) (header_and_questions hundred_answers) (body_of thirty_answers) thirty_put; ends = record { next = www_answer; rest = replicate 69 www_answer; is = refl; formed = refl; large = omega arith } })
+      (four_empty 512 (body_of thirty_answers));
+  owners = record { sections = body_of thirty_answers; repeating = thirty_put; last = refl };
   is = refl;
 }
 
@@ -126,6 +136,7 @@ returns-clause-dnssec_ok c = record {
   fits = omega arith;
   lists = next_list (no_records 512 (header_and_questions dnssec_ok_reply)) (next_list (no_records 512 (header_and_questions dnssec_ok_reply)) (next_list (no_records 512 (header_and_questions dnssec_ok_reply))
       (next_list (record { counted = omega arith; puts = (body_of dnssec_ok_bytes, dnssec_ok_put, refl); ends = refl }) (next_list (no_records 512 (body_of dnssec_ok_bytes)) none_left))));
+  owners = record { sections = header_and_questions dnssec_ok_reply; repeating = refl; last = (body_of dnssec_ok_bytes, dnssec_ok_put, refl) };
   is = refl;
 }
 
@@ -148,6 +159,7 @@ returns-clause-bad_version c = record {
   fits = omega arith;
   lists = next_list (no_records 512 (header_and_questions bad_version_reply)) (next_list (no_records 512 (header_and_questions bad_version_reply)) (next_list (no_records 512 (header_and_questions bad_version_reply))
       (next_list (record { counted = omega arith; puts = (body_of bad_version_bytes, bad_version_put, refl); ends = refl }) (next_list (no_records 512 (body_of bad_version_bytes)) none_left))));
+  owners = record { sections = header_and_questions bad_version_reply; repeating = refl; last = (body_of bad_version_bytes, bad_version_put, refl) };
   is = refl;
 }
 
@@ -178,5 +190,6 @@ returns-clause-signed c = record {
   fits = omega arith;
   lists = next_list (no_records 512 (header_and_questions signed_reply)) (next_list (no_records 512 (header_and_questions signed_reply)) (next_list (no_records 512 (header_and_questions signed_reply))
       (next_list (no_records 512 (header_and_questions signed_reply)) (next_list (record { counted = omega arith; puts = (body_of signed_bytes, signature_put, refl); ends = refl }) none_left))));
+  owners = record { sections = header_and_questions signed_reply; repeating = refl; last = (body_of signed_bytes, signature_put, refl) };
   is = refl;
 }

@@ -2,6 +2,8 @@
 use Rattle.std.specs.Prelude.{◌≡◌, ℕ, ◌+◌, ◌<◌, List, [], ◌∷◌, ◌++◌, length, map, true, false, Option, Some, None}
 use Rattle.std.specs.Borrow.{Bor}
 use Rattle.std.specs.Iterator.{Drains}
+use Rattle.hickory_wire.specs.rr.domain.DomainName.{wire_form}
+use Rattle.hickory_wire.specs.serialize.writing.Noted.{Notes, AreNotes, KeepsNotes, Compresses}
 use Rattle.hickory_wire.specs.serialize.writing.RecordSize.{full_size, unwritable_reason}
 use Rattle.hickory_wire.specs.serialize.writing.Writing as writing
 use Rattle.hickory_wire.specs.serialize.writing.Writing.{Puts, ListWritten, ListFront, ListsWritten}
@@ -18,6 +20,23 @@ abbrev pub RecordEnds : ℕ → List ℕ → Record RData → List ℕ → Endin
 RecordEnds limit old r new Whole = Puts limit old r new
 RecordEnds limit old r new Cut = (new ≡ old) × (unwritable_reason r.rdata ≡ None) × (limit < length old + full_size r)
 RecordEnds limit old r new (Stuck e) = (new ≡ old) × (unwritable_reason r.rdata ≡ Some e)
+
+-- The owner name of a record that was put was written by the notes and noted, and the notes hold of the new bytes.
+pub record OwnerNoted (old : List ℕ) (r : Record RData) (new : List ℕ) (notes notes' : Notes) : Type 0 where
+  pub hold : AreNotes new (length new) notes'
+  pub adds : KeepsNotes notes notes'
+  pub compresses : Compresses old new notes notes' (wire_form r.name.labels)
+
+-- But for a record that was put nothing is noted.
+abbrev pub NotesFollow : List ℕ → Record RData → List ℕ → Notes → Notes → Ending → Type 0
+NotesFollow old r new notes notes' Whole = OwnerNoted old r new notes notes'
+NotesFollow old r new notes notes' Cut = notes' ≡ notes
+NotesFollow old r new notes notes' (Stuck e) = notes' ≡ notes
+
+-- Records are put one behind the other, each owner name written by the notes so far, and noted.
+abbrev pub NotedRun : ℕ → List ℕ → Notes → List (Record RData) → List ℕ → Notes → Type 0
+NotedRun limit old notes [] new notes' = (new ≡ old) × (notes' ≡ notes)
+NotedRun limit old notes (r ∷ rs) new notes' = (middle : List ℕ) × (between : Notes) × Puts limit old r middle × OwnerNoted old r middle notes between × NotedRun limit middle between rs new notes'
 
 -- the ending as the relation of what may be written has it
 abbrev pub seen_ending : Ending → writing.ListEnding

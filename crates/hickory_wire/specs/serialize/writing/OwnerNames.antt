@@ -1,9 +1,6 @@
 -- Owner names that repeat earlier ones as pointers (RFC 1035 section 4.1.4).
-use Rattle.std.specs.Prelude.{◌≡◌, ◌≢◌, ℕ, ◌<◌, ◌≤◌, ◌^◌, List, [], ◌∷◌, ◌++◌, length, slice_index}
+use Rattle.std.specs.Prelude.{◌≢◌, ℕ, ◌<◌, ◌≤◌, ◌^◌, List, [], slice_index}
 use Rattle.std.specs.List.{Contains}
-use Rattle.hickory_wire.specs.serialize.writing.Writing.{Puts}
-use Rattle.hickory_wire.specs.declared.rr.rdata.RData.{RData}
-use Rattle.hickory_wire.specs.declared.rr.record.Record.{Record}
 
 -- a place at which a record was put, and the labels of its owner name
 pub record OwnerPlace : Type 0 where
@@ -14,10 +11,3 @@ pub record OwnerPlace : Type 0 where
 -- labels, letter case included. The root takes one byte, and has no pointer.
 abbrev pub RepeatsOwner : List OwnerPlace → List ℕ → ℕ → List (List ℕ) → Type 0
 RepeatsOwner before bytes place labels = (earlier : ℕ) → Contains before (record { place = earlier; labels = labels }) → earlier < 2 ^ 14 → labels ≢ [] → 192 ≤ slice_index bytes place
-
--- The records of sections are put one behind the other, behind records at the places told, and each that has the owner name of one before repeats it as a
--- pointer.
-abbrev pub PutsRepeating : ℕ → List OwnerPlace → List ℕ → List (Record RData) → List ℕ → Type 0
-PutsRepeating limit before old [] new = new ≡ old
-PutsRepeating limit before old (r ∷ rs) new = (middle : List ℕ) × Puts limit old r middle × RepeatsOwner before middle (length old) r.name.labels
-    × PutsRepeating limit (before ++ record { place = length old; labels = r.name.labels } ∷ []) middle rs new

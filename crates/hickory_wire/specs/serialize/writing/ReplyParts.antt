@@ -7,7 +7,7 @@ use Rattle.hickory_wire.specs.serialize.writing.Endings.{GivesRecords}
 use Rattle.hickory_wire.specs.serialize.layout.MessageLayout.{MessageAt}
 use Rattle.hickory_wire.specs.serialize.reading.MessageReading.{Reads}
 use Rattle.hickory_wire.specs.serialize.writing.Reply.{Reply, reply_lists}
-use Rattle.hickory_wire.specs.serialize.writing.Writing.{ListFront, ListsWritten, Fronts, fronts_list, Written, GetsStuck, Encoded, written_header}
+use Rattle.hickory_wire.specs.serialize.writing.Writing.{ListFront, ListsWritten, OwnersRepeat, Fronts, fronts_list, Written, GetsStuck, Encoded, written_header}
 use Rattle.hickory_wire.specs.declared.error.ProtoError.{ProtoError}
 use Rattle.hickory_wire.specs.declared.error.ProtoError.TheVariants.{MaxSizeExceeded}
 use Rattle.hickory_wire.specs.declared.op.header.Header.{Header}
@@ -59,9 +59,10 @@ fronts_of s = record {
   signature = seen_front s.signature;
 }
 
--- The lists of the reply are put behind old. The last of them tells the fault, if one was met.
+-- The lists of the reply are put behind old, and owner names that repeat are pointers. The last of them tells the fault, if one was met.
 abbrev pub WritesLists : ℕ → List ℕ → Reply → List ℕ → Sections → Type 0
 WritesLists limit old reply new s = (all : List ListFront) × ListsWritten limit (reply_lists reply) old new all s.signature.fault × (s.signature.fault ≡ None → all ≡ fronts_list (fronts_of s))
+    × OwnersRepeat limit old reply (fronts_of s) new
 
 -- The bytes are the reply, this is their header, and what was written stands in them as a message and reads back.
 pub record ReplyWritten (limit : ℕ) (reply : Reply) (bytes : List ℕ) (header : Header) : Type 0 where

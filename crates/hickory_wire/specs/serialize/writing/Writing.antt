@@ -1,13 +1,15 @@
 -- What bytes a reply may be written as under a limit (RFC 1035 sections 4.1.1, 4.1.4 and 4.2.1).
 -- Records are left out one by one, and TC tells of any that were: also of additionals, which RFC 2181 section 9 would let go silently.
-use Rattle.std.specs.Prelude.{◌≡◌, ℕ, ◌+◌, ◌<◌, ◌≤◌, List, [], ◌∷◌, ◌++◌, length, take, drop, replicate, Bool, true, false, ◌||◌, Option, Some, None}
+use Rattle.std.specs.Prelude.{◌≡◌, ℕ, ◌+◌, ◌<◌, ◌≤◌, List, [], ◌∷◌, ◌++◌, length, take, drop, replicate, Bool, true, false, ◌||◌, Option, Some, None, option_to_list, option_map}
 use Rattle.hickory_wire.specs.serialize.writing.FullForm.{EndsInFull}
 use Rattle.hickory_wire.specs.serialize.layout.FieldRanges.{IsRecordInRange}
 use Rattle.hickory_wire.specs.serialize.layout.HeaderLayout.{header_octets}
 use Rattle.hickory_wire.specs.op.Metadata.{bare_metadata}
 use Rattle.hickory_wire.specs.serialize.layout.RecordLayout.{FormAt}
 use Rattle.hickory_wire.specs.serialize.writing.RecordSize.{full_size, unwritable_reason}
-use Rattle.hickory_wire.specs.serialize.writing.Reply.{Reply, reply_lists}
+use Rattle.hickory_wire.specs.serialize.layout.MessageLayout.{tsig_record}
+use Rattle.hickory_wire.specs.serialize.writing.OwnerNames.{OwnerPlace, RepeatsOwner}
+use Rattle.hickory_wire.specs.serialize.writing.Reply.{Reply, opt_record, reply_lists}
 use Rattle.hickory_wire.specs.declared.error.ProtoError.{ProtoError}
 use Rattle.hickory_wire.specs.declared.op.header.Header.{Header}
 use Rattle.hickory_wire.specs.declared.op.header.Metadata.{Metadata}
@@ -32,6 +34,13 @@ pub record Puts (limit : ℕ) (old : List ℕ) (r : Record RData) (new : List �
 abbrev pub PutsAll : ℕ → List ℕ → List (Record RData) → List ℕ → Type 0
 PutsAll limit old [] new = new ≡ old
 PutsAll limit old (r ∷ rs) new = (middle : List ℕ) × Puts limit old r middle × PutsAll limit middle rs new
+
+-- The records of sections are put one behind the other, behind records at the places told, and each that has the owner name of one before repeats it as a
+-- pointer.
+abbrev pub PutsRepeating : ℕ → List OwnerPlace → List ℕ → List (Record RData) → List ℕ → Type 0
+PutsRepeating limit before old [] new = new ≡ old
+PutsRepeating limit before old (r ∷ rs) new = (middle : List ℕ) × Puts limit old r middle × RepeatsOwner before middle (length old) r.name.labels
+    × PutsRepeating limit (before ++ record { place = length old; labels = r.name.labels } ∷ []) middle rs new
 
 -- how the writing of a list of records ended
 pub data ListEnding : Type 0 where
@@ -110,6 +119,20 @@ header_with metadata question_count f = record {
 abbrev pub written_header : Reply → Fronts → Header
 written_header reply = header_with reply.metadata reply.question_count
 
+-- the records of the sections that were put, so many of each
+abbrev pub section_records : Reply → Fronts → List (Record RData)
+section_records reply put = take put.answers.count reply.answers ++ take put.authorities.count (reply.authorities ++ reply.soa) ++ take put.additionals.count reply.additionals
+
+-- OPT and TSIG, where they were put
+abbrev pub last_records : Reply → Fronts → List (Record RData)
+last_records reply put = take put.opt.count (option_to_list (option_map opt_record reply.edns)) ++ take put.signature.count (option_to_list (option_map tsig_record reply.signature))
+
+-- Behind old so many records of each list are put. In the sections an owner name that stood before as one is a pointer, where a pointer reaches it.
+pub record OwnersRepeat (limit : ℕ) (old : List ℕ) (reply : Reply) (put : Fronts) (new : List ℕ) : Type 0 where
+  pub sections : List ℕ
+  pub repeating : PutsRepeating limit [] old (section_records reply put) sections
+  pub last : PutsAll limit sections (last_records reply put) new
+
 -- room for the header, and the questions behind it
 abbrev pub header_and_questions : Reply → List ℕ
 header_and_questions reply = replicate 12 0 ++ reply.question
@@ -119,14 +142,17 @@ pub record Written (limit : ℕ) (reply : Reply) (bytes : List ℕ) (fronts : Fr
   pub body : List ℕ
   pub fits : 12 + length reply.question ≤ limit
   pub lists : ListsWritten limit (reply_lists reply) (header_and_questions reply) body (fronts_list fronts) None
+  pub owners : OwnersRepeat limit (header_and_questions reply) reply fronts body
   pub is : bytes ≡ header_octets (written_header reply fronts) ++ drop 12 body
 
--- The writing of the reply within the limit meets a record without a form.
+-- The writing of the reply within the limit meets a record without a form, behind so many records of each list.
 pub record GetsStuck (limit : ℕ) (reply : Reply) (e : ProtoError) : Type 0 where
   pub body : List ℕ
   pub fronts : List ListFront
   pub fits : 12 + length reply.question ≤ limit
   pub lists : ListsWritten limit (reply_lists reply) (header_and_questions reply) body fronts (Some e)
+  pub put : Fronts
+  pub owners : OwnersRepeat limit (header_and_questions reply) reply put body
 
 -- the header of the shortest reply there is: ServFail and nothing else
 abbrev pub fallback_header : ℕ → Header

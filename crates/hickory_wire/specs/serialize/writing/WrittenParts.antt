@@ -1,4 +1,4 @@
--- The record that is written of its parts.
+-- The record that is written of its parts, where something else stands for it.
 use Rattle.hickory_wire.specs.declared.rr.rdata.RData.{RData}
 use Rattle.hickory_wire.specs.declared.rr.rdata.RData.TheVariants as rdata
 use Rattle.hickory_wire.specs.declared.rr.record.Proof.{Proof}
@@ -9,7 +9,6 @@ use Rattle.hickory_wire.specs.declared.serialize.writing.record_encoder.Parts.{P
 
 -- the data of the record
 abbrev pub rdata_of : Data → RData
-rdata_of (written.Own content) = content.now
 rdata_of (written.Options options) = rdata.OPT options.now
 rdata_of (written.Signature signature) = rdata.TSIG signature.now
 

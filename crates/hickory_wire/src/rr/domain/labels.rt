@@ -1,7 +1,7 @@
 //! The labels of a name that is being made.
 
 ghost use Rattle.std.specs.Prelude.{◌≡◌, ◌+◌, ◌<◌, [], ◌∷◌, ◌++◌, length, IfOk};
-ghost use Rattle.hickory_wire.specs.rr.domain.DomainName.{DomainName, wire_form, IsLabel};
+ghost use Rattle.hickory_wire.specs.rr.domain.DomainName.{DomainName, wire_form, IsLabel, IsWire, cut};
 
 use crate::rr::domain::name::Name;
 use std::alloc::{AllocError, Global};
@@ -61,6 +61,17 @@ impl Labels {
         self.bytes[self.len] = label.len() as u8;
         self.bytes[start..start + label.len()].copy_from_slice(label);
         self.len = start + label.len();
+    }
+
+    /// Puts labels in wire form behind the others. With them the name has at most 255 bytes in wire form, its end byte counted.
+    pub(crate) fn append(&mut self, wire: &[u8])
+        requires wire { IsWire wire.now }
+        requires fits { length (wire_form self.old) + length wire.now < 255 }
+        ensures { self.new ≡ self.old ++ cut wire.now }
+    {
+        let end = self.len + wire.len();
+        self.bytes[self.len..end].copy_from_slice(wire);
+        self.len = end;
     }
 
     /// The name of these labels, fully qualified or not.

@@ -1,27 +1,40 @@
 //! Reading from the front of a message to its end.
 
-ghost use Rattle.std.specs.Prelude.{◌≡◌, ◌≢◌, IfOk, IfErr, ◌+◌, ◌^◌, ◌≤◌, ◌<◌, length, slice_range, ℕ};
+ghost use Rattle.std.specs.Prelude.{◌≡◌, ◌≢◌, IfOk, IfErr, IfSome, ◌+◌, ◌^◌, ◌≤◌, ◌<◌, length, slice_range, ℕ};
 ghost use Rattle.std.specs.Int.{w8, w16, w32};
 ghost use Rattle.hickory_wire.specs.serialize.layout.Bytes.{AreBytes};
 ghost use Rattle.hickory_wire.specs.serialize.reading.Cursor.{Cursor};
 ghost use Rattle.hickory_wire.specs.rr.domain.DomainName.{DomainName};
 ghost use Rattle.hickory_wire.specs.serialize.reading.Reading.{Gives, GivesSeenBy, number, octets, rest_of};
-ghost use Rattle.hickory_wire.specs.serialize.layout.NameLayout.{NameAt, NameFault, IsFullyQualified};
+ghost use Rattle.hickory_wire.specs.serialize.layout.NameLayout.{LabelsAt, NameAt, NameFault, IsFullyQualified};
 ghost use Rattle.hickory_wire.specs.serialize.reading.NameReading.{name};
 ghost use Rattle.hickory_wire.specs.declared.error.DecodeError.TheVariants.{Memory, InsufficientBytes};
 
 use crate::error::DecodeError;
 use crate::rr::domain::name::Name;
+use crate::serialize::reading::known_names::KnownNames;
 use crate::serialize::reading::name_reader::read_name_at;
 use bytes::Buf;
-use std::alloc::Global;
+use std::alloc::{AllocError, Global};
 use std::marker::Model;
+
+/// The names of any message may take so many steps behind pointers, and one more for so many bytes of the message, before
+/// what they lead to is kept. The names of most messages take fewer.
+const FREE_STEPS: usize = 128;
+
+const BYTES_PER_STEP: usize = 4;
+
+/// So few steps cost less to take again than to keep what they lead to.
+const FEW_STEPS: usize = 2;
 
 /// A place in the bytes of a message, from where it is read on.
 #[derive(Drop)]
 pub struct BinDecoder<'a> {
     bytes: &'a [u8],
     index: usize,
+    // How many more steps behind pointers names may take before what they lead to is kept.
+    spare: usize,
+    known: Option<KnownNames<'a>>,
 }
 
 impl<'a> Model for BinDecoder<'a> {
@@ -30,7 +43,7 @@ impl<'a> Model for BinDecoder<'a> {
     ghost view = { λ decoder. record { bytes = decoder.bytes.now; place = decoder.index } };
 
     // The numbers of a message are those of bytes.
-    ghost invariant = { λ decoder. (decoder.index ≤ length decoder.bytes.now) × AreBytes decoder.bytes.now };
+    ghost invariant = { λ decoder. (decoder.index ≤ length decoder.bytes.now) × AreBytes decoder.bytes.now × IfSome decoder.known (λ names. names ≡ decoder.bytes.now) };
 }
 
 impl<'a> BinDecoder<'a> {
@@ -38,7 +51,12 @@ impl<'a> BinDecoder<'a> {
     pub fn new(bytes: &'a [u8]) -> Self
         ensures { result ≡ record { bytes = bytes.now; place = 0 } }
     {
-        BinDecoder { bytes, index: 0 }
+        BinDecoder {
+            bytes,
+            index: 0,
+            spare: FREE_STEPS + bytes.len() / BYTES_PER_STEP,
+            known: None,
+        }
     }
 
     /// How many bytes lie before this place.
@@ -131,12 +149,31 @@ impl<'a> BinDecoder<'a> {
         Ok(&rest[..count])
     }
 
+    /// Keeps what the name at a place leads to.
+    fn keep_name(&mut self, alloc: Global, place: usize, name: &Name) -> Result<(), AllocError>
+        requires { (next : ℕ) × LabelsAt 0 self.old.bytes place place name.now.labels next }
+        ensures { self.new ≡ self.old }
+    {
+        if self.known.is_none() {
+            self.known = Some(KnownNames::new(alloc, self.bytes)?);
+        }
+        if let Some(known) = &mut self.known {
+            known.keep(place, name.as_wire())?;
+        }
+        Ok(())
+    }
+
     #[tactic(auto, unfolding(crate::specs::serialize::reading::NameReading::name))]
     fn next_name(&mut self, alloc: Global) -> Result<Name, DecodeError>
         ensures { Gives result self.old self.new name }
     {
-        let (name, next) = read_name_at(alloc, self.bytes, self.index)?;
+        let from = self.index;
+        let (name, next, steps) = read_name_at(alloc, self.bytes, from, &self.known)?;
         self.index = next;
+        if steps > self.spare.max(FEW_STEPS) {
+            self.keep_name(alloc, from, &name)?;
+        }
+        self.spare = self.spare.saturating_sub(steps);
         Ok(name)
     }
 

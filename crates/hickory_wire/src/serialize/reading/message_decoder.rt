@@ -147,9 +147,9 @@ impl Message {
     /// or authorities, and in the additional section, in this order, `RecordAfterSignature` behind a TSIG record,
     /// `EdnsNameNotRoot` and `DuplicateEdns`. `Memory` comes only where memory was refused.
     ///
-    /// Memory is taken as records are read, so the counts of a short message cost nothing. A name's pointers each
-    /// lead before the labels that they end, so a name costs at most as many steps as bytes lie before its end, and
-    /// hostile bytes at most the square of their number.
+    /// Memory is taken as records are read, so the counts of a short message cost nothing. Where names take many steps
+    /// behind compression pointers, more than one for four bytes of the message, what they lead to is kept by place, and
+    /// no place is walked again; this takes memory as well.
     pub fn read(alloc: Global, bytes: &[u8]) -> Result<Message, DecodeError>
         // What is read stands there.
         ensures found { IfOk result (λ m. Reads bytes.now m) }

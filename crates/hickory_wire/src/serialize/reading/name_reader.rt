@@ -1,21 +1,24 @@
 //! Reading a name from the bytes of a message.
 
-ghost use Rattle.std.specs.Prelude.{◌≡◌, ◌≢◌, ◌≤◌, length, map, MatchResult, IfOk, IfSome, slice_get, ◌<◌, ◌+◌, true, Some, ℕ};
+ghost use Rattle.std.specs.Prelude.{◌≡◌, ◌≢◌, ◌≤◌, ◌++◌, List, length, map, MatchResult, IfOk, IfSome, slice_get, ◌<◌, ◌+◌, true, Some, ℕ};
+ghost use Rattle.hickory_wire.specs.serialize.reading.KnownNames.{IsRest};
+ghost use Rattle.hickory_wire.specs.declared.error.DecodeError.TheVariants.{Memory, NameTooLong};
 ghost use Rattle.hickory_wire.specs.serialize.reading.NameReading.{labels_from, target};
 ghost use Rattle.hickory_wire.specs.serialize.layout.NameLayout.{LabelsFault};
-ghost use Rattle.hickory_wire.specs.rr.domain.DomainName.{AreLabels};
+ghost use Rattle.hickory_wire.specs.rr.domain.DomainName.{AreLabels, IsWire, cut, wire_form};
 ghost use Rattle.hickory_wire.specs.serialize.reading.Reading.{Fails};
 
 use crate::error::DecodeError;
 use crate::rr::domain::labels::{Labels, MAX_NAME_LEN};
 use crate::rr::domain::name::Name;
+use crate::serialize::reading::known_names::KnownNames;
 use std::alloc::Global;
 
 /// The first length byte of no label.
-const LABEL_LIMIT: usize = 64;
+pub(crate) const LABEL_LIMIT: usize = 64;
 
 /// The first byte of a pointer has these two bits set (RFC 1035, section 4.1.4).
-const POINTER_BITS: usize = 192;
+pub(crate) const POINTER_BITS: usize = 192;
 
 fn byte_at(bytes: &[u8], place: usize) -> Option<u8>
     ensures value { result ≡ slice_get bytes.now place }
@@ -66,12 +69,45 @@ fn pointer_target(
     Ok(target)
 }
 
-/// The name at a place, fully qualified, and the place behind it.
+/// What is known of the name that goes on at a place, and the place behind the name: nothing before the first pointer.
+fn known_rest<'a>(
+    known: &'a Option<KnownNames<'_>>,
+    after: Option<usize>,
+    start: usize,
+    place: usize,
+) -> Option<(&'a [u8], usize)>
+    ensures behind { IfSome result (λ x. after ≡ Some x.1) }
+    ensures rest { (bytes : List ℕ) → IfSome known.now (λ names. names ≡ bytes) → IfSome result (λ x. IsRest bytes start place x.0.now) }
+{
+    let names = known.as_ref()?;
+    let after = after?;
+    let rest = names.rest(start, place)?;
+    Some((rest, after))
+}
+
+/// The name of labels that were read, and of a rest in wire form.
+fn name_with_rest(alloc: Global, labels: &mut Labels, rest: &[u8]) -> Result<Name, DecodeError>
+    requires { IsWire rest.now }
+    ensures { MatchResult result
+        (λ name. (name ≡ record { labels = labels.old ++ cut rest.now; is_fqdn = true }) × (length (wire_form labels.old) + length rest.now < 255))
+        (λ e. e ≢ Memory → (e ≡ NameTooLong) × (255 ≤ length (wire_form labels.old) + length rest.now)) }
+{
+    if labels.wire_len() + rest.len() >= MAX_NAME_LEN {
+        return Err(DecodeError::NameTooLong);
+    }
+    labels.append(rest);
+    Ok(labels.to_name(alloc, true)?)
+}
+
+/// The name at a place, fully qualified, the place behind it, and how many steps were taken behind its first pointer: a step
+/// for each label and each pointer. What is known of the message is not walked again.
 pub(crate) fn read_name_at(
     alloc: Global,
     bytes: &[u8],
     from: usize,
-) -> Result<(Name, usize), DecodeError>
+    known: &Option<KnownNames<'_>>,
+) -> Result<(Name, usize, usize), DecodeError>
+    requires { IfSome known.now (λ names. names ≡ bytes.now) }
     ensures gives { MatchResult result
         (λ x. labels_from bytes.now from from 1 ≡ Ok (x.0.labels, x.1))
         (λ e. Fails e (labels_from bytes.now from from 1)) }
@@ -83,15 +119,21 @@ pub(crate) fn read_name_at(
     let mut place = from;
     let mut size = 1;
     let mut after = None;
+    let mut steps = 0usize;
     'labels: loop {
+        if let Some((rest, next)) = known_rest(known, after, start, place) {
+            let whole = name_with_rest(alloc, &mut labels, rest)?;
+            return Ok((whole, next, steps));
+        }
         let Some(high) = byte_at(bytes, place) else {
             return Err(DecodeError::InsufficientBytes);
         };
         let high = usize::from(high);
         if high == 0 {
             let name = labels.to_name(alloc, true)?;
-            return Ok((name, after.unwrap_or(place + 1)));
+            return Ok((name, after.unwrap_or(place + 1), steps));
         }
+        steps = steps.saturating_add(usize::from(after.is_some()));
         if high < LABEL_LIMIT {
             let end = label_end(bytes, place, size, high)?;
             labels.push(&bytes[place + 1..end]);

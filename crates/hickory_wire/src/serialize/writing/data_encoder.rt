@@ -1,4 +1,4 @@
-//! The data of records in bytes, with every name in full.
+//! The data of records in bytes.
 
 ghost use Rattle.std.specs.Prelude.{◌≡◌, ℕ, ◌+◌, ◌^◌, ◌<◌, ◌≤◌, ◌++◌, length, OnOk, MatchResult, Some, None, nat_lt};
 ghost use Rattle.std.specs.List.{flat_map, list_any};
@@ -6,7 +6,8 @@ ghost use Rattle.std.specs.Int.{w16, w32, to_be_bytes};
 ghost use Rattle.hickory_wire.specs.rr.domain.DomainName.{name_len, AreLabels};
 ghost use Rattle.hickory_wire.specs.serialize.layout.FieldRanges.{IsInRange};
 ghost use Rattle.hickory_wire.specs.serialize.writing.WrittenParts.{rdata_of};
-ghost use Rattle.hickory_wire.specs.serialize.writing.FullForm.{name_octets, soa_octets, tsig_octets, data_octets, HasNames, HasLength};
+ghost use Rattle.hickory_wire.specs.serialize.writing.FullForm.{name_octets, tsig_octets, data_octets, HasNames, HasLength};
+ghost use Rattle.hickory_wire.specs.serialize.writing.WritingByNotes.{WritesData};
 ghost use Rattle.hickory_wire.specs.rr.RecordData.{character_string, option_octets, soa_numbers, tsig_fields, type_of};
 ghost use Rattle.hickory_wire.specs.serialize.writing.RecordSize.{data_len, unwritable_reason, length_fault};
 ghost use Rattle.hickory_wire.specs.declared.rr.rdata.RData.TheVariants as rdata_form;
@@ -14,9 +15,11 @@ ghost use Rattle.hickory_wire.specs.declared.rr.rdata.RData.TheVariants as rdata
 use crate::error::ProtoError;
 use crate::op::edns::EdnsOption;
 use crate::rr::domain::name::Name;
-use crate::rr::rdata::{RData, SOA};
+use crate::rr::rdata::{MX, RData, SOA};
 use crate::rr::record_type::RecordType;
 use crate::rr::tsig::TSIG;
+use crate::serialize::writing::compression_table::CompressionTable;
+use crate::serialize::writing::name_encoder::write_compressed_name;
 use crate::values::octets::Octets;
 use std::alloc::AllocError;
 
@@ -98,11 +101,9 @@ fn soa_len(soa: &SOA) -> u16
     full_name_len(&soa.mname) + full_name_len(&soa.rname) + 20
 }
 
-/// The data of a record that is written: its own, or those of the OPT or TSIG record that something else stands for.
+/// The data of a record that something else stands for.
 #[derive(Clone, Copy)]
 pub(crate) enum Data<'r> {
-    /// The record's own.
-    Own(&'r RData),
     /// The options of an OPT record.
     Options(&'r [EdnsOption]),
     /// The data of a TSIG record.
@@ -115,7 +116,6 @@ impl Data<'_> {
         ensures { result ≡ type_of (rdata_of self.entry) }
     {
         match self {
-            Data::Own(rdata) => rdata.record_type(),
             Data::Options(_) => RecordType::OPT,
             Data::Signature(_) => RecordType::TSIG,
         }
@@ -127,7 +127,6 @@ impl Data<'_> {
         ensures names { HasNames (rdata_of self.entry) }
     {
         match self {
-            Data::Own(rdata) => full_data_len(rdata),
             Data::Options(options) => options_len(options),
             Data::Signature(signature) => signature_len(signature),
         }
@@ -136,19 +135,18 @@ impl Data<'_> {
     /// Puts the data behind the bytes, with every name in full.
     pub(crate) fn write(self, bytes: &mut Vec<u8>) -> Result<(), AllocError>
         requires form { unwritable_reason (rdata_of self) ≡ None }
-        requires kind { type_of (rdata_of self) < 2 ^ 16 }
         ensures bytes { OnOk result (bytes.new.items ≡ bytes.old.items ++ data_octets (rdata_of self.entry)) }
         ensures in_range { OnOk result (IsInRange (rdata_of self.entry)) }
     {
         match self {
-            Data::Own(rdata) => write_data(bytes, rdata),
             Data::Options(options) => write_options(bytes, options),
             Data::Signature(signature) => write_signature_data(bytes, signature),
         }
     }
 }
 
-fn full_data_len(rdata: &RData) -> Result<u16, ProtoError>
+/// How many bytes the data of a record take with every name in full, or why they have no form in bytes.
+pub(crate) fn full_data_len(rdata: &RData) -> Result<u16, ProtoError>
     ensures len { HasLength rdata.now result }
     ensures names { HasNames rdata.now }
 {
@@ -166,6 +164,16 @@ fn full_data_len(rdata: &RData) -> Result<u16, ProtoError>
         RData::NULL(octets) => octets_len(octets),
         RData::Update0(_) => Ok(0),
         RData::Unknown { bytes, .. } => octets_len(bytes),
+    }
+}
+
+/// How many bytes data that are so long in full take at least: as many, where no name in them is compressed (RFC 3597 section 4).
+pub(crate) fn least_data_len(rdata: &RData, full_len: u16) -> u16
+    ensures { result ≤ full_len }
+{
+    match rdata {
+        RData::NS(_) | RData::CNAME(_) | RData::PTR(_) | RData::MX(_) | RData::SOA(_) => 0,
+        _ => full_len,
     }
 }
 
@@ -201,17 +209,46 @@ fn write_counted(bytes: &mut Vec<u8>, octets: &Octets) -> Result<(), AllocError>
     bytes.extend_from_slice(octets.as_slice())
 }
 
-fn write_soa(bytes: &mut Vec<u8>, soa: &SOA) -> Result<(), AllocError>
-    ensures bytes { OnOk result (bytes.new.items ≡ bytes.old.items ++ soa_octets soa.now) }
+// Preference and exchange (RFC 1035 section 3.3.9).
+fn write_mx<'n>(
+    bytes: &mut Vec<u8>,
+    table: &mut CompressionTable<'n>,
+    mx: &'n MX,
+) -> Result<(), AllocError>
+    requires { 12 ≤ length bytes.old.items }
+    ensures data { OnOk result (WritesData bytes.old.items bytes.new.items table.old table.new (rdata_form.MX mx.now)) }
+    ensures in_range { OnOk result (IsInRange (rdata_form.MX mx.now)) }
+{
+    write_u16(bytes, mx.preference)?;
+    write_compressed_name(bytes, table, &mx.exchange)?;
+    Ok(())
+}
+
+fn write_soa_numbers(bytes: &mut Vec<u8>, soa: &SOA) -> Result<(), AllocError>
+    ensures bytes { OnOk result (bytes.new.items ≡ bytes.old.items ++ soa_numbers soa.now) }
     ensures in_range { OnOk result (IsInRange (rdata_form.SOA soa.now)) }
 {
-    write_name(bytes, &soa.mname)?;
-    write_name(bytes, &soa.rname)?;
     write_u32(bytes, soa.serial)?;
     write_u32(bytes, soa.refresh)?;
     write_u32(bytes, soa.retry)?;
     write_u32(bytes, soa.expire)?;
     write_u32(bytes, soa.minimum)
+}
+
+// Both names, and the numbers (RFC 1035 section 3.3.13).
+fn write_soa<'n>(
+    bytes: &mut Vec<u8>,
+    table: &mut CompressionTable<'n>,
+    soa: &'n SOA,
+) -> Result<(), AllocError>
+    requires { 12 ≤ length bytes.old.items }
+    ensures data { OnOk result (WritesData bytes.old.items bytes.new.items table.old table.new (rdata_form.SOA soa.now)) }
+    ensures in_range { OnOk result (IsInRange (rdata_form.SOA soa.now)) }
+{
+    write_compressed_name(bytes, table, &soa.mname)?;
+    write_compressed_name(bytes, table, &soa.rname)?;
+    write_soa_numbers(bytes, soa)?;
+    Ok(())
 }
 
 fn write_strings(bytes: &mut Vec<u8>, strings: &[Octets]) -> Result<(), AllocError>
@@ -253,23 +290,28 @@ fn write_signature_data(bytes: &mut Vec<u8>, signature: &TSIG) -> Result<(), All
     write_counted(bytes, &signature.other)
 }
 
-fn write_data(bytes: &mut Vec<u8>, rdata: &RData) -> Result<(), AllocError>
+/// Puts the data of a record behind the bytes. Names in the data of the types of RFC 1035 are compressed, and no others (RFC 3597 section 4); the name
+/// of a TSIG's algorithm never is (RFC 8945 section 4.2).
+pub(crate) fn write_data<'n>(
+    bytes: &mut Vec<u8>,
+    table: &mut CompressionTable<'n>,
+    rdata: &'n RData,
+) -> Result<(), AllocError>
+    requires header { 12 ≤ length bytes.old.items }
     requires form { unwritable_reason rdata.now ≡ None }
+    requires names { HasNames rdata.now }
     requires kind { type_of rdata.now < 2 ^ 16 }
-    ensures bytes { OnOk result (bytes.new.items ≡ bytes.old.items ++ data_octets rdata.now) }
+    ensures data { OnOk result (WritesData bytes.old.items bytes.new.items table.old table.new rdata.now) }
     ensures in_range { OnOk result (IsInRange rdata.now) }
 {
     match rdata {
         RData::A(address) => bytes.extend_from_slice(&address.octets()),
         RData::AAAA(address) => bytes.extend_from_slice(&address.octets()),
-        RData::NS(name) => write_name(bytes, name),
-        RData::CNAME(name) => write_name(bytes, name),
-        RData::PTR(name) => write_name(bytes, name),
-        RData::MX(mx) => {
-            write_u16(bytes, mx.preference)?;
-            write_name(bytes, &mx.exchange)
-        }
-        RData::SOA(soa) => write_soa(bytes, soa.get()),
+        RData::NS(name) => write_compressed_name(bytes, table, name),
+        RData::CNAME(name) => write_compressed_name(bytes, table, name),
+        RData::PTR(name) => write_compressed_name(bytes, table, name),
+        RData::MX(mx) => write_mx(bytes, table, mx),
+        RData::SOA(soa) => write_soa(bytes, table, soa.get()),
         RData::TXT(strings) => write_strings(bytes, strings.as_slice()),
         RData::OPT(options) => write_options(bytes, options.as_slice()),
         RData::TSIG(signature) => write_signature_data(bytes, signature.get()),

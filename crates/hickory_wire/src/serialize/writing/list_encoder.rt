@@ -1,12 +1,13 @@
 //! Lists of records in bytes, each cut by itself.
 
-ghost use Rattle.std.specs.Prelude.{◌≡◌, ℕ, ◌+◌, ◌<◌, ◌≤◌, length, List, OnOk, IfOk, None, false, option_to_list, option_map};
+ghost use Rattle.std.specs.Prelude.{◌≡◌, ℕ, ◌+◌, ◌<◌, ◌≤◌, length, take, List, OnOk, IfOk, None, false, option_to_list, option_map};
 ghost use Rattle.std.specs.Iterator.{IsFinite};
 ghost use Rattle.std.specs.Option.{option_copied};
-ghost use Rattle.hickory_wire.specs.serialize.writing.Endings.{GivesRecords, ListFollows, seen_ending, count_of_one, front_of_run};
+ghost use Rattle.hickory_wire.specs.serialize.writing.Endings.{GivesRecords, ListFollows, NotedRun, seen_ending, count_of_one, front_of_run};
 ghost use Rattle.hickory_wire.specs.serialize.layout.MessageLayout.{tsig_record};
 ghost use Rattle.hickory_wire.specs.serialize.writing.Reply.{opt_record};
-ghost use Rattle.hickory_wire.specs.serialize.writing.Writing.{ListWritten};
+ghost use Rattle.hickory_wire.specs.serialize.writing.Noted.{AreNotes};
+ghost use Rattle.hickory_wire.specs.serialize.writing.Writing.{ListWritten, PutsAll};
 ghost use Rattle.hickory_wire.specs.declared.rr.rdata.RData.{RData};
 ghost use Rattle.hickory_wire.specs.declared.rr.record.Record.{Record};
 
@@ -14,6 +15,7 @@ use crate::error::ProtoError;
 use crate::op::edns::Edns;
 use crate::rr::record::Record;
 use crate::rr::tsig::TSIG;
+use crate::serialize::writing::compression_table::CompressionTable;
 use crate::serialize::writing::record_encoder::{
     Ending, write_edns, write_record, write_signature,
 };
@@ -47,8 +49,9 @@ pub(crate) fn drain<'a, I: Iterator<Item = &'a Record> + Drop>(records: I)
 }
 
 // Puts the first records of a list behind the bytes, up to the one that passes the limit or has no form.
-fn write_records<'a, I: Iterator<Item = &'a Record> + Drop>(
+fn write_records<'n, 'a: 'n, I: Iterator<Item = &'a Record> + Drop>(
     bytes: &mut Vec<u8>,
+    table: &mut CompressionTable<'n>,
     limit: u16,
     records: I,
 ) -> Result<Run, AllocError>
@@ -56,17 +59,20 @@ fn write_records<'a, I: Iterator<Item = &'a Record> + Drop>(
     requires ends { IsFinite (I.remaining records) }
     requires header { 12 ≤ length bytes.old.items }
     requires fits { length bytes.old.items ≤ limit }
+    requires noted { AreNotes bytes.old.items (length bytes.old.items) table.old }
     ensures written { IfOk result (λ run. (all : List (Record RData)) ×
-        GivesRecords I.next_gives records all × ListWritten limit bytes.old.items all bytes.new.items run.count (seen_ending run.ending)) }
+        GivesRecords I.next_gives records all × ListWritten limit bytes.old.items all bytes.new.items run.count (seen_ending run.ending) ×
+        NotedRun limit bytes.old.items table.old (take run.count all) bytes.new.items table.new) }
     ensures header { OnOk result (12 ≤ length bytes.new.items) }
     ensures fits { OnOk result (length bytes.new.items ≤ limit) }
     ensures counted { IfOk result (λ run. length bytes.old.items + run.count ≤ length bytes.new.items) }
+    ensures noted { OnOk result (AreNotes bytes.new.items (length bytes.new.items) table.new) }
 {
     let mut count = 0u16;
     let mut ending = Ending::Whole;
     for record in records {
         if let Ending::Whole = ending {
-            match write_record(bytes, limit, record)? {
+            match write_record(bytes, table, limit, record)? {
                 Ending::Whole => count += 1,
                 other => ending = other,
             }
@@ -118,9 +124,10 @@ fn run_of_one(ending: Ending) -> Run
     }
 }
 
-/// Writes a list behind others, of which one may have been stuck; if so, the list is only taken.
-pub(crate) fn write_list<'a, I: Iterator<Item = &'a Record> + Drop>(
+/// Writes a list of a section behind others, of which one may have been stuck; if so, the list is only taken.
+pub(crate) fn write_list<'n, 'a: 'n, I: Iterator<Item = &'a Record> + Drop>(
     bytes: &mut Vec<u8>,
+    table: &mut CompressionTable<'n>,
     limit: u16,
     records: I,
     fault: Option<ProtoError>,
@@ -129,21 +136,24 @@ pub(crate) fn write_list<'a, I: Iterator<Item = &'a Record> + Drop>(
     requires ends { IsFinite (I.remaining records) }
     requires header { 12 ≤ length bytes.old.items }
     requires fits { length bytes.old.items ≤ limit }
+    requires noted { AreNotes bytes.old.items (length bytes.old.items) table.old }
     ensures written { IfOk result (λ front. (all : List (Record RData)) ×
-        GivesRecords I.next_gives records all × ListFollows limit fault bytes.old.items all bytes.new.items front) }
+        GivesRecords I.next_gives records all × ListFollows limit fault bytes.old.items all bytes.new.items front ×
+        NotedRun limit bytes.old.items table.old (take front.count all) bytes.new.items table.new) }
     ensures header { OnOk result (12 ≤ length bytes.new.items) }
     ensures fits { OnOk result (length bytes.new.items ≤ limit) }
     ensures counted { IfOk result (λ front. length bytes.old.items + front.count ≤ length bytes.new.items) }
+    ensures noted { OnOk result (AreNotes bytes.new.items (length bytes.new.items) table.new) }
 {
     if fault.is_some() {
         drain(records);
         return Ok(nothing(fault));
     }
-    let run = write_records(bytes, limit, records)?;
+    let run = write_records(bytes, table, limit, records)?;
     Ok(front_of(run))
 }
 
-/// The same for the OPT record, where there is one.
+/// The same for the OPT record, where there is one. Its owner name is the root.
 pub(crate) fn write_optional_edns(
     bytes: &mut Vec<u8>,
     limit: u16,
@@ -154,6 +164,8 @@ pub(crate) fn write_optional_edns(
     requires fits { length bytes.old.items ≤ limit }
     ensures written { IfOk result (λ front.
         ListFollows limit fault bytes.old.items (option_to_list (option_map opt_record (option_copied edns.entry))) bytes.new.items front) }
+    ensures put { IfOk result (λ front.
+        PutsAll limit bytes.old.items (take front.count (option_to_list (option_map opt_record (option_copied edns.entry)))) bytes.new.items) }
     ensures header { OnOk result (12 ≤ length bytes.new.items) }
     ensures fits { OnOk result (length bytes.new.items ≤ limit) }
     ensures counted { IfOk result (λ front. length bytes.old.items + front.count ≤ length bytes.new.items) }
@@ -168,7 +180,7 @@ pub(crate) fn write_optional_edns(
     Ok(front_of(run_of_one(ending)))
 }
 
-/// The same for the TSIG record, where there is one.
+/// The same for the TSIG record, where there is one. Its names are written in full.
 pub(crate) fn write_optional_signature(
     bytes: &mut Vec<u8>,
     limit: u16,
@@ -179,6 +191,8 @@ pub(crate) fn write_optional_signature(
     requires fits { length bytes.old.items ≤ limit }
     ensures written { IfOk result (λ front.
         ListFollows limit fault bytes.old.items (option_to_list (option_map tsig_record (option_copied signature.entry))) bytes.new.items front) }
+    ensures put { IfOk result (λ front.
+        PutsAll limit bytes.old.items (take front.count (option_to_list (option_map tsig_record (option_copied signature.entry)))) bytes.new.items) }
     ensures header { OnOk result (12 ≤ length bytes.new.items) }
     ensures fits { OnOk result (length bytes.new.items ≤ limit) }
     ensures counted { IfOk result (λ front. length bytes.old.items + front.count ≤ length bytes.new.items) }

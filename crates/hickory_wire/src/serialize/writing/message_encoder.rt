@@ -1,6 +1,6 @@
 //! Whole messages in bytes.
 
-ghost use Rattle.std.specs.Prelude.{◌≡◌, ℕ, ◌+◌, ◌≤◌, ◌<◌, ◌↔◌, ◌≢◌, [], length, OnOk, OnErr, IfOk, IfErr, IsTrue};
+ghost use Rattle.std.specs.Prelude.{◌≡◌, ℕ, ◌+◌, ◌≤◌, ◌<◌, ◌↔◌, ◌≢◌, ◌++◌, [], length, replicate, OnOk, OnErr, IfOk, IfErr, IsTrue};
 ghost use Rattle.std.specs.Iterator.{IsFinite};
 ghost use Rattle.hickory_wire.specs.serialize.layout.Bytes.{AreBytes};
 ghost use Rattle.hickory_wire.specs.serialize.writing.Encoder.{written_bytes, max_size, IsSameVector};
@@ -15,11 +15,13 @@ use crate::op::op_code::OpCode;
 use crate::op::response_code::ResponseCode;
 use crate::rr::record::Record;
 use crate::rr::tsig::TSIG;
+use crate::serialize::writing::compression_table::CompressionTable;
 use crate::serialize::writing::encoder::BinEncoder;
 use crate::serialize::writing::header_encoder::{header_bytes, put_header};
 use crate::serialize::writing::list_encoder::{
     Front, drain, write_list, write_optional_edns, write_optional_signature,
 };
+use crate::serialize::writing::question_notes::note_question;
 use std::alloc::{AllocError, Global};
 
 // Room for most replies at once: what a reply over UDP may have without EDNS (RFC 1035 section 4.2.1).
@@ -114,6 +116,7 @@ where
     requires additionals { D.can_next parts.additionals × IsFinite (D.remaining parts.additionals) }
     requires header { 12 ≤ length bytes.old.items }
     requires fits { length bytes.old.items ≤ limit }
+    requires asked { bytes.old.items ≡ replicate 12 0 ++ parts.question.now }
     ensures written { IfOk result (λ sections. (lists : RecordLists) ×
         GivesLists A.next_gives N.next_gives S.next_gives D.next_gives parts.entry lists ×
         WritesLists limit bytes.old.items (reply_of parts.entry lists) bytes.new.items sections) }
@@ -123,7 +126,7 @@ where
 {
     let ReplyParts {
         metadata: _,
-        question: _,
+        question,
         question_count: _,
         edns,
         answers,
@@ -132,9 +135,17 @@ where
         additionals,
         signature,
     } = parts;
-    let answers = write_list(bytes, limit, answers, None)?;
-    let authorities = write_list(bytes, limit, authorities.chain(soa), answers.fault)?;
-    let additionals = write_list(bytes, limit, additionals, authorities.fault)?;
+    let mut table = CompressionTable::new(*bytes.allocator());
+    note_question(&mut table, question)?;
+    let answers = write_list(bytes, &mut table, limit, answers, None)?;
+    let authorities = write_list(
+        bytes,
+        &mut table,
+        limit,
+        authorities.chain(soa),
+        answers.fault,
+    )?;
+    let additionals = write_list(bytes, &mut table, limit, additionals, authorities.fault)?;
     let opt = write_optional_edns(bytes, limit, edns, additionals.fault)?;
     let signature = write_optional_signature(bytes, limit, signature, opt.fault)?;
     Ok(Sections {

@@ -1,8 +1,12 @@
 //! Resource records in bytes, each put whole or left out.
 
-ghost use Rattle.std.specs.Prelude.{◌≡◌, ℕ, ◌+◌, ◌*◌, ◌^◌, ◌<◌, ◌≤◌, ◌++◌, ◌↔◌, length, OnOk, IfOk, IsTrue};
+ghost use Rattle.std.specs.Prelude.{◌≡◌, ℕ, ◌+◌, ◌*◌, ◌^◌, ◌<◌, ◌≤◌, ◌++◌, ◌↔◌, length, take, drop, OnOk, IfOk, IsTrue, None};
 ghost use Rattle.std.specs.Int.{w16, w32, to_be_bytes};
-ghost use Rattle.hickory_wire.specs.serialize.writing.Endings.{RecordEnds};
+ghost use Rattle.hickory_wire.specs.serialize.writing.Endings.{RecordEnds, NotesFollow};
+ghost use Rattle.hickory_wire.specs.serialize.writing.FullForm.{HasNames};
+ghost use Rattle.hickory_wire.specs.serialize.writing.Noted.{AreNotes};
+ghost use Rattle.hickory_wire.specs.serialize.writing.RecordSize.{data_len, unwritable_reason};
+ghost use Rattle.hickory_wire.specs.serialize.writing.WritingByNotes.{WritesRecord};
 ghost use Rattle.hickory_wire.specs.serialize.layout.MessageLayout.{tsig_record};
 ghost use Rattle.hickory_wire.specs.serialize.writing.Reply.{opt_record};
 ghost use Rattle.hickory_wire.specs.serialize.writing.WrittenParts.{record_of};
@@ -13,7 +17,11 @@ use crate::op::edns::Edns;
 use crate::rr::domain::name::Name;
 use crate::rr::record::Record;
 use crate::rr::tsig::TSIG;
-use crate::serialize::writing::data_encoder::{Data, full_name_len, write_name};
+use crate::serialize::writing::compression_table::CompressionTable;
+use crate::serialize::writing::data_encoder::{
+    Data, full_data_len, full_name_len, least_data_len, write_data, write_name,
+};
+use crate::serialize::writing::name_encoder::write_owner;
 use std::alloc::AllocError;
 
 /// How the writing of a record, or of a list of records, ended.
@@ -55,8 +63,9 @@ struct Parts<'r> {
 }
 
 fn write_fixed(bytes: &mut Vec<u8>, fields: FixedFields) -> Result<(), AllocError>
-    ensures { OnOk result (bytes.new.items ≡ bytes.old.items ++
+    ensures bytes { OnOk result (bytes.new.items ≡ bytes.old.items ++
         (to_be_bytes w16 fields.record_type ++ to_be_bytes w16 fields.dns_class ++ to_be_bytes w32 fields.ttl ++ to_be_bytes w16 fields.len)) }
+    ensures ttl { fields.ttl < 2 ^ 32 }
 {
     let [type_high, type_low] = fields.record_type.to_be_bytes();
     let [class_high, class_low] = fields.dns_class.to_be_bytes();
@@ -67,7 +76,7 @@ fn write_fixed(bytes: &mut Vec<u8>, fields: FixedFields) -> Result<(), AllocErro
     ])
 }
 
-// Puts the record of these parts behind the bytes where it fits the limit; else the bytes stay.
+// Puts the record of these parts behind the bytes, with its names in full, where it fits the limit; else the bytes stay.
 fn write_parts(bytes: &mut Vec<u8>, limit: u16, parts: Parts<'_>) -> Result<Ending, AllocError>
     requires header { 12 ≤ length bytes.old.items }
     requires fits { length bytes.old.items ≤ limit }
@@ -75,7 +84,7 @@ fn write_parts(bytes: &mut Vec<u8>, limit: u16, parts: Parts<'_>) -> Result<Endi
 {
     let len = match parts.data.full_len() {
         Ok(len) => len,
-        Err(e) => return Ok(Ending::Stuck(e)),
+        Err(fault) => return Ok(Ending::Stuck(fault)),
     };
     if !has_room(bytes.len(), limit, full_name_len(parts.name), len) {
         return Ok(Ending::Cut);
@@ -94,31 +103,87 @@ fn write_parts(bytes: &mut Vec<u8>, limit: u16, parts: Parts<'_>) -> Result<Endi
     Ok(Ending::Whole)
 }
 
-/// Puts a record behind the bytes where it fits the limit.
-///
-/// Where memory is refused, the bytes may end in a part of it.
-pub(crate) fn write_record(
+// Puts a length in the place of two bytes.
+fn put_len(bytes: &mut [u8], place: usize, len: u16)
+    requires { place + 2 ≤ length bytes.old }
+    ensures { bytes.new ≡ take place bytes.old ++ (to_be_bytes w16 len ++ drop (place + 2) bytes.old) }
+{
+    bytes[place..place + 2].copy_from_slice(&len.to_be_bytes());
+}
+
+// The same in a vector.
+fn put_data_len(bytes: &mut Vec<u8>, place: usize, len: u16)
+    requires { place + 2 ≤ length bytes.old.items }
+    ensures { bytes.new.items ≡ take place bytes.old.items ++ (to_be_bytes w16 len ++ drop (place + 2) bytes.old.items) }
+{
+    put_len(bytes, place, len);
+}
+
+// Puts a record behind the bytes, whatever its size, with pointers to what the table has, and notes its names there. How long the data are is known
+// behind them.
+fn write_whole_record<'n>(
     bytes: &mut Vec<u8>,
+    table: &mut CompressionTable<'n>,
+    record: &'n Record,
+) -> Result<(), AllocError>
+    requires header { 12 ≤ length bytes.old.items }
+    requires form { unwritable_reason «record».now.rdata ≡ None }
+    requires names { HasNames «record».now.rdata }
+    requires small { data_len «record».now.rdata ≤ 65535 }
+    ensures { OnOk result (WritesRecord bytes.old.items bytes.new.items table.old table.new «record».now) }
+{
+    write_owner(bytes, table, &record.name)?;
+    write_fixed(
+        bytes,
+        FixedFields {
+            record_type: record.rdata.record_type().value(),
+            dns_class: record.dns_class.value(),
+            ttl: record.ttl,
+            len: 0,
+        },
+    )?;
+    let start = bytes.len();
+    write_data(bytes, table, &record.rdata)?;
+    let len = bytes.len() - start;
+    put_data_len(bytes, start - 2, len as u16);
+    Ok(())
+}
+
+/// Puts a record behind the bytes where it fits the limit, with pointers to what the table has, and notes its names there.
+///
+/// Where it does not fit, the bytes and the table stay as they were. Where memory is refused, the bytes may end in a part of it.
+pub(crate) fn write_record<'n>(
+    bytes: &mut Vec<u8>,
+    table: &mut CompressionTable<'n>,
     limit: u16,
-    record: &Record,
+    record: &'n Record,
 ) -> Result<Ending, AllocError>
     requires header { 12 ≤ length bytes.old.items }
     requires fits { length bytes.old.items ≤ limit }
-    ensures { IfOk result (λ ending. RecordEnds limit bytes.old.items «record».now bytes.new.items ending) }
+    requires noted { AreNotes bytes.old.items (length bytes.old.items) table.old }
+    ensures ends { IfOk result (λ ending. RecordEnds limit bytes.old.items «record».now bytes.new.items ending) }
+    ensures notes { IfOk result (λ ending. NotesFollow bytes.old.items «record».now bytes.new.items table.old table.new ending) }
 {
-    write_parts(
-        bytes,
-        limit,
-        Parts {
-            name: &record.name,
-            dns_class: record.dns_class.value(),
-            ttl: record.ttl,
-            data: Data::Own(&record.rdata),
-        },
-    )
+    let len = match full_data_len(&record.rdata) {
+        Ok(len) => len,
+        Err(e) => return Ok(Ending::Stuck(e)),
+    };
+    // The owner name takes a byte at least.
+    if !has_room(bytes.len(), limit, 1, least_data_len(&record.rdata, len)) {
+        return Ok(Ending::Cut);
+    }
+    let place = bytes.len();
+    let mark = table.mark();
+    write_whole_record(bytes, table, record)?;
+    if bytes.len() > usize::from(limit) {
+        bytes.truncate(place);
+        table.take_back(mark);
+        return Ok(Ending::Cut);
+    }
+    Ok(Ending::Whole)
 }
 
-/// The same for the OPT record that says this (RFC 6891 section 6.1.2).
+/// Puts the OPT record that says this behind the bytes where it fits the limit (RFC 6891 section 6.1.2).
 pub(crate) fn write_edns(bytes: &mut Vec<u8>, limit: u16, edns: &Edns) -> Result<Ending, AllocError>
     requires header { 12 ≤ length bytes.old.items }
     requires fits { length bytes.old.items ≤ limit }

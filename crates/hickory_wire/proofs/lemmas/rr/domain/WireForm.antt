@@ -5,7 +5,7 @@ use borrow.Rule.Slice.PartMut.{put_mid}
 use Rattle.std.proofs.lemmas.Slice.{take-put_mid}
 use Rattle.std.proofs.Math.ListN.{set}
 use Rattle.std.proofs.lemmas.List.{take_more_set, length-set, length-take, take_at, drop_at, get_or-drop, drop_more, append_assoc, append-nil, drop_all}
-use Rattle.std.proofs.lemmas.List.Elements.{All-push, recursion_from_All}
+use Rattle.std.proofs.lemmas.List.Elements.{All-append, All-push, recursion_from_All}
 use Rattle.std.specs.List.{AllByRecursion}
 use Rattle.hickory_wire.specs.rr.domain.DomainName.{wire_form, cut, cut_within, IsLabel, AreLabels, IsWire, label_offset, name_len}
 
@@ -132,6 +132,21 @@ pushed bytes label copied len k e fits w =
     ∙ ap (λ xs. take len bytes ++ length label ∷ xs) e
     ∙ ap (λ xs. xs ++ length label ∷ label) (sym w.whole)
     ∙ sym (wire-push (cut (take len bytes)) label)
+
+-- what labels in wire form that are written behind others leave
+pub appended : (bytes wire copied : List ℕ) (len k : ℕ) → copied ≡ wire → len + length wire ≤ length bytes → IsWire (take len bytes) → IsWire wire
+    → take (len + length wire) (put_mid len k bytes copied) ≡ wire_form (cut (take len bytes) ++ cut wire)
+appended bytes wire copied len k e fits w v =
+    take-put_mid len k bytes copied (len + length wire) (omega (arith, ap length e)) (omega arith)
+    ∙ ap (λ xs. take len bytes ++ xs) (e ∙ sym v.whole)
+    ∙ ap (λ xs. xs ++ wire_form (cut wire)) (sym w.whole)
+    ∙ sym (wire-append (cut (take len bytes)) (cut wire))
+
+pub are-append : (a b : List (List ℕ)) → AreLabels a → AreLabels b → length (wire_form a) + length (wire_form b) < 255 → AreLabels (a ++ b)
+are-append a b ra rb lt = record {
+  each = All-append IsLabel a b ra.each rb.each;
+  short = omega (arith, ap length (wire-append a b), length-append (wire_form a) (wire_form b), name_len-wire_form (a ++ b));
+}
 
 pub wire-size : (bytes : List ℕ) (len : ℕ) → IsWire (take len bytes) → len ≤ length bytes → length (wire_form (cut (take len bytes))) ≡ len
 wire-size bytes len w h = omega (arith, ap length w.whole, length-take len bytes)

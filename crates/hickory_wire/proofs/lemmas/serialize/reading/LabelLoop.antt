@@ -1,5 +1,5 @@
 -- Labels that were read before, and those that are still read.
-use Rattle.std.proofs.Common.{◌≡◌, ℕ, ◌+◌, ◌<◌, ◌≤◌, List, [], ◌∷◌, ◌++◌, length, Option, Some, None, Result, Ok, Err, refl, sym, ap, ◌∙◌, append_assoc, arith}
+use Rattle.std.proofs.Common.{◌≡◌, ◌≢◌, inl, inr, subst, ℕ, ◌+◌, ◌<◌, ◌≤◌, List, [], ◌∷◌, ◌++◌, length, Option, Some, None, Result, Ok, Err, refl, sym, ap, ◌∙◌, append_assoc, arith}
 use Rattle.std.specs.Prelude.{unwrap_or, slice_get, IfSome}
 use Rattle.std.proofs.lemmas.List.{append-nil}
 use Rattle.hickory_wire.specs.declared.error.DecodeError.{DecodeError}
@@ -7,8 +7,12 @@ use Rattle.hickory_wire.specs.serialize.reading.Reading.{◌>>=◌, Fails}
 use Rattle.std.specs.Prelude.{MatchResult}
 use Rattle.std.specs.Result.{IsErrAnd}
 use Rattle.hickory_wire.specs.serialize.reading.NameReading.{LabelsRead, target, label_at, labels_from}
-use Rattle.hickory_wire.specs.serialize.layout.NameLayout.{LabelsFault}
-use Rattle.hickory_wire.specs.serialize.layout.NameLayout.LabelsAt.{at_end}
+use Rattle.std.proofs.lemmas.Bool.{cases_lt}
+use Rattle.hickory_wire.specs.rr.domain.DomainName.{name_len}
+use Rattle.hickory_wire.specs.declared.error.DecodeError.TheVariants.{Memory, NameTooLong}
+use Rattle.hickory_wire.specs.serialize.layout.NameLayout.{LabelsAt, LabelsFault}
+use Rattle.hickory_wire.specs.serialize.layout.NameLayout.LabelsAt.{at_end, at_label, at_pointer}
+use Rattle.hickory_wire.specs.serialize.layout.NameLayout.LabelsFault.{too_long, after_label, after_pointer}
 use Rattle.hickory_wire.proofs.lemmas.serialize.layout.Stands.{stands_one}
 use Rattle.hickory_wire.proofs.lemmas.serialize.reading.LabelSteps.{from_LabelsAt, from_LabelsFault, labels_from-label, labels_from-pointer}
 
@@ -60,3 +64,22 @@ within_either (Some a) place limit h le = h
 pub fails_with : {X : Type 0} (r : Result X DecodeError) (d : DecodeError) (P : X → Type 0) (total : LabelsRead) → IsErrAnd r (λ e. e ≡ d) → total ≡ Err d → MatchResult r P (λ e. Fails e total)
 fails_with (Ok x) d P total h k = absurd h
 fails_with (Err e) d P total h k = λ _. k ∙ ap (λ (x : DecodeError). let y : LabelsRead = Err x in y) (sym h)
+
+-- an error that is passed on is the fault of the whole, unless it is want of memory
+pub fails_unless : {X : Type 0} (r : Result X DecodeError) (d : DecodeError) (P : X → Type 0) (total : LabelsRead) → IsErrAnd r (λ e. e ≡ d) → (d ≢ Memory → total ≡ Err d) → MatchResult r P (λ e. Fails e total)
+fails_unless (Ok x) d P total h k = absurd h
+fails_unless (Err e) d P total h k = λ ne. k (λ m. ne (h ∙ m)) ∙ ap (λ (x : DecodeError). let y : LabelsRead = Err x in y) (sym h)
+
+-- The labels that stand here are too many for the name.
+pub too_many : {floor : ℕ} {bytes : List ℕ} {start place next : ℕ} {labels : List (List ℕ)} (size : ℕ) → LabelsAt floor bytes start place labels next → size ≤ 255 → 256 < size + name_len labels → LabelsFault bytes start place size NameTooLong
+too_many size (at_end a s e) ok long = absurd (omega arith)
+too_many {floor} {bytes} {start} {place} {next} size (at_label {label = label} {labels = rest} a l s e more) ok long = elim (cases_lt 255 (size + 1 + length label)) [
+  | inl lt ↦ too_long label l s lt
+  | inr le ↦ after_label label l s le (subst (λ (p : ℕ). LabelsFault bytes start p (size + 1 + length label) NameTooLong) e (too_many (size + 1 + length label) more le (omega arith)))
+]
+too_many size (at_pointer high low goal past a s e lt d more) ok long = after_pointer high low goal s e lt (too_many size more ok long)
+
+-- The labels that stand here end the name.
+pub known_here : {floor : ℕ} (bytes : List ℕ) (front labels : List (List ℕ)) (after : Option ℕ) (start place size next past : ℕ) (total : LabelsRead)
+    → with_front front after (labels_from bytes start place size) ≡ total → after ≡ Some next → LabelsAt floor bytes start place labels past → size + name_len labels ≤ 256 → total ≡ Ok (front ++ labels, next)
+known_here bytes front labels after start place size next past total so_far is at fits = sym so_far ∙ rw (from_LabelsAt size at fits, is) refl

@@ -265,3 +265,6 @@ within_answers bytes (suc f) start place size a s =
 pub labels_from-answers : (bytes : List ℕ) (start place size : ℕ) → size ≤ 255 → Answers bytes start place size (labels_from bytes start place size)
 unfolding labels_from
 labels_from-answers bytes start place size s = within_answers bytes (start + 256 - size) start place size (omega arith) s
+
+pub stands_as_read : (bytes : List ℕ) (place next : ℕ) (labels : List (List ℕ)) → labels_from bytes place place 1 ≡ Ok (labels, next) → LabelsAt 0 bytes place place labels next
+stands_as_read bytes place next labels e = (subst (λ (r : LabelsRead). Answers bytes place place 1 r) e (labels_from-answers bytes place place 1 (omega arith))).0

@@ -28,7 +28,7 @@ pub name_octets-len : (labels : List (List ℕ)) → length (name_octets labels)
 name_octets-len [] = refl
 name_octets-len (l ∷ ls) = omega (arith, length-append l (wire_form ls), length-append (l ++ wire_form ls) (0 ∷ []), length-append (wire_form ls) (0 ∷ []), name_octets-len ls)
 
-labels_stand : (bytes : List ℕ) (floor start place : ℕ) (labels : List (List ℕ)) → AllByRecursion IsLabel labels → floor ≤ place → BytesAt bytes place (name_octets labels) → LabelsAt floor bytes start place labels (place + name_len labels)
+pub labels_stand : (bytes : List ℕ) (floor start place : ℕ) (labels : List (List ℕ)) → AllByRecursion IsLabel labels → floor ≤ place → BytesAt bytes place (name_octets labels) → LabelsAt floor bytes start place labels (place + name_len labels)
 labels_stand bytes floor start place [] are low s = at_end low s refl
 labels_stand bytes floor start place (l ∷ ls) are low s =
     let parts : BytesAt bytes place ((length l ∷ l) ++ name_octets ls) = subst (λ t. BytesAt bytes place (length l ∷ t)) (append_assoc l (wire_form ls) (0 ∷ [])) s in
@@ -65,7 +65,7 @@ data_octets-len (rdata.Update0 code) = refl
 data_octets-len (rdata.Unknown code octets) = refl
 
 -- data stand where their octets stand
-data_stand : (bytes : List ℕ) (floor place next : ℕ) (d : RData) → HasNames d → floor ≤ place → BytesAt bytes place (data_octets d) → next ≡ place + data_len d → DataAt floor bytes place d next
+pub data_stand : (bytes : List ℕ) (floor place next : ℕ) (d : RData) → HasNames d → floor ≤ place → BytesAt bytes place (data_octets d) → next ≡ place + data_len d → DataAt floor bytes place d next
 data_stand bytes floor place next (rdata.A address) h low s e = octets_stand bytes floor place next _ low s e
 data_stand bytes floor place next (rdata.AAAA address) h low s e = octets_stand bytes floor place next _ low s e
 data_stand bytes floor place next (rdata.NS name) h low s e = name_stands bytes floor place next name h low s e
@@ -138,7 +138,7 @@ record_stands bytes floor place next r owner names small low s e =
     }
 
 -- octets that end in data in full do so whatever the data
-ends_in_full : (d : RData) (front : List ℕ) → EndsInFull d (front ++ data_octets d)
+pub ends_in_full : (d : RData) (front : List ℕ) → EndsInFull d (front ++ data_octets d)
 ends_in_full (rdata.TSIG signature) front = (front, refl)
 ends_in_full content front = tt
 

@@ -126,6 +126,12 @@ list_one limit old new r Whole h = list_put limit old [] r old 0 new (list_none 
 list_one limit old new r Cut h = list_ends limit old [] r old 0 new Cut (λ e. absurd cc) (list_none limit old) h
 list_one limit old new r (Stuck e) h = list_ends limit old [] r old 0 new (Stuck e) (λ e. absurd cc) (list_none limit old) h
 
+-- what was put of it
+pub one_put : (limit : ℕ) (old new : List ℕ) (r : Record RData) (ending : Ending) → RecordEnds limit old r new ending → PutsAll limit old (take (front_of_ending (count_of_one ending) ending).count (r ∷ [])) new
+one_put limit old new r Whole h = (new, h, refl)
+one_put limit old new r Cut h = h.0
+one_put limit old new r (Stuck e) h = h.0
+
 pub follows_one : (limit : ℕ) (old new : List ℕ) (r : Record RData) (ending : Ending) → RecordEnds limit old r new ending → ListFollows limit None old (r ∷ []) new (front_of_ending (count_of_one ending) ending)
 follows_one limit old new r ending h = follows_run limit old new (r ∷ []) (count_of_one ending) ending (list_one limit old new r ending h)
 

@@ -1,5 +1,4 @@
-use Rattle.std.proofs.Common.{◌≡◌, ◌+◌, ◌*◌, ◌<◌, ◌≤◌, ◌∷◌, ◌++◌, ◌∙◌, ◌-◌, ℕ, IfOk, subst, length-drop, List, length, drop, take, get_or, ap, sym, arith, rules, []}
-use Rattle.std.proofs.lemmas.Grind.{common_steps}
+use Rattle.std.proofs.Common.{◌≡◌, ◌+◌, ◌∷◌, ◌++◌, ◌∙◌, ◌-◌, ℕ, IfOk, subst, length-drop, List, length, drop, take, get_or, ap, sym, arith, []}
 use Rattle.std.proofs.lemmas.List.{length-take, take_all}
 use Rattle.hickory_wire.specs.rr.domain.DomainName.{cut}
 use Rattle.hickory_wire.specs.rr.domain.NameBytes.{wire_bytes}

@@ -1,18 +1,19 @@
-use Rattle.std.proofs.Common.{arith, ◌≡◌, ◌∙◌, sym, ap, add_assoc, ◌++◌, ◌∷◌, [], take, drop, ◌+◌, ◌<◌, length, Some, List, ℕ}
+use Rattle.std.proofs.Common.{arith, ◌≡◌, ◌∙◌, sym, ap, add_assoc, ◌++◌, ◌∷◌, [], take, drop, ◌+◌, ◌<◌, length, Some, Err, List, ℕ}
 use Rattle.std.specs.Prelude.{slice_get}
-use Rattle.hickory_wire.specs.serialize.reading.NameReading.{target, label_at}
+use Rattle.hickory_wire.specs.serialize.reading.NameReading.{target, label_at, LabelsRead}
+use Rattle.hickory_wire.specs.declared.error.DecodeError.{DecodeError}
 use Rattle.hickory_wire.proofs.lemmas.serialize.reading.LabelSteps.{no_byte, unknown}
-use Rattle.hickory_wire.proofs.lemmas.serialize.reading.LabelLoop.{fails_here, fails_with, ends_here, label_here, pointer_here, within_either}
-use Rattle.hickory_wire.proofs.lemmas.rr.domain.WireForm.{wire-push}
-use Rattle.hickory_wire.specs.rr.domain.DomainName.{wire_form, DomainName}
+use Rattle.hickory_wire.proofs.lemmas.serialize.reading.LabelLoop.{fails_here, fails_with, fails_unless, too_many, known_here, ends_here, label_here, pointer_here, within_either}
+use Rattle.hickory_wire.proofs.lemmas.rr.domain.WireForm.{wire-push, name_len-wire_form}
+use Rattle.hickory_wire.specs.rr.domain.DomainName.{wire_form, cut, DomainName}
 use Rattle.std.proofs.lemmas.List.{length-take, length-drop}
 use Rattle.std.proofs.Common.{length-append}
 use Rattle.hickory_wire.proofs.serialize.reading.name_reader.read_name_at.Goals as goal
 
-pub returns-in_default-clause-gives : goal.returns-in_default-clause-gives
-returns-in_default-clause-gives c = λ _.
+pub returns-in_default-byte_at-clause-gives : goal.returns-in_default-byte_at-clause-gives
+returns-in_default-byte_at-clause-gives c = λ _.
     let l = c.labels in
-    fails_here _ _ l.after l.start l.place l.size _ _ l.invariant.so_far l.invariant.size (no_byte l.start l.place l.size (sym c.in_default.ensures.value))
+    fails_here _ _ l.after l.start l.place l.size _ _ l.invariant.so_far l.invariant.size (no_byte l.start l.place l.size (sym c.in_default-byte_at.ensures.value))
 
 pub returns-then-high-eq0-clause-gives : goal.returns-then-high-eq0-clause-gives
 returns-then-high-eq0-clause-gives c =
@@ -68,3 +69,24 @@ returns-in_err-target-clause-gives c =
     let l = c.labels in
     let total = fails_here _ _ l.after l.start l.place l.size _ _ l.invariant.so_far l.invariant.size (c.in_err-target.ensures l.size) in
     fails_with _ _ _ _ c.from_residual-in_err-target.ensures.1 total
+
+pub name_with_rest-requires : goal.name_with_rest-requires
+name_with_rest-requires c = (c.in-Some.ensures.rest c.args.bytes.now c.requires).is_wire
+
+pub returns-in_err-whole-clause-gives : goal.returns-in_err-whole-clause-gives
+returns-in_err-whole-clause-gives c =
+    let l = c.labels in
+    let r = c.in-Some.ensures.rest c.args.bytes.now c.requires in
+    let len = ap length r.is_wire.whole in
+    fails_unless _ c.in_err-whole.field-0.0 _ _ c.from_residual.ensures.1 (λ ne.
+    let e = c.in_err-whole.ensures ne in
+    let long = too_many l.size r.labels l.invariant.size (omega (arith, l.invariant.written, e.1, len, name_len-wire_form (cut c.in-Some.rest.now))) in
+    fails_here _ _ l.after l.start l.place l.size _ _ l.invariant.so_far l.invariant.size long ∙ ap (λ (x : DecodeError). let y : LabelsRead = Err x in y) (sym e.0))
+
+pub returns-in-Some-clause-gives : goal.returns-in-Some-clause-gives
+returns-in-Some-clause-gives c =
+    let l = c.labels in
+    let r = c.in-Some.ensures.rest c.args.bytes.now c.requires in
+    let len = ap length r.is_wire.whole in
+    let e : c.in_ok-whole.whole.labels ≡ l.labels ++ cut c.in-Some.rest.now = ap (λ (d : DomainName). d.labels) c.in_ok-whole.ensures.0 in
+    rw e (known_here _ _ (cut c.in-Some.rest.now) l.after l.start l.place l.size c.in-Some.next r.next _ l.invariant.so_far c.in-Some.ensures.behind r.labels (omega (arith, l.invariant.written, c.in_ok-whole.ensures.1, len, name_len-wire_form (cut c.in-Some.rest.now))))

@@ -1,5 +1,7 @@
-use Rattle.std.proofs.Common.{◌+◌, ◌≤◌, length}
+use Rattle.std.proofs.Common.{◌+◌, ◌≤◌, length, take}
 use Rattle.hickory_wire.specs.serialize.writing.Endings.{seen_ending}
+use Rattle.hickory_wire.specs.serialize.writing.Noted.{AreNotes}
+use Rattle.hickory_wire.specs.serialize.writing.Endings.{NotedRun}
 use Rattle.hickory_wire.specs.serialize.writing.Writing.{ListWritten}
 use Rattle.hickory_wire.proofs.lemmas.serialize.writing.RecordLists.{nows}
 use Rattle.hickory_wire.proofs.serialize.writing.list_encoder.write_records.Given as goal
@@ -12,4 +14,6 @@ invariant-loop-record g l = record {
   longer : length l.fn.bytes.items + l.count ≤ length l.bytes.items;
   within : length l.bytes.items ≤ l.limit;
   written : ListWritten l.limit l.fn.bytes.items (nows l.yielded) l.bytes.items l.count (seen_ending l.ending);
+  run : NotedRun l.limit l.fn.bytes.items l.fn.table (take l.count (nows l.yielded)) l.bytes.items l.table;
+  noted : AreNotes l.bytes.items (length l.bytes.items) l.table;
 }

@@ -41,6 +41,8 @@ returns-in-Some-clause-refused g c =
         fronts = w.2.0;
         fits = fit;
         lists = rw (sym start, sym c.in-Some.is) w.2.1;
+        put = fronts_of c.in_ok-sections.sections;
+        owners = rw (sym start) w.2.3;
       }),
     )
 
@@ -57,6 +59,7 @@ returns-clause-written g c =
       body = c.write_lists.new.bytes.items;
       fits = fit;
       lists = rw (sym start, sym none, sym (w.2.2 none)) w.2.1;
+      owners = rw (sym start) w.2.3;
       is = c.put_header.ensures ∙ ap (λ h. header_octets h ++ drop 12 c.write_lists.new.bytes.items) c.header_of-header.ensures;
     } in
     let small : c.args.limit < 2 ^ 16 = search rules in

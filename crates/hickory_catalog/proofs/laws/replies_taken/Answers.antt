@@ -1,0 +1,5 @@
+use Rattle.hickory_catalog.proofs.SentInOrder.{all_taken}
+use Rattle.hickory_catalog.proofs.laws.replies_taken.Goals as goal
+
+pub returns : goal.returns
+returns g c = all_taken g.R.ResponseHandler

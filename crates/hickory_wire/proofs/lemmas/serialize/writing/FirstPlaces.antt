@@ -1,0 +1,165 @@
+-- Notes of names, and the first place of one among them.
+use Rattle.std.proofs.Common.{◌≡◌, inl, inr, ℕ, suc, ◌+◌, ◌<◌, List, [], ◌∷◌, ◌++◌, length, take, drop, get_or, Bool, true, false, cond, Option, Some, None, refl, sym, ap, ◌∙◌, subst, arith, length-append, drop-cons, length-take}
+use Rattle.std.specs.Prelude.{IfSome}
+use Rattle.std.specs.List.{All}
+use Rattle.std.specs.Borrow.{Bor}
+use Rattle.std.specs.Map.{lookup}
+use Rattle.std.specs.Str.{bytes_eq}
+use Rattle.std.specs.HashMap.{HashMap, get_by, UpdatesBy, IsEmpty}
+use Rattle.std.proofs.lemmas.Map.Text.{hash_map_updates_str}
+use Rattle.std.proofs.lemmas.Slice.Eq.{bytes_eq-Decides}
+use Rattle.std.proofs.lemmas.Bool.{cases_lt, cases_Bool, cond-true, cond-false, false_from_ne_true, both_ways}
+use Rattle.std.proofs.lemmas.List.{take-append-drop, map-append, get_or-take, take-take, take-append-le, get_or_append_left, get_or-append-add, take_all, get_or-map, take-map, length-map, map_more}
+use Rattle.std.proofs.lemmas.List.Elements.{All-head, All-tail, All-push, All-take}
+use Rattle.hickory_wire.specs.serialize.writing.Noted.{Notes, IsPlace, first_place, IsNotedAt}
+use Rattle.hickory_wire.specs.serialize.writing.NameTable.{pairs, Indexes, AreApart, IsTable}
+use Rattle.hickory_wire.specs.declared.serialize.writing.compression_table.Note.{Note}
+
+skipped : (b : Bool) (v : ℕ) (o r s : Option ℕ) → cond b (Some v) o ≡ None → (o ≡ None → r ≡ s) → cond b (Some v) r ≡ s
+skipped true v o r s e h = cc
+skipped false v o r s e h = h e
+
+pub first_place-behind : (s : List ℕ) (xs ys : Notes) → first_place s xs ≡ None → first_place s (xs ++ ys) ≡ first_place s ys
+first_place-behind s [] ys e = refl
+first_place-behind s (x ∷ xs) ys e = skipped (bytes_eq s x.0) x.1 (first_place s xs) (first_place s (xs ++ ys)) (first_place s ys) e (first_place-behind s xs ys)
+
+pub first_place-before : (s : List ℕ) (xs ys : Notes) → first_place s ys ≡ None → first_place s (xs ++ ys) ≡ first_place s xs
+first_place-before s [] ys e = e
+first_place-before s (x ∷ xs) ys e = ap (λ o. cond (bytes_eq s x.0) (Some x.1) o) (first_place-before s xs ys e)
+
+same_here : (s k : List ℕ) → bytes_eq s k ≡ true → s ≡ k
+same_here s k e = (bytes_eq-Decides s k).0 e
+
+flipped_true : (s k : List ℕ) → bytes_eq s k ≡ true → bytes_eq k s ≡ true
+flipped_true s k e = (bytes_eq-Decides k s).1 (sym (same_here s k e))
+
+flipped_false : (s k : List ℕ) → bytes_eq s k ≡ false → bytes_eq k s ≡ false
+flipped_false s k e = false_from_ne_true (bytes_eq k s) (λ t. both_ways (bytes_eq s k) e (flipped_true k s t))
+
+-- A note is found where no earlier one has its suffix.
+pub first_place-at : (s : List ℕ) (xs : Notes) (x : List ℕ × ℕ) (ys : Notes) → first_place s xs ≡ None → bytes_eq x.0 s ≡ true → first_place s (xs ++ x ∷ ys) ≡ Some x.1
+first_place-at s xs x ys e h = first_place-behind s xs (x ∷ ys) e ∙ cond-true (bytes_eq s x.0) (Some x.1) (first_place s ys) (flipped_true x.0 s h)
+
+-- one note more, of another suffix
+pub first_place-other : (s : List ℕ) (xs : Notes) (x : List ℕ × ℕ) → bytes_eq s x.0 ≡ false → first_place s (xs ++ x ∷ []) ≡ first_place s xs
+first_place-other s xs x e = first_place-before s xs (x ∷ []) (cond-false (bytes_eq s x.0) (Some x.1) None e)
+
+in_range_by : (b : Bool) (v : ℕ) (o : Option ℕ) → IsPlace v → IfSome o (λ p. IsPlace p) → IfSome (cond b (Some v) o) (λ p. IsPlace p)
+in_range_by true v o h k = h
+in_range_by false v o h k = k
+
+pub first_place-in_range : (s : List ℕ) (notes : Notes) → All (λ note. IsPlace note.1) notes → IfSome (first_place s notes) (λ p. IsPlace p)
+first_place-in_range s [] h = tt
+first_place-in_range s (n ∷ ns) h = in_range_by (bytes_eq s n.0) n.1 (first_place s ns) (All-head (λ note. IsPlace note.1) n ns h) (first_place-in_range s ns (All-tail (λ note. IsPlace note.1) n ns h))
+
+pub place_in_range : (s : List ℕ) (p : ℕ) (notes : Notes) → All (λ note. IsPlace note.1) notes → first_place s notes ≡ Some p → IsPlace p
+place_in_range s p notes h e = let all = first_place-in_range s notes h in rw e at all
+
+module _ {S : Type 0} (m n : HashMap (Bor (List ℕ)) ℕ S) (k : List ℕ) where
+  -- the map after a note of a suffix that no note has
+  pub Indexes-push : (p : ℕ) (notes : Notes) → Indexes m notes → first_place k notes ≡ None → UpdatesBy (λ x y. bytes_eq x.now y.now) (λ x. bytes_eq k x.now) m n (Some p) → Indexes n (notes ++ (k, p) ∷ [])
+  Indexes-push p notes h fresh u s =
+      let after = hash_map_updates_str k m n (Some p) u s in
+      elim (cases_Bool (bytes_eq k s)) [
+        | inl e ↦
+            let none : first_place s notes ≡ None = ap (λ q. first_place q notes) (sym (same_here k s e)) ∙ fresh in
+            after ∙ cond-true (bytes_eq k s) (Some p) (get_by (λ key. bytes_eq s key.now) m) e ∙ sym (first_place-at s notes (k, p) [] none e)
+        | inr e ↦
+            after ∙ cond-false (bytes_eq k s) (Some p) (get_by (λ key. bytes_eq s key.now) m) e ∙ h s ∙ sym (first_place-other s notes (k, p) (flipped_false k s e))
+      ]
+
+  -- the map after the last note is taken back
+  pub Indexes-pop : (p : ℕ) (notes : Notes) → Indexes m (notes ++ (k, p) ∷ []) → first_place k notes ≡ None → UpdatesBy (λ x y. bytes_eq x.now y.now) (λ x. bytes_eq k x.now) m n None → Indexes n notes
+  Indexes-pop p notes h fresh u s =
+      let after = hash_map_updates_str k m n None u s in
+      elim (cases_Bool (bytes_eq k s)) [
+        | inl e ↦
+            let none : first_place s notes ≡ None = ap (λ q. first_place q notes) (sym (same_here k s e)) ∙ fresh in
+            after ∙ cond-true (bytes_eq k s) None (get_by (λ key. bytes_eq s key.now) m) e ∙ sym none
+        | inr e ↦
+            after ∙ cond-false (bytes_eq k s) None (get_by (λ key. bytes_eq s key.now) m) e ∙ h s ∙ first_place-other s notes (k, p) (flipped_false k s e)
+      ]
+
+pub Indexes-empty : {S : Type 0} (m : HashMap (Bor (List ℕ)) ℕ S) → IsEmpty m → Indexes m []
+Indexes-empty m e s = ap (λ es. lookup (λ (key : Bor (List ℕ)). bytes_eq s key.now) es) e
+
+pub AreApart-take : (n : ℕ) (notes : Notes) → AreApart notes → AreApart (take n notes)
+AreApart-take n notes h k d lt =
+    let below : k < n = omega (arith, length-take n notes) in
+    let long : k < length notes = omega (arith, length-take n notes) in
+    rw (get_or-take n notes k d below, take-take k n notes (omega arith)) (h k d long)
+
+pub AreApart-push : (notes : Notes) (s : List ℕ) (p : ℕ) → AreApart notes → first_place s notes ≡ None → AreApart (notes ++ (s, p) ∷ [])
+AreApart-push notes s p h fresh k d lt =
+    let more = length-append notes ((s, p) ∷ []) in
+    elim (cases_lt k (length notes)) [
+      | inl below ↦ rw (get_or_append_left notes ((s, p) ∷ []) d k below, take-append-le k notes ((s, p) ∷ []) (omega arith)) (h k d below)
+      | inr above ↦
+          let at : k ≡ length notes + 0 = omega (arith, more) in
+          let all : take k (notes ++ (s, p) ∷ []) ≡ notes = take-append-le k notes ((s, p) ∷ []) (omega arith) ∙ take_all k notes (omega arith) in
+          let here : get_or (notes ++ (s, p) ∷ []) k d ≡ (s, p) = ap (λ i. get_or (notes ++ (s, p) ∷ []) i d) at ∙ get_or-append-add notes ((s, p) ∷ []) 0 d in
+          rw (here, all) fresh
+    ]
+
+-- the suffix of the last note
+pub AreApart-last : (notes : Notes) (x : List ℕ × ℕ) → AreApart (notes ++ x ∷ []) → first_place x.0 notes ≡ None
+AreApart-last notes x h =
+    let at = h (length notes + 0) x (omega (arith, length-append notes (x ∷ []))) in
+    let all : take (length notes + 0) (notes ++ x ∷ []) ≡ notes = take-append-le (length notes + 0) notes (x ∷ []) (omega arith) ∙ take_all (length notes + 0) notes (omega arith) in
+    rw (get_or-append-add notes (x ∷ []) 0 x, all) at at
+
+abbrev pub pair : Note → List ℕ × ℕ
+pair note = (note.suffix.now, note.place)
+
+-- ---- the notes below an index, and the one there
+module _ (notes : List Note) (i : ℕ) (n : Note) (lt : i < length notes) (is : get_or notes i n ≡ n) where
+  pub pairs-more : pairs (take (i + 1) notes) ≡ pairs (take i notes) ++ pair n ∷ []
+  pairs-more = map_more pair notes i n lt ∙ ap (λ x. pairs (take i notes) ++ pair x ∷ []) is
+
+  pairs-split : pairs notes ≡ pairs (take i notes) ++ pair n ∷ pairs (drop (suc i) notes)
+  pairs-split = ap pairs (sym (take-append-drop i notes)) ∙ map-append pair (take i notes) (drop i notes) ∙ ap (λ xs. pairs (take i notes) ++ pairs xs) (drop-cons notes i n lt ∙ ap (λ x. x ∷ drop (suc i) notes) is)
+
+  pub found_at : (s : List ℕ) → first_place s (pairs (take i notes)) ≡ None → bytes_eq n.suffix.now s ≡ true → Some n.place ≡ first_place s (pairs notes)
+  found_at s none e = sym (ap (λ xs. first_place s xs) pairs-split ∙ first_place-at s (pairs (take i notes)) (pair n) (pairs (drop (suc i) notes)) none e)
+
+  pub none_below : (s : List ℕ) → first_place s (pairs (take i notes)) ≡ None → bytes_eq n.suffix.now s ≡ false → first_place s (pairs (take (i + 1) notes)) ≡ None
+  none_below s none e = ap (λ xs. first_place s xs) pairs-more ∙ first_place-other s (pairs (take i notes)) (pair n) (flipped_false n.suffix.now s e) ∙ none
+
+  pub fresh_at : AreApart (pairs notes) → first_place n.suffix.now (pairs (take i notes)) ≡ None
+  fresh_at h =
+      let long : i < length (pairs notes) = omega (arith, length-map notes pair) in
+      let named : get_or (pairs notes) i (pair n) ≡ pair n = get_or-map pair notes i n (pair n) lt ∙ ap pair is in
+      ap (λ x. first_place x.0 (pairs (take i notes))) (sym named) ∙ ap (λ xs. first_place (get_or (pairs notes) i (pair n)).0 xs) (sym (take-map pair i notes)) ∙ h i (pair n) long
+
+pub AreApart-front : (notes : Notes) (x : List ℕ × ℕ) → AreApart (notes ++ x ∷ []) → AreApart notes
+AreApart-front notes x h = subst (λ xs. AreApart xs) (take-append-le (length notes) notes (x ∷ []) (omega arith) ∙ take_all (length notes) notes (omega arith)) (AreApart-take (length notes) (notes ++ x ∷ []) h)
+
+-- What was found is found behind more notes.
+found_by : (b : Bool) (v : ℕ) (o r : Option ℕ) (p : ℕ) → cond b (Some v) o ≡ Some p → (o ≡ Some p → r ≡ Some p) → cond b (Some v) r ≡ Some p
+found_by true v o r p e h = e
+found_by false v o r p e h = h e
+
+pub first_place-front : (s : List ℕ) (p : ℕ) (xs ys : Notes) → first_place s xs ≡ Some p → first_place s (xs ++ ys) ≡ Some p
+first_place-front s p [] ys e = cc
+first_place-front s p (x ∷ xs) ys e = found_by (bytes_eq s x.0) x.1 (first_place s xs) (first_place s (xs ++ ys)) p e (first_place-front s p xs ys)
+
+still_kept : (owner : Option Note) (notes more : Notes) → IfSome owner (λ o. IsNotedAt notes o.suffix.now o.place) → IfSome owner (λ o. IsNotedAt (notes ++ more) o.suffix.now o.place)
+still_kept None notes more h = tt
+still_kept (Some o) notes more h = (h.0, first_place-front o.suffix.now o.place notes more h.1)
+
+-- ---- the table as a whole
+pub IsTable-push : {S : Type 0} (notes : Notes) (s : List ℕ) (p : ℕ) (owner : Option Note) (is_hashed : Bool) (m n : HashMap (Bor (List ℕ)) ℕ S) → IsTable notes owner is_hashed m → first_place s notes ≡ None → IsPlace p → (is_hashed ≡ true → Indexes n (notes ++ (s, p) ∷ [])) → IsTable (notes ++ (s, p) ∷ []) owner is_hashed n
+IsTable-push notes s p owner is_hashed m n t fresh at h = record {
+  apart = AreApart-push notes s p t.apart fresh;
+  in_range = All-push (λ note. IsPlace note.1) notes (s, p) t.in_range at;
+  indexed = h;
+  kept = still_kept owner notes ((s, p) ∷ []) t.kept;
+}
+
+pub IsTable-take : {S : Type 0} (k : ℕ) (notes : Notes) (owner : Option Note) (is_hashed : Bool) (m n : HashMap (Bor (List ℕ)) ℕ S) → IsTable notes owner is_hashed m → (is_hashed ≡ true → Indexes n (take k notes)) → IsTable (take k notes) None is_hashed n
+IsTable-take k notes owner is_hashed m n t h = record {
+  apart = AreApart-take k notes t.apart;
+  in_range = All-take (λ note. IsPlace note.1) k notes t.in_range;
+  indexed = h;
+  kept = tt;
+}

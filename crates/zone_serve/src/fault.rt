@@ -1,0 +1,127 @@
+//! Why the program ends before its input does.
+
+use crate::arguments::ArgumentFault;
+use crate::frames::StreamFault;
+use crate::zones::ZoneFault;
+use hickory_server::server::serve::ServeError;
+use hickory_server::store::blocklist::AddError;
+use std::alloc::{AllocError, AllocFailed};
+use std::io;
+use thiserror::Error;
+
+/// Why the program ends before its input does. A file is told by its place among those of its option.
+#[derive(Clone, Copy, Debug, PartialEq, Eq, Error)]
+pub enum Fault {
+    /// The arguments are not those of the program.
+    #[error("{0}")]
+    Argument(ArgumentFault),
+    /// The environment tells an address of the peer that is none.
+    #[error("the environment tells a peer's address that is none")]
+    Peer,
+    /// Two files are given for one zone.
+    #[error("two files for one zone")]
+    ZoneTwice {
+        /// Which file of a zone it is.
+        place: usize,
+    },
+    /// A zone file is not taken.
+    #[error("{fault}")]
+    Zone {
+        /// Which file of a zone it is.
+        place: usize,
+        /// What is wrong with it.
+        fault: ZoneFault,
+    },
+    /// A list of blocked names is not taken.
+    #[error("{fault}")]
+    List {
+        /// Which list it is.
+        place: usize,
+        /// What is wrong with it.
+        fault: AddError,
+    },
+    /// The peer's address may not use the server.
+    #[error("denied")]
+    Denied,
+    /// The bytes of a message begin with none (RFC 1035 section 4.1).
+    #[error("unreadable: the bytes begin with no message")]
+    Unreadable,
+    /// The input gives no message where one is wanted.
+    #[error("{0}")]
+    Stream(StreamFault),
+    /// A line is no transport, address and message.
+    #[error("line {number}: not 'udp|tcp ADDRESS HEX'")]
+    Line {
+        /// Which line it is; the first is 1.
+        number: u64,
+    },
+    /// Memory was refused.
+    #[error("no memory")]
+    Memory,
+    /// The system tells no time.
+    #[error("the system tells no time")]
+    Clock,
+    /// The input cannot be read.
+    #[error("the input cannot be read")]
+    Read,
+    /// The output takes nothing.
+    #[error("the output cannot be written")]
+    Write,
+}
+
+impl Fault {
+    /// The status that tells it.
+    pub fn status(self) -> u8 {
+        match self {
+            Fault::Denied | Fault::Unreadable | Fault::Line { .. } => 1,
+            Fault::Stream(StreamFault::Partial | StreamFault::TooLong) => 1,
+            Fault::Argument(_) | Fault::Peer => 2,
+            Fault::Memory | Fault::Stream(StreamFault::Memory) => 3,
+            Fault::Clock | Fault::Read | Fault::Write => 4,
+            Fault::Stream(StreamFault::Read) => 4,
+            Fault::ZoneTwice { .. } | Fault::Zone { .. } | Fault::List { .. } => 5,
+        }
+    }
+
+    /// The fault of an input that cannot be read.
+    pub fn of_input(e: &io::Error) -> Fault {
+        match e.kind() {
+            io::ErrorKind::OutOfMemory => Fault::Memory,
+            _ => Fault::Read,
+        }
+    }
+}
+
+impl From<AllocError> for Fault {
+    fn from(_e: AllocError) -> Fault {
+        Fault::Memory
+    }
+}
+
+impl<T: Drop> From<AllocFailed<T>> for Fault {
+    fn from(_e: AllocFailed<T>) -> Fault {
+        Fault::Memory
+    }
+}
+
+// Nothing is served any more after either.
+impl From<ServeError> for Fault {
+    fn from(_e: ServeError) -> Fault {
+        Fault::Memory
+    }
+}
+
+impl From<ArgumentFault> for Fault {
+    fn from(e: ArgumentFault) -> Fault {
+        match e {
+            ArgumentFault::Memory => Fault::Memory,
+            other => Fault::Argument(other),
+        }
+    }
+}
+
+impl From<StreamFault> for Fault {
+    fn from(e: StreamFault) -> Fault {
+        Fault::Stream(e)
+    }
+}

@@ -1,0 +1,131 @@
+//! Messages in a stream, each behind its length in two bytes (RFC 1035 section 4.2.2).
+
+ghost use Rattle.std.specs.Prelude.{◌≡◌, ◌<◌, IfOk, length};
+ghost use Rattle.std.specs.Io.KnownBytes.{Consumes, IsAtEnd};
+ghost use Rattle.std.specs.Option.{option_map};
+ghost use Rattle.zone_serve.specs.Frames.{Filled, GivesNext, IsFrame};
+
+use std::alloc::{AllocError, AllocFailed, Global};
+use std::io::{self, Read};
+use thiserror::Error;
+
+/// Why a stream gives no message.
+#[derive(Clone, Copy, Debug, PartialEq, Eq, Error)]
+pub enum StreamFault {
+    /// It ends within a message, or within its length.
+    #[error("the input ends within a message")]
+    Partial,
+    /// A message has more than 65,535 bytes.
+    #[error("a message has more than 65535 bytes")]
+    TooLong,
+    /// It cannot be read.
+    #[error("the input cannot be read")]
+    Read,
+    /// Memory was refused.
+    #[error("no memory")]
+    Memory,
+}
+
+impl From<AllocError> for StreamFault {
+    fn from(_e: AllocError) -> StreamFault {
+        StreamFault::Memory
+    }
+}
+
+impl<T: Drop> From<AllocFailed<T>> for StreamFault {
+    fn from(_e: AllocFailed<T>) -> StreamFault {
+        StreamFault::Memory
+    }
+}
+
+/// Fills a buffer as far as the input goes: how many bytes of it are filled.
+fn fill<R: Read>(reader: &mut R, buffer: &mut [u8]) -> Result<usize, StreamFault>
+    ensures { IfOk result (λ count. Filled (R.remaining reader.old) (R.remaining reader.new) buffer.new count) }
+{
+    let mut at = 0;
+    for _ in 0..u64::MAX {
+        if at >= buffer.len() {
+            return Ok(at);
+        }
+        match reader.read(&mut buffer[at..]) {
+            Ok(0) => return Ok(at),
+            Ok(count) => at += count,
+            Err(e) => {
+                if e.kind() != io::ErrorKind::Interrupted {
+                    return Err(StreamFault::Read);
+                }
+            }
+        }
+    }
+    Err(StreamFault::Read)
+}
+
+/// The next bytes of a stream, so many.
+fn message_of<R: Read>(alloc: Global, reader: &mut R, size: usize) -> Result<Vec<u8>, StreamFault>
+    ensures { IfOk result (λ message. (length message.items ≡ size) × Consumes (R.remaining reader.old) (R.remaining reader.new) message.items) }
+{
+    let mut message = vec![in alloc; 0; size]?;
+    if fill(reader, &mut message)? < size {
+        return Err(StreamFault::Partial);
+    }
+    Ok(message)
+}
+
+/// The next bytes of a reader: so many, or all that are left.
+fn up_to<R: Read>(alloc: Global, reader: &mut R, most: usize) -> Result<Vec<u8>, StreamFault>
+    ensures bytes { IfOk result (λ bytes. Consumes (R.remaining reader.old) (R.remaining reader.new) bytes.items) }
+    ensures end { IfOk result (λ bytes. length bytes.items < most → IsAtEnd (R.remaining reader.new)) }
+{
+    let mut bytes = vec![in alloc; 0; most]?;
+    let count = fill(reader, &mut bytes)?;
+    bytes.truncate(count);
+    Ok(bytes)
+}
+
+/// One more than the bytes that a datagram has at most (RFC 768).
+const TOO_MANY: usize = 65_536;
+
+/// All bytes of an input that is one datagram. They are read to the end, and are at most 65,535.
+pub fn datagram<R: Read>(alloc: Global, reader: &mut R) -> Result<Vec<u8>, StreamFault>
+    ensures { IfOk result (λ bytes. Consumes (R.remaining reader.old) (R.remaining reader.new) bytes.items × IsAtEnd (R.remaining reader.new)) }
+{
+    let bytes = up_to(alloc, reader, TOO_MANY)?;
+    if bytes.len() < TOO_MANY {
+        Ok(bytes)
+    } else {
+        Err(StreamFault::TooLong)
+    }
+}
+
+/// The next message of a stream, or `None` at its end. No byte behind the message is read.
+pub fn next_message<R: Read>(alloc: Global, reader: &mut R) -> Result<Option<Vec<u8>>, StreamFault>
+    ensures { IfOk result (λ message. GivesNext (R.remaining reader.old) (R.remaining reader.new) (option_map (λ v. v.items) message)) }
+{
+    let mut length = [0u8; 2];
+    let count = fill(reader, &mut length)?;
+    match &length[..count] {
+        [] => Ok(None),
+        [high, low] => {
+            let size = 256 * usize::from(*high) + usize::from(*low);
+            Ok(Some(message_of(alloc, reader, size)?))
+        }
+        _ => Err(StreamFault::Partial),
+    }
+}
+
+/// A message behind its length.
+pub fn framed(alloc: Global, message: &[u8]) -> Result<Vec<u8>, StreamFault>
+    ensures { IfOk result (λ framed. IsFrame framed.items message.now) }
+{
+    let (Ok(high), Ok(low)) = (
+        u8::try_from(message.len() / 256),
+        u8::try_from(message.len() % 256),
+    ) else {
+        return Err(StreamFault::TooLong);
+    };
+    let mut framed = Vec::new(alloc);
+    framed.push(high)?;
+    framed.push(low)?;
+    framed.extend_from_slice(message)?;
+    Ok(framed)
+}

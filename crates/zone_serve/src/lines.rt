@@ -1,0 +1,115 @@
+//! Messages and what becomes of them, as lines of text.
+
+ghost use Rattle.std.specs.Prelude.{◌≡◌, ◌++◌, ◌∷◌, [], IfOk, OnOk};
+ghost use Rattle.zone_serve.specs.Lines.{hex_line, hex_lines, outcome_lines};
+
+use crate::peer;
+use hex::FromHexError;
+use hickory_server::proto::{Octets, Protocol};
+use hickory_server::server::serve::Outcome;
+use std::alloc::{AllocError, Global};
+use std::net::IpAddr;
+use std::str;
+
+/// A message as a line tells it.
+#[derive(Drop)]
+pub struct LineMessage {
+    /// The transport that it came over.
+    pub protocol: Protocol,
+    /// The address that it came from.
+    pub address: IpAddr,
+    /// Its bytes.
+    pub bytes: Vec<u8>,
+}
+
+/// The transport of this name.
+fn transport_named(name: &str) -> Option<Protocol> {
+    match name {
+        "udp" => Some(Protocol::Udp),
+        "tcp" => Some(Protocol::Tcp),
+        _ => None,
+    }
+}
+
+/// The bytes that hex digits stand for, or `None` where there is something else.
+fn bytes_of(alloc: Global, digits: &str) -> Result<Option<Vec<u8>>, AllocError> {
+    match hex::decode(alloc, digits.as_bytes()) {
+        Ok(bytes) => Ok(Some(bytes)),
+        Err(FromHexError::OutOfMemory) => Err(AllocError),
+        Err(_) => Ok(None),
+    }
+}
+
+/// The message of these three words.
+fn message_of(
+    alloc: Global,
+    transport: &str,
+    address: &str,
+    digits: &str,
+) -> Result<Option<LineMessage>, AllocError> {
+    let (Some(protocol), Some(address)) = (transport_named(transport), peer::address(address))
+    else {
+        return Ok(None);
+    };
+    match bytes_of(alloc, digits)? {
+        None => Ok(None),
+        Some(bytes) => Ok(Some(LineMessage {
+            protocol,
+            address,
+            bytes,
+        })),
+    }
+}
+
+/// The message that a line tells, or `None` where it tells none: `udp` or `tcp`, the address that the message came from, and its
+/// bytes in hex digits, with blanks between them.
+pub fn read_line(alloc: Global, line: &[u8]) -> Result<Option<LineMessage>, AllocError> {
+    let Ok(text) = str::from_utf8(line) else {
+        return Ok(None);
+    };
+    let words: Vec<&str> = text.split_ascii_whitespace().collect(alloc)?;
+    match words.as_slice() {
+        [transport, address, digits] => message_of(alloc, transport, address, digits),
+        _ => Ok(None),
+    }
+}
+
+/// Puts a line of hex digits for some bytes behind others.
+fn put_line(alloc: Global, lines: &mut Vec<u8>, bytes: &[u8]) -> Result<(), AllocError>
+    ensures { OnOk result (lines.new.items ≡ lines.old.items ++ hex_line bytes.now) }
+{
+    lines.extend_from_slice(hex::encode(alloc, bytes)?.as_bytes())?;
+    lines.push(b'\n')?;
+    Ok(())
+}
+
+/// A line of hex digits for each of some texts.
+fn hex_lines(alloc: Global, texts: &[Octets]) -> Result<Vec<u8>, AllocError>
+    ensures { IfOk result (λ lines. lines.items ≡ hex_lines texts.now) }
+{
+    let mut lines = Vec::new(alloc);
+    for bytes in texts {
+        put_line(alloc, &mut lines, bytes.as_slice())?;
+    }
+    Ok(lines)
+}
+
+/// A line of hex digits for each of some replies, and an empty one.
+fn reply_lines(alloc: Global, replies: &[Octets]) -> Result<Vec<u8>, AllocError>
+    ensures { IfOk result (λ lines. lines.items ≡ hex_lines replies.now ++ 10 ∷ []) }
+{
+    let mut lines = hex_lines(alloc, replies)?;
+    lines.push(b'\n')?;
+    Ok(lines)
+}
+
+/// The lines that tell what became of a message: a line of hex digits for each reply and an empty one, or `denied`, or `unreadable`.
+pub fn outcome_lines(alloc: Global, outcome: &Outcome) -> Result<Vec<u8>, AllocError>
+    ensures { IfOk result (λ lines. lines.items ≡ outcome_lines outcome.now) }
+{
+    match outcome {
+        Outcome::Denied => b"denied\n".to_vec(alloc),
+        Outcome::Unreadable => b"unreadable\n".to_vec(alloc),
+        Outcome::Replies(replies) => reply_lines(alloc, replies.as_slice()),
+    }
+}

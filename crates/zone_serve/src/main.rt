@@ -1,0 +1,270 @@
+//! A server of zones for whoever owns the sockets: `zone_serve [--zone NAME=FILE].. [--blocklist FILE].. [--allow NET].. [--deny NET]..
+//! [--nsid TEXT] udp|tcp|lines` answers what the standard input brings on the standard output, and tells on the standard error why it
+//! ends before its input does.
+//!
+//! `udp`: the input is one datagram. `tcp`: it is messages behind their lengths (RFC 1035 section 4.2.2), and each is answered as soon
+//! as it is whole. `lines`: it is lines `udp|tcp ADDRESS HEX`. The status is 0 where all of the input was answered, 1 where some of it
+//! was not, 2 for wrong arguments or a wrong address of the peer, 3 without memory, 4 where input, output or clock fail, and 5 where a
+//! file is not taken.
+#![tactic(auto)]
+
+mod arguments;
+mod fault;
+mod frames;
+mod handler;
+mod keys;
+mod lines;
+mod peer;
+mod server;
+mod serving;
+mod zones;
+
+use crate::arguments::{ArgumentFault, Mode, Settings, ZoneArgument};
+use crate::fault::Fault;
+use crate::handler::Handler;
+use crate::keys::NoKeys;
+use crate::server::{Zones, access, apex, chain, identifier, put_chain};
+use crate::serving::{serve_datagram, serve_lines, serve_stream};
+use crate::zones::{ZoneFault, read_zone};
+use hickory_server::proto::Name;
+use hickory_server::store::blocklist::{
+    AddError, BlocklistConfig, BlocklistConsultAction, BlocklistZoneHandler, CountedReader,
+};
+use hickory_server::zone_handler::Catalog;
+use std::alloc::Global;
+use std::env::VarError;
+use std::net::{IpAddr, Ipv4Addr};
+use std::process::ExitCode;
+use std::rc::Rc;
+use std::rt::{Clock, Env, Files};
+use std::{env, fs, io};
+
+/// The arguments behind the program's name. One that is not UTF-8 is wrong usage.
+fn given_words<R: Env + Alloc<A = Global>>(rt: &R) -> Result<Vec<String>, Fault> {
+    match env::args(rt) {
+        Ok(arguments) => Ok(arguments.skip(1).collect(rt.alloc())?),
+        Err(e) => match e.kind() {
+            io::ErrorKind::OutOfMemory => Err(Fault::Memory),
+            _ => Err(Fault::Argument(ArgumentFault::Usage)),
+        },
+    }
+}
+
+/// The address of the peer that a variable tells, if it is there.
+fn told_peer<R: Env + Alloc<A = Global>>(rt: &R, name: &str) -> Result<Option<IpAddr>, Fault> {
+    match env::var(rt, name) {
+        Ok(text) => match peer::address(text.as_str()) {
+            Some(address) => Ok(Some(address)),
+            None => Err(Fault::Peer),
+        },
+        Err(VarError::NotPresent) => Ok(None),
+        Err(VarError::NotUnicode) => Err(Fault::Peer),
+        Err(VarError::OutOfMemory) => Err(Fault::Memory),
+    }
+}
+
+/// The address of the peer, as systemd tells it (`REMOTE_ADDR`), or socat (`SOCAT_PEERADDR`), and 127.0.0.1 where neither does.
+fn peer_address<R: Env + Alloc<A = Global>>(rt: &R) -> Result<IpAddr, Fault> {
+    if let Some(address) = told_peer(rt, "REMOTE_ADDR")? {
+        return Ok(address);
+    }
+    if let Some(address) = told_peer(rt, "SOCAT_PEERADDR")? {
+        return Ok(address);
+    }
+    Ok(IpAddr::V4(Ipv4Addr::LOCALHOST))
+}
+
+/// The zone of a file.
+fn load_zone<R: Files + Alloc<A = Global>>(
+    rt: &R,
+    apex: &Name,
+    file: &str,
+) -> Result<Handler, ZoneFault> {
+    match fs::read(rt, file) {
+        Ok(bytes) => Ok(Handler::Zone(read_zone(rt.alloc(), apex, &bytes)?)),
+        Err(e) => match e.kind() {
+            io::ErrorKind::OutOfMemory => Err(ZoneFault::Memory),
+            _ => Err(ZoneFault::Unreadable),
+        },
+    }
+}
+
+/// Puts the zone of an argument into the catalog, the one at this place among the zones, with the list of blocked names behind it.
+fn load<R: Files + Alloc<A = Global>>(
+    rt: &R,
+    catalog: &mut Zones,
+    argument: ZoneArgument<'_>,
+    place: usize,
+    list: Option<&Rc<BlocklistZoneHandler>>,
+) -> Result<(), Fault> {
+    let apex = apex(rt.alloc(), argument.name, argument.place)?;
+    let zone = match load_zone(rt, &apex, argument.file) {
+        Ok(zone) => zone,
+        Err(ZoneFault::Memory) => return Err(Fault::Memory),
+        Err(fault) => return Err(Fault::Zone { place, fault }),
+    };
+    let chain = chain(rt.alloc(), zone, list)?;
+    if put_chain(rt.alloc(), catalog, &apex, chain)? {
+        Ok(())
+    } else {
+        Err(Fault::ZoneTwice { place })
+    }
+}
+
+/// Puts the zones of the arguments into the catalog, each with the list of blocked names behind it.
+fn load_zones<R: Files + Alloc<A = Global>>(
+    rt: &R,
+    catalog: &mut Zones,
+    settings: &Settings<'_>,
+    list: Option<&Rc<BlocklistZoneHandler>>,
+) -> Result<(), Fault> {
+    for place in 0..settings.zones.len() {
+        load(rt, catalog, settings.zones[place], place, list)?;
+    }
+    Ok(())
+}
+
+/// Adds the names of a file to those that are blocked.
+fn add_list<R: Files + Alloc<A = Global>>(
+    rt: &R,
+    list: &mut BlocklistZoneHandler,
+    file: &str,
+) -> Result<(), AddError> {
+    match fs::read(rt, file) {
+        Ok(bytes) => list.add(&mut CountedReader::new(bytes.as_slice())),
+        Err(e) => match e.kind() {
+            io::ErrorKind::OutOfMemory => Err(AddError::Memory),
+            _ => Err(AddError::Io),
+        },
+    }
+}
+
+/// What is done with blocked names: their addresses are 0.0.0.0 and `::`, whatever their zone has.
+fn blocking() -> BlocklistConfig {
+    let mut config = BlocklistConfig::default();
+    config.consult_action = BlocklistConsultAction::Enforce;
+    config
+}
+
+/// The list with the names of these files, if there are files.
+fn blocklist<R: Files + Alloc<A = Global>>(
+    rt: &R,
+    files: &[&str],
+) -> Result<Option<Rc<BlocklistZoneHandler>>, Fault> {
+    if files.is_empty() {
+        return Ok(None);
+    }
+    let mut list = BlocklistZoneHandler::new(rt.alloc(), Name::root(), blocking())?;
+    for place in 0..files.len() {
+        match add_list(rt, &mut list, files[place]) {
+            Ok(()) => {}
+            Err(AddError::Memory) => return Err(Fault::Memory),
+            Err(fault) => return Err(Fault::List { place, fault }),
+        }
+    }
+    Ok(Some(Rc::new(rt.alloc(), list)?))
+}
+
+/// The catalog that the arguments ask for.
+fn catalog<R: Files + Alloc<A = Global>>(rt: &R, settings: &Settings<'_>) -> Result<Zones, Fault> {
+    let alloc = rt.alloc();
+    let list = blocklist(rt, &settings.blocklists)?;
+    let mut catalog = Catalog::new(alloc, NoKeys);
+    catalog.set_nsid(identifier(alloc, settings)?);
+    load_zones(rt, &mut catalog, settings, list.as_ref())?;
+    Ok(catalog)
+}
+
+/// Serves the standard input as the arguments say.
+fn serve<R: Files + Env + Clock + Input + Print + Alloc<A = Global>>(
+    rt: &R,
+    settings: &Settings<'_>,
+    address: IpAddr,
+) -> Result<(), Fault> {
+    let alloc = rt.alloc();
+    let access = access(alloc, settings)?;
+    let mut catalog = catalog(rt, settings)?;
+    let zones = &mut catalog;
+    let mut reader = rt.reader();
+    let mut writer = io::writer(rt);
+    match settings.mode {
+        Mode::Udp => {
+            serve_datagram(alloc, rt, &access, zones, address, &mut reader, &mut writer)
+        }
+        Mode::Tcp => serve_stream(alloc, rt, &access, zones, address, &mut reader, &mut writer),
+        Mode::Lines => serve_lines(alloc, rt, &access, zones, &mut reader, &mut writer),
+    }
+}
+
+/// The file that a fault is of.
+fn file_of<'a>(settings: &Settings<'a>, fault: Fault) -> Option<&'a str> {
+    match fault {
+        Fault::Zone { place, .. } | Fault::ZoneTwice { place } => {
+            settings.zones.get(place).map(|zone| zone.file)
+        }
+        Fault::List { place, .. } => settings.blocklists.get(place).copied(),
+        _ => None,
+    }
+}
+
+/// Tells a fault on the standard error, and gives its status. That it cannot be told changes nothing.
+fn tell<R: Eprint>(rt: &R, fault: Fault) -> u8 {
+    let _ = eprintln!(rt; "zone_serve: {fault}");
+    fault.status()
+}
+
+/// Tells a fault of a file on the standard error, and gives its status.
+fn tell_of_file<R: Eprint>(rt: &R, file: &str, fault: Fault) -> u8 {
+    let _ = eprintln!(rt; "zone_serve: {file}: {fault}");
+    fault.status()
+}
+
+/// Tells a fault of a connection on the standard error, and gives its status.
+fn tell_of_peer<R: Eprint>(rt: &R, address: IpAddr, fault: Fault) -> u8 {
+    let _ = eprintln!(rt; "zone_serve: {address}: {fault}");
+    fault.status()
+}
+
+/// Runs the program with these settings, and gives its status.
+fn run_settings<R: Files + Env + Clock + Input + Print + Eprint + Alloc<A = Global>>(
+    rt: &R,
+    settings: &Settings<'_>,
+) -> u8 {
+    let address = match peer_address(rt) {
+        Ok(address) => address,
+        Err(fault) => return tell(rt, fault),
+    };
+    match serve(rt, settings, address) {
+        Ok(()) => 0,
+        Err(fault) => match file_of(settings, fault) {
+            Some(file) => tell_of_file(rt, file, fault),
+            None if fault.status() == 1 && settings.mode != Mode::Lines => {
+                tell_of_peer(rt, address, fault)
+            }
+            None => tell(rt, fault),
+        },
+    }
+}
+
+/// Runs the program with these arguments, and gives its status.
+fn run_arguments<R: Files + Env + Clock + Input + Print + Eprint + Alloc<A = Global>>(
+    rt: &R,
+    arguments: &[String],
+) -> u8 {
+    match Settings::read(rt.alloc(), arguments) {
+        Ok(settings) => run_settings(rt, &settings),
+        Err(fault) => tell(rt, Fault::from(fault)),
+    }
+}
+
+/// Runs the program, and gives its status.
+fn run<R: Files + Env + Clock + Input + Print + Eprint + Alloc<A = Global>>(rt: &R) -> u8 {
+    match given_words(rt) {
+        Ok(words) => run_arguments(rt, &words),
+        Err(fault) => tell(rt, fault),
+    }
+}
+
+fn main(rt: HostRuntime) -> ExitCode {
+    ExitCode::from(run(&rt))
+}

@@ -1,0 +1,82 @@
+//! The server: who may use it, and what it serves.
+
+use crate::arguments::{ArgumentFault, Settings};
+use crate::fault::Fault;
+use crate::handler::Handler;
+use crate::keys::NoKeys;
+use hickory_server::access::AccessControl;
+use hickory_server::proto::{LowerName, NSIDPayload, Name, NameError};
+use hickory_server::store::blocklist::BlocklistZoneHandler;
+use hickory_server::zone_handler::Catalog;
+use std::alloc::{AllocError, Global};
+use std::rc::Rc;
+
+/// A catalog of this program.
+pub type Zones = Catalog<NoKeys, Handler>;
+
+/// The access list that the arguments ask for.
+pub fn access(alloc: Global, settings: &Settings<'_>) -> Result<AccessControl, AllocError> {
+    let mut access = AccessControl::new(alloc);
+    access.insert_deny(&settings.denied)?;
+    access.insert_allow(&settings.allowed)?;
+    Ok(access)
+}
+
+/// The name of the apex of a zone, with or without a dot at its end; the root is a dot alone. `place` tells which argument it is.
+pub fn apex(alloc: Global, text: &str, place: usize) -> Result<Name, ArgumentFault> {
+    if text == "." {
+        return Ok(Name::root());
+    }
+    match Name::from_ascii(alloc, text) {
+        Ok(mut name) => {
+            name.set_fqdn(true);
+            Ok(name)
+        }
+        Err(NameError::Text) => Err(ArgumentFault::ZoneName { place }),
+        Err(_) => Err(ArgumentFault::Memory),
+    }
+}
+
+/// The identifier that the arguments ask for.
+pub fn identifier(
+    alloc: Global,
+    settings: &Settings<'_>,
+) -> Result<Option<NSIDPayload>, ArgumentFault> {
+    let Some((text, place)) = settings.identifier else {
+        return Ok(None);
+    };
+    let bytes = text.as_bytes().to_vec(alloc)?;
+    match NSIDPayload::new(bytes) {
+        Ok(payload) => Ok(Some(payload)),
+        Err(_) => Err(ArgumentFault::LongIdentifier { place }),
+    }
+}
+
+/// The chain of a zone: its handler, and behind it the list of blocked names, if there is one. The list is consulted about what the zone
+/// answers, so that it changes answers alone: transfers and updates are for the handler of the zone.
+pub fn chain(
+    alloc: Global,
+    zone: Handler,
+    list: Option<&Rc<BlocklistZoneHandler>>,
+) -> Result<Vec<Handler>, AllocError> {
+    let mut chain = Vec::new(alloc);
+    chain.push(zone)?;
+    if let Some(list) = list {
+        chain.push(Handler::Blocklist(list.clone()?))?;
+    }
+    Ok(chain)
+}
+
+/// Puts the chain of a zone at its apex; whether there was none.
+pub fn put_chain(
+    alloc: Global,
+    catalog: &mut Zones,
+    apex: &Name,
+    chain: Vec<Handler>,
+) -> Result<bool, Fault> {
+    let name = LowerName::new(alloc, apex)?;
+    match catalog.upsert(name, chain) {
+        Ok(old) => Ok(old.is_none()),
+        Err(_) => Err(Fault::Memory),
+    }
+}
