@@ -6,6 +6,7 @@ pub mod FirstPlaces
 pub mod FiveLists
 pub mod FormLengths
 pub mod FullForms
+pub mod LinkedNotes
 pub mod Lookups
 pub mod NameSteps
 pub mod NotedRuns

@@ -1,11 +1,10 @@
 -- How the fields of a compression table have its notes.
-use Rattle.std.specs.Prelude.{◌≡◌, ℕ, ◌<◌, List, length, map, take, slice_index_or, Option, None, IfSome, Bool, true}
-use Rattle.std.specs.Borrow.{Bor}
-use Rattle.std.specs.HashMap.{HashMap, get_by}
+use Rattle.std.specs.Prelude.{◌≡◌, ◌≢◌, ℕ, suc, ◌%◌, ◌<◌, ◌≤◌, List, [], length, map, take, drop, slice_index, slice_index_or, Option, None, IfSome}
+use Rattle.std.specs.Hash.FoldHasher.{initial, write, finish}
 use Rattle.std.specs.List.{All}
-use Rattle.std.specs.Str.{bytes_eq}
 use Rattle.hickory_wire.specs.serialize.writing.Noted.{Notes, IsPlace, first_place, IsNotedAt}
 use Rattle.hickory_wire.specs.declared.serialize.writing.compression_table.Note.{Note}
+use Rattle.hickory_wire.specs.declared.serialize.writing.compression_table.Owner.{Owner}
 
 abbrev pub pairs : List Note → Notes
 pairs notes = map (λ note. (note.suffix.now, note.place)) notes
@@ -14,13 +13,31 @@ pairs notes = map (λ note. (note.suffix.now, note.place)) notes
 abbrev pub AreApart : Notes → Type 0
 AreApart notes = (k : ℕ) (d : List ℕ × ℕ) → k < length notes → first_place (slice_index_or notes k d).0 (take k notes) ≡ None
 
--- The map finds what the notes have.
-abbrev pub Indexes : {S : Type 0} → HashMap (Bor (List ℕ)) ℕ S → Notes → Type 0
-Indexes map notes = (suffix : List ℕ) → get_by (λ key. bytes_eq suffix key.now) map ≡ first_place suffix notes
+-- the bucket of a suffix, of 512
+unfoldable pub bucket : List ℕ → ℕ
+bucket suffix = finish (write initial suffix) % 512
 
--- the notes, the owner name that is asked for first, whether the map is in use, and the map
-pub record IsTable {S : Type 0} (notes : Notes) (last_owner : Option Note) (is_hashed : Bool) (map : HashMap (Bor (List ℕ)) ℕ S) : Type 0 where
-  pub apart : AreApart notes
-  pub in_range : All (λ note. IsPlace note.1) notes
-  pub indexed : is_hashed ≡ true → Indexes map notes
-  pub kept : IfSome last_owner (λ owner. IsNotedAt notes owner.suffix.now owner.place)
+abbrev pub buckets : List Note → List ℕ
+buckets notes = map (λ note. bucket note.suffix.now) notes
+
+abbrev pub befores : List Note → List ℕ
+befores notes = map (λ note. note.before) notes
+
+-- With this many elements the list ends in its last one of the bucket; it has none where that is 0.
+pub record IsLast (bucket : ℕ) (buckets : List ℕ) (last : ℕ) : Type 0 where
+  pub within : last ≤ length buckets
+  pub is : (i : ℕ) → last ≡ suc i → slice_index buckets i ≡ bucket
+  pub others : All (λ other. other ≢ bucket) (drop last buckets)
+
+-- From each bucket's last note, each one leads to the one before it in the bucket.
+pub record AreLinked (notes : List Note) (lasts : List ℕ) : Type 0 where
+  pub each : length lasts ≡ 512
+  pub last : (b : ℕ) → b < 512 → IsLast b (buckets notes) (slice_index lasts b)
+  pub before : (i : ℕ) → i < length notes → IsLast (slice_index (buckets notes) i) (take i (buckets notes)) (slice_index (befores notes) i)
+
+-- the notes, the owner name that is asked for first, and the last notes of the buckets, where they are linked
+pub record IsTable (notes : List Note) (last_owner : Option Owner) (lasts : List ℕ) : Type 0 where
+  pub apart : AreApart (pairs notes)
+  pub in_range : All (λ note. IsPlace note.1) (pairs notes)
+  pub linked : lasts ≢ [] → AreLinked notes lasts
+  pub kept : IfSome last_owner (λ owner. IsNotedAt (pairs notes) owner.wire.now owner.place)

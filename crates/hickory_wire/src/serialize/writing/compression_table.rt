@@ -1,11 +1,11 @@
 //! The names that stand in a message while it is written, for pointers to them (RFC 1035 section 4.1.4).
 
-ghost use Rattle.std.specs.Prelude.{◌≡◌, ℕ, ◌+◌, ◌<◌, ◌≤◌, ◌++◌, ◌∷◌, [], length, take, OnOk, OnErr, IfOk, IfSome, None, true};
+ghost use Rattle.std.specs.Prelude.{◌≡◌, ℕ, ◌<◌, ◌++◌, ◌∷◌, [], length, take, replicate, OnOk, OnErr, IfOk, IfSome, None};
 ghost use Rattle.hickory_wire.specs.serialize.writing.Noted.{Notes, IsPlace, first_place, IsNotedAt};
-ghost use Rattle.hickory_wire.specs.serialize.writing.NameTable.{pairs, Indexes, AreApart};
+ghost use Rattle.hickory_wire.specs.serialize.writing.NameTable.{pairs, bucket, AreApart, AreLinked};
 
 use std::alloc::{AllocError, Global};
-use std::collections::HashMap;
+use std::hash::{FoldHasher, Hasher};
 use std::marker::Model;
 
 // The last labels of a name in wire form, without the end byte, and the place in the message where they stand.
@@ -13,13 +13,25 @@ use std::marker::Model;
 struct Note<'n> {
     suffix: &'n [u8],
     place: u16,
+    // Where the notes are linked, how many of them end with the one before it in its bucket, or 0 where it is the first there.
+    before: usize,
+}
+
+// The owner name of a record in wire form, without the end byte, and the place where it was noted.
+#[derive(Clone, Copy)]
+struct Owner<'n> {
+    wire: &'n [u8],
+    place: u16,
 }
 
 // Room for the notes of a small reply at once.
 const FIRST_CAPACITY: usize = 16;
 
-// Up to so many notes are searched one by one, which is cheaper there than to set a map up.
-const LIST_LEN: usize = 48;
+// Up to so many notes are searched one by one, which is cheaper there than to link them.
+const LIST_LEN: usize = 16;
+
+// The notes that are linked lie in so many buckets.
+const BUCKETS: usize = 512;
 
 /// The names that were noted, each once, with the place where it stands, letter case kept.
 ///
@@ -27,11 +39,10 @@ const LIST_LEN: usize = 48;
 #[derive(Drop)]
 pub(crate) struct CompressionTable<'n> {
     notes: Vec<Note<'n>>,
-    // Where `is_hashed`, the places of the notes, and otherwise nothing that is used.
-    places: HashMap<&'n [u8], u16>,
-    is_hashed: bool,
+    // For each bucket, how many notes end with its last one, or 0 where it has none. Empty while the notes are searched one by one.
+    lasts: Vec<usize>,
     // The owner name that was written last: the records of an RRset have the same.
-    last_owner: Option<Note<'n>>,
+    last_owner: Option<Owner<'n>>,
     alloc: Global,
 }
 
@@ -44,7 +55,29 @@ impl<'n> Model for CompressionTable<'n> {
 
     ghost view = { λ table. pairs table.notes.items };
 
-    ghost invariant = { λ table. IsTable (pairs table.notes.items) table.last_owner table.is_hashed table.places };
+    ghost invariant = { λ table. IsTable table.notes.items table.last_owner table.lasts.items };
+}
+
+// The bucket of a suffix.
+fn bucket_of(suffix: &[u8]) -> usize
+    ensures is { result ≡ bucket suffix.now }
+    ensures below { result < 512 }
+{
+    let mut hasher = FoldHasher::default();
+    hasher.write(suffix);
+    (hasher.finish() % BUCKETS as u64) as usize
+}
+
+// The same where it may be known.
+fn known_bucket(in_bucket: Option<usize>, suffix: &[u8]) -> usize
+    requires { IfSome in_bucket (λ b. b ≡ bucket suffix.now) }
+    ensures is { result ≡ bucket suffix.now }
+    ensures below { result < 512 }
+{
+    match in_bucket {
+        Some(known) => known,
+        None => bucket_of(suffix),
+    }
 }
 
 // The first place of the suffix among the notes. Slices of other lengths are told apart by them.
@@ -59,28 +92,84 @@ fn find_in(notes: &[Note<'_>], suffix: &[u8]) -> Option<u16>
     None
 }
 
-// The notes as a map.
-fn map_of<'n>(alloc: Global, notes: &[Note<'n>]) -> Result<HashMap<&'n [u8], u16>, AllocError>
-    requires { AreApart (pairs notes.now) }
-    ensures { IfOk result (λ map. Indexes map (pairs notes.now)) }
+// The same among the notes of one bucket, from its last one on.
+fn find_linked(
+    notes: &[Note<'_>],
+    lasts: &[usize],
+    in_bucket: usize,
+    suffix: &[u8],
+) -> Option<u16>
+    requires linked { AreLinked notes.now lasts.now }
+    requires apart { AreApart (pairs notes.now) }
+    requires in_bucket { in_bucket ≡ bucket suffix.now }
+    ensures { result ≡ first_place suffix.now (pairs notes.now) }
 {
-    let mut map = HashMap::with_capacity(alloc, 2 * LIST_LEN)?;
-    for note in notes {
-        map.insert(note.suffix, note.place)?;
+    let mut last = lasts[in_bucket];
+    while last > 0 {
+        let note = &notes[last - 1];
+        if note.suffix == suffix {
+            return Some(note.place);
+        }
+        last = note.before;
     }
-    Ok(map)
+    None
 }
 
-// Takes back the notes behind the first so many, from the list and from the map.
-fn take_back_both<'n>(notes: &mut Vec<Note<'n>>, map: &mut HashMap<&'n [u8], u16>, mark: usize)
-    requires apart { AreApart (pairs notes.old.items) }
-    requires indexed { Indexes map.old (pairs notes.old.items) }
+// Puts a note behind the others, and makes it the last one of its bucket.
+fn push_linked<'n>(
+    notes: &mut Vec<Note<'n>>,
+    lasts: &mut [usize],
+    in_bucket: usize,
+    suffix: &'n [u8],
+    place: u16,
+) -> Result<(), AllocError>
+    requires linked { AreLinked notes.old.items lasts.old }
+    requires in_bucket { in_bucket ≡ bucket suffix.now }
+    ensures ok { OnOk result (pairs notes.new.items ≡ pairs notes.old.items ++ (suffix.now, place) ∷ []) }
+    ensures err { OnErr result (pairs notes.new.items ≡ pairs notes.old.items) }
+    ensures linked { AreLinked notes.new.items lasts.new }
+{
+    notes.push(Note {
+        suffix,
+        place,
+        before: lasts[in_bucket],
+    })?;
+    lasts[in_bucket] = notes.len();
+    Ok(())
+}
+
+// The same notes, linked in buckets of which none had any.
+fn link<'n>(
+    alloc: Global,
+    notes: &[Note<'n>],
+    lasts: &mut [usize],
+) -> Result<Vec<Note<'n>>, AllocError>
+    requires { lasts.old ≡ replicate 512 0 }
+    ensures same { IfOk result (λ linked. pairs linked.items ≡ pairs notes.now) }
+    ensures linked { IfOk result (λ linked. AreLinked linked.items lasts.new) }
+{
+    let mut linked = Vec::with_capacity(alloc, 4 * LIST_LEN)?;
+    for note in notes {
+        push_linked(
+            &mut linked,
+            lasts,
+            bucket_of(note.suffix),
+            note.suffix,
+            note.place,
+        )?;
+    }
+    Ok(linked)
+}
+
+// Takes back the notes behind the first so many, the last one first, so that each bucket ends in the one before.
+fn unlink(notes: &mut Vec<Note<'_>>, lasts: &mut [usize], mark: usize)
+    requires { AreLinked notes.old.items lasts.old }
     ensures notes { notes.new.items ≡ take mark notes.old.items }
-    ensures indexed { Indexes map.new (pairs notes.new.items) }
+    ensures linked { AreLinked notes.new.items lasts.new }
 {
     while notes.len() > mark {
         if let Some(note) = notes.pop() {
-            map.remove(note.suffix);
+            lasts[bucket_of(note.suffix)] = note.before;
         }
     }
 }
@@ -92,8 +181,7 @@ impl<'n> CompressionTable<'n> {
     {
         CompressionTable {
             notes: Vec::new(alloc),
-            places: HashMap::new(alloc),
-            is_hashed: false,
+            lasts: Vec::new(alloc),
             last_owner: None,
             alloc,
         }
@@ -106,15 +194,28 @@ impl<'n> CompressionTable<'n> {
         self.notes.len()
     }
 
-    /// The place where the suffix was noted, letter case kept.
-    pub(crate) fn find(&self, suffix: &[u8]) -> Option<u16>
+    /// The bucket of a suffix, for `find` and `note`, where the table has come to use buckets.
+    pub(crate) fn bucket(&self, suffix: &[u8]) -> Option<usize>
+        ensures { IfSome result (λ b. b ≡ bucket suffix.now) }
+    {
+        if self.lasts.is_empty() {
+            None
+        } else {
+            Some(bucket_of(suffix))
+        }
+    }
+
+    /// The place where the suffix was noted, letter case kept. Its bucket is computed where it is not given.
+    pub(crate) fn find(&self, in_bucket: Option<usize>, suffix: &[u8]) -> Option<u16>
+        requires { IfSome in_bucket (λ b. b ≡ bucket suffix.now) }
         ensures found { result ≡ first_place suffix.now self.now }
         ensures in_range { IfSome result (λ place. IsPlace place) }
     {
-        if self.is_hashed {
-            self.places.get(suffix).copied()
-        } else {
+        if self.lasts.is_empty() {
             find_in(&self.notes, suffix)
+        } else {
+            let in_bucket = known_bucket(in_bucket, suffix);
+            find_linked(&self.notes, &self.lasts, in_bucket, suffix)
         }
     }
 
@@ -124,7 +225,7 @@ impl<'n> CompressionTable<'n> {
         ensures in_range { IfSome result (λ place. IsPlace place) }
     {
         let owner = self.last_owner?;
-        if owner.suffix == wire {
+        if owner.wire == wire {
             Some(owner.place)
         } else {
             None
@@ -136,41 +237,48 @@ impl<'n> CompressionTable<'n> {
         requires { IsNotedAt self.old wire.now place }
         ensures { self.new ≡ self.old }
     {
-        self.last_owner = Some(Note {
-            suffix: wire,
-            place,
-        });
+        self.last_owner = Some(Owner { wire, place });
     }
 
-    // Takes the memory of the first notes, and sets the map up once the list is too long to be searched one by one.
+    // Takes the memory of the first notes, and links them once they are too many to be searched one by one.
     fn make_room(&mut self) -> Result<(), AllocError>
         ensures { self.new ≡ self.old }
     {
         if self.notes.is_empty() {
-            self.notes.reserve(FIRST_CAPACITY)?;
+            return self.notes.reserve(FIRST_CAPACITY);
         }
-        if !self.is_hashed && self.notes.len() >= LIST_LEN {
-            self.places = map_of(self.alloc, &self.notes)?;
-            self.is_hashed = true;
+        if self.lasts.is_empty() && self.notes.len() >= LIST_LEN {
+            let mut lasts = vec![in self.alloc; 0usize; BUCKETS]?;
+            self.notes = link(self.alloc, &self.notes, &mut lasts)?;
+            self.lasts = lasts;
         }
         Ok(())
     }
 
-    /// Notes a suffix that was not noted before.
-    pub(crate) fn note(&mut self, suffix: &'n [u8], place: u16) -> Result<(), AllocError>
+    /// Notes a suffix that was not noted before. Its bucket is computed where it is not given.
+    pub(crate) fn note(
+        &mut self,
+        in_bucket: Option<usize>,
+        suffix: &'n [u8],
+        place: u16,
+    ) -> Result<(), AllocError>
+        requires in_bucket { IfSome in_bucket (λ b. b ≡ bucket suffix.now) }
         requires fresh { first_place suffix.now self.old ≡ None }
         requires in_range { IsPlace place }
         ensures ok { OnOk result (self.new ≡ self.old ++ (suffix.now, place) ∷ []) }
         ensures err { OnErr result (self.new ≡ self.old) }
     {
         self.make_room()?;
-        self.notes.push(Note { suffix, place })?;
-        if self.is_hashed {
-            if let Err(e) = self.places.insert(suffix, place) {
-                self.notes.pop();
-                return Err(AllocError::from(e));
-            }
+        if self.lasts.is_empty() {
+            self.notes.push(Note {
+                suffix,
+                place,
+                before: 0,
+            })?;
+            return Ok(());
         }
+        let in_bucket = known_bucket(in_bucket, suffix);
+        push_linked(&mut self.notes, &mut self.lasts, in_bucket, suffix, place)?;
         Ok(())
     }
 
@@ -179,10 +287,10 @@ impl<'n> CompressionTable<'n> {
         ensures { self.new ≡ take mark self.old }
     {
         self.last_owner = None;
-        if self.is_hashed {
-            take_back_both(&mut self.notes, &mut self.places, mark);
-        } else {
+        if self.lasts.is_empty() {
             self.notes.truncate(mark);
+        } else {
+            unlink(&mut self.notes, &mut self.lasts, mark);
         }
     }
 }

@@ -99,7 +99,21 @@ where
     drain(additionals);
 }
 
-// Puts the five lists behind header and questions.
+// Whether any of the lists may have a record, as far as it is known before they are taken.
+fn may_have_records<A, N, S, D>(parts: &ReplyParts<'_, A, N, S, D>) -> bool
+where
+    A: Iterator,
+    N: Iterator,
+    S: Iterator,
+    D: Iterator,
+{
+    parts.answers.size_hint().1 != Some(0)
+        || parts.authorities.size_hint().1 != Some(0)
+        || parts.soa.size_hint().1 != Some(0)
+        || parts.additionals.size_hint().1 != Some(0)
+}
+
+// Puts the five lists behind header and questions. Where no list has a record, nothing could point to the question's name, and it is not noted.
 fn write_lists<'q, 'a, A, N, S, D>(
     bytes: &mut Vec<u8>,
     limit: u16,
@@ -124,6 +138,7 @@ where
     ensures counted { IfOk result (λ sections.
         sections.additionals.count + sections.opt.count + sections.signature.count ≤ 65535) }
 {
+    let has_records = may_have_records(&parts);
     let ReplyParts {
         metadata: _,
         question,
@@ -136,7 +151,9 @@ where
         signature,
     } = parts;
     let mut table = CompressionTable::new(*bytes.allocator());
-    note_question(&mut table, question)?;
+    if has_records {
+        note_question(&mut table, question)?;
+    }
     let answers = write_list(bytes, &mut table, limit, answers, None)?;
     let authorities = write_list(
         bytes,
@@ -222,7 +239,7 @@ where
     Ok(header)
 }
 
-/// Writes a reply: header, questions, and five lists of records, each cut where the next record in full passes the limit.
+/// Writes a reply: header, questions, and five lists of records, each cut only before a record that in full passes the limit.
 ///
 /// TC is set where a list was cut, and the counts are of what was written. `MaxSizeExceeded` says that header and
 /// questions pass the limit, `CharacterDataTooLong` and `DataTooLong` that a record was reached that has no form in bytes.

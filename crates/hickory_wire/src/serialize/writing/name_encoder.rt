@@ -35,7 +35,8 @@ fn write_labels<'n>(
         bytes.push(0)?;
         return Ok(None);
     }
-    if let Some(place) = table.find(wire) {
+    let in_bucket = table.bucket(wire);
+    if let Some(place) = table.find(in_bucket, wire) {
         write_pointer(bytes, place)?;
         return Ok(Some(place));
     }
@@ -46,7 +47,7 @@ fn write_labels<'n>(
     if place >= POINTER_REACH {
         return Ok(None);
     }
-    table.note(wire, place as u16)?;
+    table.note(in_bucket, wire, place as u16)?;
     Ok(Some(place as u16))
 }
 

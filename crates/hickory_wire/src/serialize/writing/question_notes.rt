@@ -46,9 +46,7 @@ pub(crate) fn note_question<'n>(
     let mut place = 0;
     while place < end {
         let suffix = &question[place..end];
-        if table.find(suffix).is_none() {
-            table.note(suffix, (QUESTION_PLACE + place) as u16)?;
-        }
+        table.note(None, suffix, (QUESTION_PLACE + place) as u16)?;
         place += 1 + usize::from(question[place]);
     }
     Ok(())

@@ -1,19 +1,17 @@
 -- Notes of names, and the first place of one among them.
-use Rattle.std.proofs.Common.{◌≡◌, inl, inr, ℕ, suc, ◌+◌, ◌<◌, List, [], ◌∷◌, ◌++◌, length, take, drop, get_or, Bool, true, false, cond, Option, Some, None, refl, sym, ap, ◌∙◌, subst, arith, length-append, drop-cons, length-take}
+use Rattle.std.proofs.Common.{◌≡◌, ◌≢◌, inl, inr, ℕ, suc, ◌+◌, ◌<◌, List, [], ◌∷◌, ◌++◌, length, take, drop, get_or, Bool, true, false, cond, Option, Some, None, refl, sym, ap, ◌∙◌, subst, arith, length-append, drop-cons, length-take}
 use Rattle.std.specs.Prelude.{IfSome}
 use Rattle.std.specs.List.{All}
-use Rattle.std.specs.Borrow.{Bor}
 use Rattle.std.specs.Map.{lookup}
 use Rattle.std.specs.Str.{bytes_eq}
-use Rattle.std.specs.HashMap.{HashMap, get_by, UpdatesBy, IsEmpty}
-use Rattle.std.proofs.lemmas.Map.Text.{hash_map_updates_str}
 use Rattle.std.proofs.lemmas.Slice.Eq.{bytes_eq-Decides}
 use Rattle.std.proofs.lemmas.Bool.{cases_lt, cases_Bool, cond-true, cond-false, false_from_ne_true, both_ways}
 use Rattle.std.proofs.lemmas.List.{take-append-drop, map-append, get_or-take, take-take, take-append-le, get_or_append_left, get_or-append-add, take_all, get_or-map, take-map, length-map, map_more}
 use Rattle.std.proofs.lemmas.List.Elements.{All-head, All-tail, All-push, All-take}
 use Rattle.hickory_wire.specs.serialize.writing.Noted.{Notes, IsPlace, first_place, IsNotedAt}
-use Rattle.hickory_wire.specs.serialize.writing.NameTable.{pairs, Indexes, AreApart, IsTable}
+use Rattle.hickory_wire.specs.serialize.writing.NameTable.{pairs, AreApart, AreLinked, IsTable}
 use Rattle.hickory_wire.specs.declared.serialize.writing.compression_table.Note.{Note}
+use Rattle.hickory_wire.specs.declared.serialize.writing.compression_table.Owner.{Owner}
 
 skipped : (b : Bool) (v : ℕ) (o r s : Option ℕ) → cond b (Some v) o ≡ None → (o ≡ None → r ≡ s) → cond b (Some v) r ≡ s
 skipped true v o r s e h = cc
@@ -33,7 +31,7 @@ same_here s k e = (bytes_eq-Decides s k).0 e
 flipped_true : (s k : List ℕ) → bytes_eq s k ≡ true → bytes_eq k s ≡ true
 flipped_true s k e = (bytes_eq-Decides k s).1 (sym (same_here s k e))
 
-flipped_false : (s k : List ℕ) → bytes_eq s k ≡ false → bytes_eq k s ≡ false
+pub flipped_false : (s k : List ℕ) → bytes_eq s k ≡ false → bytes_eq k s ≡ false
 flipped_false s k e = false_from_ne_true (bytes_eq k s) (λ t. both_ways (bytes_eq s k) e (flipped_true k s t))
 
 -- A note is found where no earlier one has its suffix.
@@ -43,6 +41,14 @@ first_place-at s xs x ys e h = first_place-behind s xs (x ∷ ys) e ∙ cond-tru
 -- one note more, of another suffix
 pub first_place-other : (s : List ℕ) (xs : Notes) (x : List ℕ × ℕ) → bytes_eq s x.0 ≡ false → first_place s (xs ++ x ∷ []) ≡ first_place s xs
 first_place-other s xs x e = first_place-before s xs (x ∷ []) (cond-false (bytes_eq s x.0) (Some x.1) None e)
+
+-- A suffix is not among notes of longer ones.
+pub fresh_longer : (s : List ℕ) (notes : Notes) → All (λ note. length s < length note.0) notes → first_place s notes ≡ None
+fresh_longer s [] h = refl
+fresh_longer s (n ∷ ns) h =
+    let longer = All-head (λ note. length s < length note.0) n ns h in
+    let other = false_from_ne_true (bytes_eq s n.0) (λ t. omega (arith, longer, ap length (same_here s n.0 t))) in
+    cond-false (bytes_eq s n.0) (Some n.1) (first_place s ns) other ∙ fresh_longer s ns (All-tail (λ note. length s < length note.0) n ns h)
 
 in_range_by : (b : Bool) (v : ℕ) (o : Option ℕ) → IsPlace v → IfSome o (λ p. IsPlace p) → IfSome (cond b (Some v) o) (λ p. IsPlace p)
 in_range_by true v o h k = h
@@ -54,34 +60,6 @@ first_place-in_range s (n ∷ ns) h = in_range_by (bytes_eq s n.0) n.1 (first_pl
 
 pub place_in_range : (s : List ℕ) (p : ℕ) (notes : Notes) → All (λ note. IsPlace note.1) notes → first_place s notes ≡ Some p → IsPlace p
 place_in_range s p notes h e = let all = first_place-in_range s notes h in rw e at all
-
-module _ {S : Type 0} (m n : HashMap (Bor (List ℕ)) ℕ S) (k : List ℕ) where
-  -- the map after a note of a suffix that no note has
-  pub Indexes-push : (p : ℕ) (notes : Notes) → Indexes m notes → first_place k notes ≡ None → UpdatesBy (λ x y. bytes_eq x.now y.now) (λ x. bytes_eq k x.now) m n (Some p) → Indexes n (notes ++ (k, p) ∷ [])
-  Indexes-push p notes h fresh u s =
-      let after = hash_map_updates_str k m n (Some p) u s in
-      elim (cases_Bool (bytes_eq k s)) [
-        | inl e ↦
-            let none : first_place s notes ≡ None = ap (λ q. first_place q notes) (sym (same_here k s e)) ∙ fresh in
-            after ∙ cond-true (bytes_eq k s) (Some p) (get_by (λ key. bytes_eq s key.now) m) e ∙ sym (first_place-at s notes (k, p) [] none e)
-        | inr e ↦
-            after ∙ cond-false (bytes_eq k s) (Some p) (get_by (λ key. bytes_eq s key.now) m) e ∙ h s ∙ sym (first_place-other s notes (k, p) (flipped_false k s e))
-      ]
-
-  -- the map after the last note is taken back
-  pub Indexes-pop : (p : ℕ) (notes : Notes) → Indexes m (notes ++ (k, p) ∷ []) → first_place k notes ≡ None → UpdatesBy (λ x y. bytes_eq x.now y.now) (λ x. bytes_eq k x.now) m n None → Indexes n notes
-  Indexes-pop p notes h fresh u s =
-      let after = hash_map_updates_str k m n None u s in
-      elim (cases_Bool (bytes_eq k s)) [
-        | inl e ↦
-            let none : first_place s notes ≡ None = ap (λ q. first_place q notes) (sym (same_here k s e)) ∙ fresh in
-            after ∙ cond-true (bytes_eq k s) None (get_by (λ key. bytes_eq s key.now) m) e ∙ sym none
-        | inr e ↦
-            after ∙ cond-false (bytes_eq k s) None (get_by (λ key. bytes_eq s key.now) m) e ∙ h s ∙ first_place-other s notes (k, p) (flipped_false k s e)
-      ]
-
-pub Indexes-empty : {S : Type 0} (m : HashMap (Bor (List ℕ)) ℕ S) → IsEmpty m → Indexes m []
-Indexes-empty m e s = ap (λ es. lookup (λ (key : Bor (List ℕ)). bytes_eq s key.now) es) e
 
 pub AreApart-take : (n : ℕ) (notes : Notes) → AreApart notes → AreApart (take n notes)
 AreApart-take n notes h k d lt =
@@ -100,13 +78,6 @@ AreApart-push notes s p h fresh k d lt =
           let here : get_or (notes ++ (s, p) ∷ []) k d ≡ (s, p) = ap (λ i. get_or (notes ++ (s, p) ∷ []) i d) at ∙ get_or-append-add notes ((s, p) ∷ []) 0 d in
           rw (here, all) fresh
     ]
-
--- the suffix of the last note
-pub AreApart-last : (notes : Notes) (x : List ℕ × ℕ) → AreApart (notes ++ x ∷ []) → first_place x.0 notes ≡ None
-AreApart-last notes x h =
-    let at = h (length notes + 0) x (omega (arith, length-append notes (x ∷ []))) in
-    let all : take (length notes + 0) (notes ++ x ∷ []) ≡ notes = take-append-le (length notes + 0) notes (x ∷ []) (omega arith) ∙ take_all (length notes + 0) notes (omega arith) in
-    rw (get_or-append-add notes (x ∷ []) 0 x, all) at at
 
 abbrev pub pair : Note → List ℕ × ℕ
 pair note = (note.suffix.now, note.place)
@@ -131,9 +102,6 @@ module _ (notes : List Note) (i : ℕ) (n : Note) (lt : i < length notes) (is : 
       let named : get_or (pairs notes) i (pair n) ≡ pair n = get_or-map pair notes i n (pair n) lt ∙ ap pair is in
       ap (λ x. first_place x.0 (pairs (take i notes))) (sym named) ∙ ap (λ xs. first_place (get_or (pairs notes) i (pair n)).0 xs) (sym (take-map pair i notes)) ∙ h i (pair n) long
 
-pub AreApart-front : (notes : Notes) (x : List ℕ × ℕ) → AreApart (notes ++ x ∷ []) → AreApart notes
-AreApart-front notes x h = subst (λ xs. AreApart xs) (take-append-le (length notes) notes (x ∷ []) (omega arith) ∙ take_all (length notes) notes (omega arith)) (AreApart-take (length notes) (notes ++ x ∷ []) h)
-
 -- What was found is found behind more notes.
 found_by : (b : Bool) (v : ℕ) (o r : Option ℕ) (p : ℕ) → cond b (Some v) o ≡ Some p → (o ≡ Some p → r ≡ Some p) → cond b (Some v) r ≡ Some p
 found_by true v o r p e h = e
@@ -143,23 +111,35 @@ pub first_place-front : (s : List ℕ) (p : ℕ) (xs ys : Notes) → first_place
 first_place-front s p [] ys e = cc
 first_place-front s p (x ∷ xs) ys e = found_by (bytes_eq s x.0) x.1 (first_place s xs) (first_place s (xs ++ ys)) p e (first_place-front s p xs ys)
 
-still_kept : (owner : Option Note) (notes more : Notes) → IfSome owner (λ o. IsNotedAt notes o.suffix.now o.place) → IfSome owner (λ o. IsNotedAt (notes ++ more) o.suffix.now o.place)
+still_kept : (owner : Option Owner) (notes more : Notes) → IfSome owner (λ o. IsNotedAt notes o.wire.now o.place) → IfSome owner (λ o. IsNotedAt (notes ++ more) o.wire.now o.place)
 still_kept None notes more h = tt
-still_kept (Some o) notes more h = (h.0, first_place-front o.suffix.now o.place notes more h.1)
+still_kept (Some o) notes more h = (h.0, first_place-front o.wire.now o.place notes more h.1)
 
 -- ---- the table as a whole
-pub IsTable-push : {S : Type 0} (notes : Notes) (s : List ℕ) (p : ℕ) (owner : Option Note) (is_hashed : Bool) (m n : HashMap (Bor (List ℕ)) ℕ S) → IsTable notes owner is_hashed m → first_place s notes ≡ None → IsPlace p → (is_hashed ≡ true → Indexes n (notes ++ (s, p) ∷ [])) → IsTable (notes ++ (s, p) ∷ []) owner is_hashed n
-IsTable-push notes s p owner is_hashed m n t fresh at h = record {
-  apart = AreApart-push notes s p t.apart fresh;
-  in_range = All-push (λ note. IsPlace note.1) notes (s, p) t.in_range at;
-  indexed = h;
-  kept = still_kept owner notes ((s, p) ∷ []) t.kept;
-}
+module _ (notes notes' : List Note) (owner : Option Owner) (lasts lasts' : List ℕ) where
+  -- with one note more
+  pub IsTable-push : (s : List ℕ) (p : ℕ) → IsTable notes owner lasts → pairs notes' ≡ pairs notes ++ (s, p) ∷ [] → first_place s (pairs notes) ≡ None → IsPlace p → (lasts' ≢ [] → AreLinked notes' lasts') → IsTable notes' owner lasts'
+  IsTable-push s p t e fresh at h = record {
+    apart = subst (λ ns. AreApart ns) (sym e) (AreApart-push (pairs notes) s p t.apart fresh);
+    in_range = subst (λ ns. All (λ note. IsPlace note.1) ns) (sym e) (All-push (λ note. IsPlace note.1) (pairs notes) (s, p) t.in_range at);
+    linked = h;
+    kept = subst (λ ns. IfSome owner (λ o. IsNotedAt ns o.wire.now o.place)) (sym e) (still_kept owner (pairs notes) ((s, p) ∷ []) t.kept);
+  }
 
-pub IsTable-take : {S : Type 0} (k : ℕ) (notes : Notes) (owner : Option Note) (is_hashed : Bool) (m n : HashMap (Bor (List ℕ)) ℕ S) → IsTable notes owner is_hashed m → (is_hashed ≡ true → Indexes n (take k notes)) → IsTable (take k notes) None is_hashed n
-IsTable-take k notes owner is_hashed m n t h = record {
-  apart = AreApart-take k notes t.apart;
-  in_range = All-take (λ note. IsPlace note.1) k notes t.in_range;
-  indexed = h;
-  kept = tt;
-}
+  -- with the first so many notes
+  pub IsTable-take : (k : ℕ) → IsTable notes owner lasts → pairs notes' ≡ take k (pairs notes) → (lasts' ≢ [] → AreLinked notes' lasts') → IsTable notes' None lasts'
+  IsTable-take k t e h = record {
+    apart = subst (λ ns. AreApart ns) (sym e) (AreApart-take k (pairs notes) t.apart);
+    in_range = subst (λ ns. All (λ note. IsPlace note.1) ns) (sym e) (All-take (λ note. IsPlace note.1) k (pairs notes) t.in_range);
+    linked = h;
+    kept = tt;
+  }
+
+  -- with the same notes, linked
+  pub IsTable-linked : IsTable notes owner lasts → pairs notes' ≡ pairs notes → AreLinked notes' lasts' → IsTable notes' owner lasts'
+  IsTable-linked t e h = record {
+    apart = subst (λ ns. AreApart ns) (sym e) t.apart;
+    in_range = subst (λ ns. All (λ note. IsPlace note.1) ns) (sym e) t.in_range;
+    linked = λ ne. h;
+    kept = subst (λ ns. IfSome owner (λ o. IsNotedAt ns o.wire.now o.place)) (sym e) t.kept;
+  }

@@ -1,7 +1,7 @@
 -- The steps of noting the name of a question.
-use Rattle.std.proofs.Common.{◌≡◌, ℕ, ◌+◌, ◌-◌, ◌<◌, ◌≤◌, List, [], ◌∷◌, ◌++◌, length, take, drop, get_or, replicate, Some, refl, sym, ap, ◌∙◌, subst, arith, length-append}
+use Rattle.std.proofs.Common.{◌≡◌, ℕ, ◌+◌, ◌-◌, ◌<◌, ◌≤◌, List, [], ◌∷◌, ◌++◌, length, take, drop, get_or, replicate, Some, refl, sym, ap, ◌∙◌, subst, arith, length-append, length-take, length-drop}
 use Rattle.std.proofs.lemmas.List.{append_assoc, get_or-append-add}
-use Rattle.std.proofs.lemmas.List.Elements.{All-push, All-tail, recursion_from_All}
+use Rattle.std.proofs.lemmas.List.Elements.{All-push, All-weaker, All-tail, recursion_from_All}
 use Rattle.std.proofs.lemmas.Option.{slice_get-get_or}
 use Rattle.std.specs.List.{All}
 use Rattle.hickory_wire.specs.rr.domain.DomainName.{IsLabel, wire_form, name_len, cut}
@@ -85,6 +85,18 @@ next_by bytes place end (l ∷ ls) are s e lt =
 
 pub next_label : (bytes : List ℕ) (place end : ℕ) → StandsInFull bytes place end → place < end → NextLabel bytes place end
 next_label bytes place end s lt = next_by bytes place end s.labels s.are s.stands s.ends lt
+
+-- how long the end of a name is that begins there
+pub suffix_len : (bytes : List ℕ) (place end : ℕ) → StandsInFull bytes place end → length (take (end - place) (drop place bytes)) ≡ end - place
+suffix_len bytes place end s = omega (arith, s.ends, s.stands.fits, length-append (wire_form s.labels) (0 ∷ []), length-take (end - place) (drop place bytes), length-drop place bytes)
+
+-- Behind the next label all notes are longer than what is left.
+pub longer_noted : (bytes : List ℕ) (place next end : ℕ) (notes notes' : Notes) → StandsInFull bytes place end → place < end → place < next → All (λ note. end - place < length note.0) notes
+    → notes' ≡ notes ++ (take (end - place) (drop place bytes), 12 + place) ∷ [] → All (λ note. end - next < length note.0) notes'
+longer_noted bytes place next end notes notes' s lt less h e =
+    let before = All-weaker (λ note. end - place < length note.0) (λ note. end - next < length note.0) (λ note longer. omega (arith, longer, less)) notes h in
+    let here : end - next < length (take (end - place) (drop place bytes)) = omega (arith, suffix_len bytes place end s, lt, less) in
+    subst (λ ns. All (λ note. end - next < length note.0) ns) (sym e) (All-push (λ note. end - next < length note.0) notes (take (end - place) (drop place bytes), 12 + place) before here)
 
 -- what stands in the questions stands behind the header
 behind_header : (question text : List ℕ) (place : ℕ) → BytesAt question place text → BytesAt (replicate 12 0 ++ question) (12 + place) text

@@ -17,8 +17,8 @@ returns-clause-written g c =
     let limit = c.args.limit in
     let start = c.args.bytes.now.items in
     let run2 = subst (λ (l : List (Record RData)). NotedRun limit c.write_list.new.bytes.items c.write_list.new.table (take c.in_ok-authorities.authorities.count l) c.write_list-2.new.bytes.items c.write_list-2.new.table) both.4 two.3 in
-    let runs = run_both limit (take c.in_ok-answers.answers.count one.0 ++ take c.in_ok-authorities.authorities.count all) (take c.in_ok-additionals.additionals.count three.0) start c.write_list-2.new.bytes.items c.write_list-3.new.bytes.items c.note_question.new.table c.write_list-2.new.table c.write_list-3.new.table
-    (run_both limit (take c.in_ok-answers.answers.count one.0) (take c.in_ok-authorities.authorities.count all) start c.write_list.new.bytes.items c.write_list-2.new.bytes.items c.note_question.new.table c.write_list.new.table c.write_list-2.new.table one.3 run2) three.3 in
+    let runs = run_both limit (take c.in_ok-answers.answers.count one.0 ++ take c.in_ok-authorities.authorities.count all) (take c.in_ok-additionals.additionals.count three.0) start c.write_list-2.new.bytes.items c.write_list-3.new.bytes.items c.if-has_records.table c.write_list-2.new.table c.write_list-3.new.table
+    (run_both limit (take c.in_ok-answers.answers.count one.0) (take c.in_ok-authorities.authorities.count all) start c.write_list.new.bytes.items c.write_list-2.new.bytes.items c.if-has_records.table c.write_list.new.table c.write_list-2.new.table one.3 run2) three.3 in
     let same : chain_second c.chain.result ≡ c.args.parts.soa = search rules in
     let follows = subst (λ (l : List (Record RData)). ListFollows c.args.limit c.in_ok-answers.answers.fault c.write_list.new.bytes.items l c.write_list-2.new.bytes.items c.in_ok-authorities.authorities) both.4 two.2 in
     let five = five_lists c.args.limit c.args.bytes.now.items c.write_list.new.bytes.items c.write_list-2.new.bytes.items c.write_list-3.new.bytes.items c.write_optional_edns.new.bytes.items c.write_optional_signature.new.bytes.items
@@ -37,7 +37,7 @@ returns-clause-written g c =
         five.2,
         record {
           sections = c.write_list-3.new.bytes.items;
-          repeating = repeats limit _ start c.write_list-3.new.bytes.items c.note_question.new.table c.write_list-3.new.table runs;
+          repeating = repeats limit _ start c.write_list-3.new.bytes.items c.if-has_records.table c.write_list-3.new.table runs;
           last = puts_both limit _ _ c.write_list-3.new.bytes.items c.write_optional_edns.new.bytes.items c.write_optional_signature.new.bytes.items c.in_ok-opt.ensures.put c.in_ok-signature.ensures.put;
         },
       ),

@@ -4,12 +4,12 @@ use Rattle.hickory_wire.specs.serialize.writing.NameTable.{pairs}
 use Rattle.hickory_wire.proofs.lemmas.serialize.writing.FirstPlaces.{first_place-in_range}
 use Rattle.hickory_wire.proofs.serialize.writing.compression_table.CompressionTable.find.Goals as goal
 
-pub returns-then-self-clause-in_range : goal.returns-then-self-clause-in_range
-returns-then-self-clause-in_range c =
-    let e : c.copied.result ≡ first_place c.args.suffix.now (pairs c.self.inside.notes.items) = c.copied.ensures ∙ c.get.ensures.value ∙ c.self.invariant.indexed c.if-self.true c.args.suffix.now in
+pub returns-then-is_empty-clause-in_range : goal.returns-then-is_empty-clause-in_range
+returns-then-is_empty-clause-in_range c =
+    let e : c.find_in.result ≡ first_place c.args.suffix.now (pairs c.self.inside.notes.items) = c.find_in.ensures ∙ ap (λ ns. first_place c.args.suffix.now (pairs ns)) c.deref.ensures.value in
     subst (λ o. IfSome o (λ p. IsPlace p)) (sym e) (first_place-in_range c.args.suffix.now (pairs c.self.inside.notes.items) c.self.invariant.in_range)
 
-pub returns-else-self-clause-in_range : goal.returns-else-self-clause-in_range
-returns-else-self-clause-in_range c =
-    let e : c.find_in.result ≡ first_place c.args.suffix.now (pairs c.self.inside.notes.items) = c.find_in.ensures ∙ ap (λ ns. first_place c.args.suffix.now (pairs ns)) c.deref.ensures.value in
+pub returns-else-is_empty-clause-in_range : goal.returns-else-is_empty-clause-in_range
+returns-else-is_empty-clause-in_range c =
+    let e : c.find_linked.result ≡ first_place c.args.suffix.now (pairs c.self.inside.notes.items) = c.find_linked.ensures ∙ ap (λ ns. first_place c.args.suffix.now (pairs ns)) c.deref-else-is_empty.ensures.value in
     subst (λ o. IfSome o (λ p. IsPlace p)) (sym e) (first_place-in_range c.args.suffix.now (pairs c.self.inside.notes.items) c.self.invariant.in_range)

@@ -1,28 +1,30 @@
-use Rattle.std.proofs.Common.{◌≡◌, ◌++◌, ◌∷◌, [], None, sym, subst, ap, ◌∙◌}
-use Rattle.std.proofs.lemmas.Bool.{both_ways}
-use Rattle.std.proofs.lemmas.List.{map-append}
+use Rattle.std.proofs.Common.{rules, ◌≡◌, ◌≢◌, arith, ◌++◌, ◌∷◌, [], length, take, drop, None, sym, subst, ap, ◌∙◌}
+use Rattle.std.proofs.lemmas.List.{map-append, nil_from_length}
 use Rattle.hickory_wire.specs.serialize.writing.Noted.{first_place}
-use Rattle.hickory_wire.specs.serialize.writing.NameTable.{pairs, IsTable}
+use Rattle.hickory_wire.specs.serialize.writing.NameTable.{pairs, AreLinked, IsTable}
 use Rattle.hickory_wire.specs.declared.serialize.writing.compression_table.Note.{Note}
-use Rattle.hickory_wire.proofs.lemmas.serialize.writing.FirstPlaces.{pair, IsTable-push, Indexes-push}
+use Rattle.hickory_wire.proofs.lemmas.serialize.writing.FirstPlaces.{pair, IsTable-push, IsTable-linked}
+use Rattle.hickory_wire.proofs.lemmas.serialize.writing.LinkedNotes.{front_whole}
 use Rattle.hickory_wire.proofs.serialize.writing.compression_table.CompressionTable.note.Goals as goal
 
-pub invariant_of-self-in_default : goal.invariant_of-self-in_default
-invariant_of-self-in_default c =
-    let n : Note = record { suffix = c.args.suffix; place = c.args.place } in
+pub invariant_of-self-then-is_empty : goal.invariant_of-self-then-is_empty
+invariant_of-self-then-is_empty c =
+    let n : Note = record { suffix = c.args.suffix; place = c.args.place; before = 0 } in
     let notes = c.self.inside.notes.items in
+    let lasts = c.self.inside.lasts.items in
     let paired : pairs c.push.new.self.items ≡ pairs notes ++ pair n ∷ [] = ap pairs c.in_ok-push.ensures.items ∙ map-append pair notes (n ∷ []) in
     let fresh : first_place c.args.suffix.now (pairs notes) ≡ None = ap (λ ns. first_place c.args.suffix.now ns) (c.self.view_is ∙ c.make_room.ensures) ∙ c.requires.fresh in
-    subst (λ ns. IsTable ns c.self.inside.last_owner c.self.inside.is_hashed c.insert.new.self) (sym paired)
-    (IsTable-push (pairs notes) c.args.suffix.now c.args.place c.self.inside.last_owner c.self.inside.is_hashed c.self.inside.places c.insert.new.self c.self.invariant fresh c.requires.in_range
-    (λ _. Indexes-push c.self.inside.places c.insert.new.self c.args.suffix.now c.args.place (pairs notes) (c.self.invariant.indexed c.if-self.true) fresh c.in_default.ensures.updates))
+    let zero : length lasts ≡ 0 = search rules in
+    let none : lasts ≡ [] = nil_from_length lasts zero in
+    IsTable-push notes c.push.new.self.items c.self.inside.last_owner lasts lasts c.args.suffix.now c.args.place c.self.invariant paired fresh c.requires.in_range (λ ne. absurd (ne none))
 
-pub invariant_of-self-else-self : goal.invariant_of-self-else-self
-invariant_of-self-else-self c =
-    let n : Note = record { suffix = c.args.suffix; place = c.args.place } in
+pub invariant_of-self-2 : goal.invariant_of-self-2
+invariant_of-self-2 c =
     let notes = c.self.inside.notes.items in
-    let paired : pairs c.push.new.self.items ≡ pairs notes ++ pair n ∷ [] = ap pairs c.in_ok-push.ensures.items ∙ map-append pair notes (n ∷ []) in
+    let lasts = c.self.inside.lasts.items in
+    let pushed = c.push_linked.new.notes.items in
     let fresh : first_place c.args.suffix.now (pairs notes) ≡ None = ap (λ ns. first_place c.args.suffix.now ns) (c.self.view_is ∙ c.make_room.ensures) ∙ c.requires.fresh in
-    subst (λ ns. IsTable ns c.self.inside.last_owner c.self.inside.is_hashed c.self.inside.places) (sym paired)
-    (IsTable-push (pairs notes) c.args.suffix.now c.args.place c.self.inside.last_owner c.self.inside.is_hashed c.self.inside.places c.self.inside.places c.self.invariant fresh c.requires.in_range
-    (λ t. absurd (both_ways c.self.inside.is_hashed c.if-self.false t)))
+    let long : length c.push_linked.new.lasts ≡ c.self.inside.lasts.len = omega (arith, c.push_linked.auto.lasts, c.deref_mut.ensures.len) in
+    let back = front_whole c.self.inside.lasts.len c.push_linked.new.lasts (drop (length c.push_linked.new.lasts) lasts) long in
+    subst (λ ls. IsTable pushed c.self.inside.last_owner ls) (sym back)
+    (IsTable-push notes pushed c.self.inside.last_owner lasts c.push_linked.new.lasts c.args.suffix.now c.args.place c.self.invariant c.in_ok-push_linked.ensures.ok fresh c.requires.in_range (λ ne. c.push_linked.ensures.linked))

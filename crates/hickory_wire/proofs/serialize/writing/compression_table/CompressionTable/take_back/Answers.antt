@@ -1,24 +1,30 @@
-use Rattle.std.proofs.Common.{None, ◌≡◌, take, sym, subst, ap, ◌∙◌}
-use Rattle.std.proofs.lemmas.Bool.{both_ways}
-use Rattle.std.proofs.lemmas.List.{take-map}
-use Rattle.hickory_wire.specs.serialize.writing.NameTable.{pairs, Indexes, IsTable}
+use Rattle.std.proofs.Common.{rules, ◌≡◌, arith, [], None, ◌++◌, length, take, drop, sym, subst, ap, ◌∙◌}
+use Rattle.std.proofs.lemmas.List.{take-map, nil_from_length}
+use Rattle.hickory_wire.specs.serialize.writing.NameTable.{pairs, AreLinked, IsTable}
 use Rattle.hickory_wire.proofs.lemmas.serialize.writing.FirstPlaces.{pair, IsTable-take}
+use Rattle.hickory_wire.proofs.lemmas.serialize.writing.LinkedNotes.{front_whole}
 use Rattle.hickory_wire.proofs.serialize.writing.compression_table.CompressionTable.take_back.Goals as goal
 
 pub invariant_of-self : goal.invariant_of-self
 invariant_of-self c =
-    let e : pairs c.take_back_both.new.notes.items ≡ take c.args.mark (pairs c.self.inside.notes.items) = ap pairs c.take_back_both.ensures.notes ∙ sym (take-map pair c.args.mark c.self.inside.notes.items) in
-    subst (λ xs. IsTable xs None c.self.inside.is_hashed c.take_back_both.new.map) (sym e)
-    (IsTable-take c.args.mark (pairs c.self.inside.notes.items) c.self.inside.last_owner c.self.inside.is_hashed c.self.inside.places c.take_back_both.new.map c.self.invariant (λ _. subst (λ xs. Indexes c.take_back_both.new.map xs) e c.take_back_both.ensures.indexed))
+    let notes = c.self.inside.notes.items in
+    let lasts = c.self.inside.lasts.items in
+    let e : pairs c.truncate.new.self.items ≡ take c.args.mark (pairs notes) = ap pairs c.truncate.ensures.items ∙ sym (take-map pair c.args.mark notes) in
+    let zero : length lasts ≡ 0 = search rules in
+    let none : lasts ≡ [] = nil_from_length lasts zero in
+    IsTable-take notes c.truncate.new.self.items c.self.inside.last_owner lasts lasts c.args.mark c.self.invariant e (λ ne. absurd (ne none))
 
-pub invariant_of-self-else-self : goal.invariant_of-self-else-self
-invariant_of-self-else-self c =
-    let e : pairs c.truncate.new.self.items ≡ take c.args.mark (pairs c.self.inside.notes.items) = ap pairs c.truncate.ensures.items ∙ sym (take-map pair c.args.mark c.self.inside.notes.items) in
-    subst (λ xs. IsTable xs None c.self.inside.is_hashed c.self.inside.places) (sym e)
-    (IsTable-take c.args.mark (pairs c.self.inside.notes.items) c.self.inside.last_owner c.self.inside.is_hashed c.self.inside.places c.self.inside.places c.self.invariant (λ t. absurd (both_ways c.self.inside.is_hashed c.if-self.false t)))
+pub invariant_of-self-else-is_empty : goal.invariant_of-self-else-is_empty
+invariant_of-self-else-is_empty c =
+    let notes = c.self.inside.notes.items in
+    let e : pairs c.unlink.new.notes.items ≡ take c.args.mark (pairs notes) = ap pairs c.unlink.ensures.notes ∙ sym (take-map pair c.args.mark notes) in
+    let long : length c.unlink.new.lasts ≡ c.self.inside.lasts.len = omega (arith, c.unlink.auto.lasts, c.deref_mut.ensures.len) in
+    let back = front_whole c.self.inside.lasts.len c.unlink.new.lasts (drop (length c.unlink.new.lasts) c.self.inside.lasts.items) long in
+    subst (λ ls. IsTable c.unlink.new.notes.items None ls) (sym back)
+    (IsTable-take notes c.unlink.new.notes.items c.self.inside.last_owner c.self.inside.lasts.items c.unlink.new.lasts c.args.mark c.self.invariant e (λ ne. c.unlink.ensures.linked))
 
-pub returns-then-self : goal.returns-then-self
-returns-then-self c = ap pairs c.take_back_both.ensures.notes ∙ sym (take-map pair c.args.mark c.self.inside.notes.items) ∙ ap (λ xs. take c.args.mark xs) c.self.view_is
+pub returns-then-is_empty : goal.returns-then-is_empty
+returns-then-is_empty c = ap pairs c.truncate.ensures.items ∙ sym (take-map pair c.args.mark c.self.inside.notes.items) ∙ ap (λ xs. take c.args.mark xs) c.self.view_is
 
-pub returns-else-self : goal.returns-else-self
-returns-else-self c = ap pairs c.truncate.ensures.items ∙ sym (take-map pair c.args.mark c.self.inside.notes.items) ∙ ap (λ xs. take c.args.mark xs) c.self.view_is
+pub returns-else-is_empty : goal.returns-else-is_empty
+returns-else-is_empty c = ap pairs c.unlink.ensures.notes ∙ sym (take-map pair c.args.mark c.self.inside.notes.items) ∙ ap (λ xs. take c.args.mark xs) c.self.view_is
