@@ -154,7 +154,7 @@ impl<H: ZoneHandler> Zones<H> {
 fn answers_for(apex: &LowerName, name: &LowerName) -> bool
     ensures { IsTrue result ↔ ((apex.now.is_fqdn ≡ true) × Encloses apex.now.labels name.now.labels) }
 {
-    apex.as_name().is_fqdn() && apex.as_name().zone_of(name.as_name())
+    apex.as_name().is_fqdn() && apex.zone_of(name)
 }
 
 /// Takes labels off the front of a name, one at least, until it encloses the other name.
@@ -162,7 +162,7 @@ fn keep_shared_end(name: &mut LowerName, other: &LowerName)
     ensures { IsSharedEnd name.old other.now name.new }
 {
     name.remove_first_label();
-    while !name.as_name().zone_of(other.as_name()) {
+    while !name.zone_of(other) {
         name.remove_first_label();
     }
 }

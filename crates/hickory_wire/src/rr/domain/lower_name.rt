@@ -1,12 +1,12 @@
 //! Domain names in lower case.
 
-ghost use Rattle.std.specs.Prelude.{◌≡◌, IfOk, drop};
+ghost use Rattle.std.specs.Prelude.{◌≡◌, ◌↔◌, IfOk, IsTrue, drop};
 ghost use Rattle.std.specs.Ordering.{as_partial_cmp};
 ghost use Rattle.std.specs.Cmp.{eq_by_cmp_equiv, partial_equiv_from_equiv, partial_order_from_total};
 ghost use Rattle.std.specs.Cmp.Rules.{comparing};
 ghost use Rattle.std.proofs.Common.{rules};
 ghost use Rattle.hickory_wire.specs.rr.domain.DomainName.{DomainName};
-ghost use Rattle.hickory_wire.specs.rr.domain.NameOrder.{name_cmp, name_eq, name_cmp_total, lower_name, lower_labels};
+ghost use Rattle.hickory_wire.specs.rr.domain.NameOrder.{Encloses, name_cmp, name_eq, name_cmp_total, lower_name, lower_labels};
 ghost use Rattle.hickory_wire.specs.rr.domain.NameHash.{name_hash_input, name_hash_alike};
 
 use crate::rr::domain::name::Name;
@@ -57,6 +57,13 @@ impl LowerName {
         ensures lower { lower_labels self.now.labels ≡ self.now.labels }
     {
         &self.name
+    }
+
+    /// Whether it equals or encloses the other. Whether the two are fully qualified does not matter.
+    pub fn zone_of(&self, other: &LowerName) -> bool
+        ensures { IsTrue result ↔ Encloses self.now.labels other.now.labels }
+    {
+        other.key.as_slice().starts_with(self.key.as_slice())
     }
 
     /// Takes the first label off, so that the name above is left. A name without labels stays. It takes no memory.
