@@ -6,11 +6,11 @@ ghost use Rattle.std.specs.Cmp.{eq_by_cmp_equiv, partial_equiv_from_equiv, parti
 ghost use Rattle.std.specs.Cmp.Rules.{comparing};
 ghost use Rattle.std.proofs.Common.{rules};
 ghost use Rattle.hickory_wire.specs.rr.domain.DomainName.{DomainName};
-ghost use Rattle.hickory_wire.specs.rr.domain.NameOrder.{Encloses, name_cmp, name_eq, name_cmp_total, lower_name, lower_labels};
+ghost use Rattle.hickory_wire.specs.rr.domain.NameOrder.{Encloses, IsSharedEnd, name_cmp, name_eq, name_cmp_total, lower_name, lower_labels};
 ghost use Rattle.hickory_wire.specs.rr.domain.NameHash.{name_hash_input, name_hash_alike};
 
 use crate::rr::domain::name::Name;
-use crate::rr::domain::order_key::{escaped_len, make_order_key};
+use crate::rr::domain::order_key::{escaped_len, make_order_key, shared_len, wire_len};
 use crate::rr::domain::wire::Wire;
 use std::alloc::{AllocError, Global};
 use std::cmp::Ordering;
@@ -78,6 +78,16 @@ impl LowerName {
         let rest = self.key.as_slice().len() - escaped_len(&wire[1..end]) - 1;
         self.key.truncate(rest);
         self.name.remove_first_label();
+    }
+
+    /// Takes labels off the front, one at least, until it encloses the other name. A name without labels stays. It takes no
+    /// memory.
+    pub fn keep_shared_end(&mut self, other: &LowerName)
+        ensures { IsSharedEnd self.old other.now self.new }
+    {
+        let shared = shared_len(self.key.as_slice(), other.key.as_slice());
+        self.key.truncate(shared);
+        self.name.keep_last(wire_len(self.key.as_slice()));
     }
 }
 

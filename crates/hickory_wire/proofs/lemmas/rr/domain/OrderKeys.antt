@@ -105,9 +105,13 @@ keys_append : (xs ys : List (List ℕ)) → key_of_labels (xs ++ ys) ≡ key_of_
 keys_append [] ys = refl
 keys_append (x ∷ xs) ys = ap (λ r. escaped x ++ 0 ∷ r) (keys_append xs ys) ∙ sym (append_assoc (escaped x) (0 ∷ key_of_labels xs) (key_of_labels ys))
 
+-- the labels at the end of a name stand first in its key
+pub key_split : (xs ys : List (List ℕ)) → order_key (xs ++ ys) ≡ order_key ys ++ order_key xs
+key_split xs ys = ap key_of_labels (reverse-append xs ys) ∙ keys_append (reverse ys) (reverse xs)
+
 -- the first label of a name stands last in its key
 pub first_last : (l : List ℕ) (ls : List (List ℕ)) → order_key (l ∷ ls) ≡ order_key ls ++ (escaped l ++ 0 ∷ [])
-first_last l ls = ap key_of_labels (reverse-append (l ∷ []) ls) ∙ keys_append (reverse ls) (l ∷ [])
+first_last l ls = key_split (l ∷ []) ls
 
 -- what is left of a key where the first label of its name is taken off
 pub record FirstOff (ls : List (List ℕ)) (key : List ℕ) (count : ℕ) : Type 0 where
@@ -162,19 +166,27 @@ starts_exactly xs ys h = sym (take-append-drop (length xs) ys) ∙ ap (λ zs. zs
 starts_with_front : (xs more : List ℕ) → pointwise nat_eq xs (take (length xs) (xs ++ more)) ≡ true
 starts_with_front xs more = (bytes_decides xs (take (length xs) (xs ++ more))).1 (sym (take-append-le (length xs) xs more (omega arith) ∙ take-length xs))
 
--- a key starts with that of a name above
+-- a name encloses another whose key starts with its own
+pub encloses_by_key : (own other : List (List ℕ)) (rest : List ℕ) → lower_labels own ≡ own → lower_labels other ≡ other → order_key other ≡ order_key own ++ rest → Encloses own other
+encloses_by_key own other rest p q e =
+    let more = key_starts (reverse own) (reverse other) rest e in
+    record {
+      front = reverse more.0;
+      ends = q ∙ sym (reverse-reverse other) ∙ ap reverse more.1 ∙ reverse-append (reverse own) more.0 ∙ ap (λ ls. reverse more.0 ++ ls) (reverse-reverse own ∙ sym p);
+    }
+
+-- and the key of another that it encloses starts so
+pub key_of_enclosed : (own other : List (List ℕ)) → lower_labels own ≡ own → lower_labels other ≡ other → (h : Encloses own other) → order_key other ≡ order_key own ++ order_key h.front
+key_of_enclosed own other p q h = ap order_key (sym q ∙ h.ends ∙ ap (λ ls. h.front ++ ls) p) ∙ key_split h.front own
+
+-- so whether one encloses the other is told by their keys
 pub key_encloses : (own other : List (List ℕ)) (key all : List ℕ) (b : Bool) → lower_labels own ≡ own → lower_labels other ≡ other → key ≡ order_key own → all ≡ order_key other → b ≡ starts_with nat_eq all key
     → IsTrue b ↔ Encloses own other
 key_encloses own other key all b p q k a e = (
   λ (h : IsTrue b).
       let is : all ≡ key ++ drop (length key) all = starts_exactly key all (sym e ∙ h) in
-      let r = key_starts (reverse own) (reverse other) (drop (length key) all) (sym a ∙ is ∙ ap (λ xs. xs ++ drop (length key) all) k) in
-      record {
-        front = reverse r.0;
-        ends = q ∙ sym (reverse-reverse other) ∙ ap reverse r.1 ∙ reverse-append (reverse own) r.0 ∙ ap (λ ls. reverse r.0 ++ ls) (reverse-reverse own ∙ sym p);
-      },
+      encloses_by_key own other (drop (length key) all) p q (sym a ∙ is ∙ ap (λ xs. xs ++ drop (length key) all) k),
   λ (h : Encloses own other).
-      let is : all ≡ key ++ key_of_labels (reverse h.front) =
-      a ∙ ap order_key (sym q ∙ h.ends ∙ ap (λ ls. h.front ++ ls) p) ∙ ap key_of_labels (reverse-append h.front own) ∙ keys_append (reverse own) (reverse h.front) ∙ ap (λ xs. xs ++ key_of_labels (reverse h.front)) (sym k) in
-      e ∙ ap (λ xs. starts_with nat_eq xs key) is ∙ starts_with_front key (key_of_labels (reverse h.front)),
+      let is : all ≡ key ++ order_key h.front = a ∙ key_of_enclosed own other p q h ∙ ap (λ xs. xs ++ order_key h.front) (sym k) in
+      e ∙ ap (λ xs. starts_with nat_eq xs key) is ∙ starts_with_front key (order_key h.front),
 )

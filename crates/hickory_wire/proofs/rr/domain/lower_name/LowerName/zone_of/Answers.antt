@@ -1,7 +1,5 @@
-use Rattle.std.proofs.Common.{◌↔◌, ◌∙◌, ap, subst}
+use Rattle.std.proofs.Common.{◌↔◌, ◌∙◌, subst}
 use Rattle.std.specs.Bool.{IsTrue}
-use Rattle.std.specs.Prelude.{nat_eq}
-use Rattle.std.specs.List.{starts_with}
 use Rattle.hickory_wire.specs.rr.domain.DomainName.{DomainName}
 use Rattle.hickory_wire.specs.rr.domain.NameOrder.{Encloses}
 use Rattle.hickory_wire.proofs.lemmas.rr.domain.OrderKeys.{key_encloses}
