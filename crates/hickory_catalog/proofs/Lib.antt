@@ -17,7 +17,6 @@ pub mod RepliesFit
 pub mod Runs
 pub mod SentInOrder
 pub mod SentReplies
-pub mod SharedEnds
 pub mod TransferReplies
 pub mod Transferring
 pub mod Updating

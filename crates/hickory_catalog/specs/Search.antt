@@ -1,6 +1,6 @@
 -- How the zone of a name is searched for. In the order of names all that a name encloses stands together, right behind it
 -- (RFC 4034, section 6.1). So the last zone up to a name answers for it, or stands beside it: then only zones above both may.
-use Rattle.std.specs.Prelude.{◌≡◌, ℕ, ◌<◌, List, length, drop, Option, Some, None}
+use Rattle.std.specs.Prelude.{◌<◌, List, length, Option, Some, None}
 use Rattle.std.specs.List.{All, Contains}
 use Rattle.std.specs.BTreeMap.Range.{IsLeBy}
 use Rattle.hickory_wire.specs.rr.domain.DomainName.{DomainName}
@@ -21,11 +21,3 @@ LastUpTo zones name (Some zone) = IsLastUpTo zones name zone
 -- Each zone that may answer for the name has fewer labels than it, and encloses the other name as well.
 abbrev pub AnswerFromAbove : {V : Type 0} → List (DomainName × V) → DomainName → DomainName → Type 0
 AnswerFromAbove zones name other = All (λ zone. MayAnswer zone.0 name → (length zone.0.labels < length name.labels) × Encloses zone.0.labels other.labels) zones
-
--- The end is what is left of the name where labels are taken off its front, one at least, until it encloses the other name.
-pub record IsSharedEnd (name other end : DomainName) : Type 0 where
-  pub count : ℕ
-  pub some : 0 < count
-  pub ends : end ≡ record name { labels = drop count name.labels }
-  pub encloses : Encloses end.labels other.labels
-  pub longest : (k : ℕ) → 0 < k → k < count → ¬ (Encloses (drop k name.labels) other.labels)

@@ -5,7 +5,7 @@ ghost use Rattle.hickory_wire.specs.rr.domain.NameOrder.{Encloses};
 ghost use Rattle.hickory_catalog.specs.Zones.{AreInOrder, HasZone, ChangesAt};
 ghost use Rattle.hickory_catalog.specs.Updates.{ZoneUpdated};
 ghost use Rattle.hickory_catalog.specs.Find.{Finds, OneAnswers, CaseDoesNotMatter};
-ghost use Rattle.hickory_catalog.specs.Search.{AnswerFromAbove, IsSharedEnd, LastUpTo};
+ghost use Rattle.hickory_catalog.specs.Search.{AnswerFromAbove, LastUpTo};
 
 use crate::updates::{ZoneUpdate, update_chain};
 use hickory_base::server::Request;
@@ -108,7 +108,7 @@ impl<H: Drop> Zones<H> {
         let mut ancestor = name.clone()?;
         let mut beside = other;
         while !ancestor.as_name().is_root() {
-            keep_shared_end(&mut ancestor, beside);
+            ancestor.keep_shared_end(beside);
             let Some((apex, chain)) = self.last_up_to(&ancestor) else {
                 return Ok(None);
             };
@@ -154,17 +154,7 @@ impl<H: ZoneHandler> Zones<H> {
 fn answers_for(apex: &LowerName, name: &LowerName) -> bool
     ensures { IsTrue result ↔ ((apex.now.is_fqdn ≡ true) × Encloses apex.now.labels name.now.labels) }
 {
-    apex.as_name().is_fqdn() && apex.as_name().zone_of(name.as_name())
-}
-
-/// Takes labels off the front of a name, one at least, until it encloses the other name.
-fn keep_shared_end(name: &mut LowerName, other: &LowerName)
-    ensures { IsSharedEnd name.old other.now name.new }
-{
-    name.remove_first_label();
-    while !name.as_name().zone_of(other.as_name()) {
-        name.remove_first_label();
-    }
+    apex.as_name().is_fqdn() && apex.zone_of(name)
 }
 
 /// What is found is one, and does not depend on letter case.

@@ -5,5 +5,6 @@ pub mod LabelOrder
 pub mod NameSpelling
 pub mod OrderKeys
 pub mod SameNames
+pub mod SharedEnds
 pub mod TextForm
 pub mod WireForm

@@ -1,5 +1,5 @@
 -- How names are compared: without regard to the case of ASCII letters (RFC 1035, section 2.3.3; RFC 4343, section 3).
-use Rattle.std.specs.Prelude.{◌≡◌, ℕ, nat_eq, Bool, false, ◌-◌, if◌then◌else◌, List, [], ◌∷◌, ◌++◌, length, map, reverse}
+use Rattle.std.specs.Prelude.{◌≡◌, ℕ, nat_eq, Bool, false, ◌-◌, ◌<◌, if◌then◌else◌, List, [], ◌∷◌, ◌++◌, length, drop, map, reverse}
 use Rattle.std.specs.declared.cmp.Ordering.{Ordering}
 use Rattle.std.specs.Ordering.{nat_cmp, bool_cmp, on, then_cmp, eq_by_cmp}
 use Rattle.std.specs.Cmp.{IsTotalOrder, then_total, on_total, bool_cmp_total}
@@ -27,6 +27,14 @@ pub record SameName (a b : DomainName) : Type 0 where
 pub record Encloses (ns ms : List (List ℕ)) : Type 0 where
   pub front : List (List ℕ)
   pub ends : lower_labels ms ≡ front ++ lower_labels ns
+
+-- The end is what is left of the name where labels are taken off its front, one at least, until it encloses the other name.
+pub record IsSharedEnd (name other end : DomainName) : Type 0 where
+  pub count : ℕ
+  pub some : 0 < count
+  pub ends : end ≡ record name { labels = drop count name.labels }
+  pub encloses : Encloses end.labels other.labels
+  pub longest : (k : ℕ) → 0 < k → k < count → ¬ (Encloses (drop k name.labels) other.labels)
 
 -- labels in lower case, as bytes
 abbrev pub label_cmp : List ℕ → List ℕ → Ordering

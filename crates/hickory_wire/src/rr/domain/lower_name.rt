@@ -1,16 +1,16 @@
 //! Domain names in lower case.
 
-ghost use Rattle.std.specs.Prelude.{◌≡◌, IfOk, drop};
+ghost use Rattle.std.specs.Prelude.{◌≡◌, ◌↔◌, IfOk, IsTrue, drop};
 ghost use Rattle.std.specs.Ordering.{as_partial_cmp};
 ghost use Rattle.std.specs.Cmp.{eq_by_cmp_equiv, partial_equiv_from_equiv, partial_order_from_total};
 ghost use Rattle.std.specs.Cmp.Rules.{comparing};
 ghost use Rattle.std.proofs.Common.{rules};
 ghost use Rattle.hickory_wire.specs.rr.domain.DomainName.{DomainName};
-ghost use Rattle.hickory_wire.specs.rr.domain.NameOrder.{name_cmp, name_eq, name_cmp_total, lower_name, lower_labels};
+ghost use Rattle.hickory_wire.specs.rr.domain.NameOrder.{Encloses, IsSharedEnd, name_cmp, name_eq, name_cmp_total, lower_name, lower_labels};
 ghost use Rattle.hickory_wire.specs.rr.domain.NameHash.{name_hash_input, name_hash_alike};
 
 use crate::rr::domain::name::Name;
-use crate::rr::domain::order_key::{escaped_len, make_order_key};
+use crate::rr::domain::order_key::{escaped_len, make_order_key, shared_len, wire_len};
 use crate::rr::domain::wire::Wire;
 use std::alloc::{AllocError, Global};
 use std::cmp::Ordering;
@@ -59,6 +59,13 @@ impl LowerName {
         &self.name
     }
 
+    /// Whether it equals or encloses the other. Whether the two are fully qualified does not matter.
+    pub fn zone_of(&self, other: &LowerName) -> bool
+        ensures { IsTrue result ↔ Encloses self.now.labels other.now.labels }
+    {
+        other.key.as_slice().starts_with(self.key.as_slice())
+    }
+
     /// Takes the first label off, so that the name above is left. A name without labels stays. It takes no memory.
     pub fn remove_first_label(&mut self)
         ensures { self.new ≡ record self.old { labels = drop 1 self.old.labels } }
@@ -71,6 +78,16 @@ impl LowerName {
         let rest = self.key.as_slice().len() - escaped_len(&wire[1..end]) - 1;
         self.key.truncate(rest);
         self.name.remove_first_label();
+    }
+
+    /// Takes labels off the front, one at least, until it encloses the other name. A name without labels stays. It takes no
+    /// memory.
+    pub fn keep_shared_end(&mut self, other: &LowerName)
+        ensures { IsSharedEnd self.old other.now self.new }
+    {
+        let shared = shared_len(self.key.as_slice(), other.key.as_slice());
+        self.key.truncate(shared);
+        self.name.keep_last(wire_len(self.key.as_slice()));
     }
 }
 

@@ -1,6 +1,6 @@
 //! Domain names.
 
-ghost use Rattle.std.specs.Prelude.{◌≡◌, ◌↔◌, [], length, drop, IfOk, true, IsTrue};
+ghost use Rattle.std.specs.Prelude.{◌≡◌, ◌↔◌, ℕ, [], length, drop, IfOk, true, IsTrue};
 ghost use Rattle.std.specs.Ordering.{eq_by_cmp, as_partial_cmp};
 ghost use Rattle.std.specs.Cmp.{eq_by_cmp_equiv, partial_equiv_from_equiv, partial_order_from_total};
 ghost use Rattle.std.specs.Cmp.Rules.{comparing};
@@ -103,6 +103,15 @@ impl Name {
         }
         let label = 1 + usize::from(bytes[0]);
         self.wire.remove_front(label);
+    }
+
+    /// Leaves the last labels alone that take so many bytes in wire form.
+    pub(crate) fn keep_last(&mut self, len: usize)
+        requires { (n : ℕ) × (len ≡ length (wire_form (drop n self.old.labels))) }
+        ensures { (n : ℕ) → len ≡ length (wire_form (drop n self.old.labels)) → self.new ≡ record self.old { labels = drop n self.old.labels } }
+    {
+        let front = self.wire.as_slice().len() - len;
+        self.wire.remove_front(front);
     }
 
     fn label_count(&self) -> usize

@@ -1,9 +1,9 @@
 //! Names in a form that is compared byte by byte.
 
-ghost use Rattle.std.specs.Prelude.{◌≡◌, ◌+◌, ◌*◌, ◌<◌, ◌≤◌, ◌∷◌, ◌++◌, length, drop, IfOk};
-ghost use Rattle.hickory_wire.specs.rr.domain.DomainName.{IsWire, cut};
+ghost use Rattle.std.specs.Prelude.{◌≡◌, ℕ, ◌+◌, ◌*◌, ◌<◌, ◌≤◌, List, ◌∷◌, ◌++◌, length, drop, IfOk};
+ghost use Rattle.hickory_wire.specs.rr.domain.DomainName.{IsWire, cut, wire_form};
 ghost use Rattle.hickory_wire.specs.rr.domain.NameBytes.{wire_bytes};
-ghost use Rattle.hickory_wire.specs.rr.domain.OrderKey.{escaped, order_key};
+ghost use Rattle.hickory_wire.specs.rr.domain.OrderKey.{IsSharedFront, escaped, order_key};
 
 use crate::rr::domain::wire::Wire;
 use std::alloc::{AllocError, Global};
@@ -51,6 +51,36 @@ pub(crate) fn escaped_len(label: &[u8]) -> usize
         }
     }
     count
+}
+
+/// How many bytes at the front of a key are of whole labels that the other key begins with too: of as many labels as do,
+/// but not of all that the key has.
+pub(crate) fn shared_len(key: &[u8], other: &[u8]) -> usize
+    ensures { IsSharedFront key.now other.now result }
+{
+    let mut shared = 0;
+    let mut place = 0;
+    while place + 1 < key.len() && place < other.len() && key[place] == other[place] {
+        if key[place] == 0 {
+            shared = place + 1;
+        }
+        place += 1;
+    }
+    shared
+}
+
+/// How many bytes the labels with this key take in wire form.
+pub(crate) fn wire_len(key: &[u8]) -> usize
+    ensures { (labels : List (List ℕ)) → key.now ≡ order_key labels → result ≡ length (wire_form labels) }
+{
+    let mut len = 0;
+    let mut place = 0;
+    while place < key.len() {
+        // The byte 1 stands for one byte with the byte behind it.
+        place += if key[place] == 1 { 2 } else { 1 };
+        len += 1;
+    }
+    len
 }
 
 /// The key of the name whose labels these are. Keys compare as the labels of the names do, from the last one on.

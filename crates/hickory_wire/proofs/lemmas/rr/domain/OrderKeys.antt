@@ -1,18 +1,23 @@
 -- Order keys compare as the labels that they are made of.
-use Rattle.std.proofs.Common.{◌≡◌, ℕ, zero, suc, ◌+◌, ◌-◌, ◌*◌, ◌<◌, ◌≤◌, List, [], ◌∷◌, ◌++◌, length, map, take, drop, get_or, reverse, append_assoc, length-append, refl, sym, ap, ◌∙◌, arith}
+use Rattle.std.proofs.Common.{◌≡◌, ◌↔◌, ℕ, Bool, true, zero, suc, ◌+◌, ◌-◌, ◌*◌, ◌<◌, ◌≤◌, List, [], ◌∷◌, ◌++◌, length, map, take, drop, get_or, reverse, append_assoc, length-append, refl, sym, ap, ◌∙◌, arith}
 use Rattle.std.specs.declared.cmp.Ordering.{Ordering}
 use Rattle.std.specs.declared.cmp.Ordering.TheVariants.{Less, Equal, Greater}
 use Rattle.std.specs.Ordering.{nat_cmp, ordering_then}
-use Rattle.std.specs.Cmp.Lexicographic.{slice_cmp}
-use Rattle.std.proofs.lemmas.List.{reverse-append, take-append-le}
+use Rattle.std.specs.Bool.{IsTrue}
+use Rattle.std.specs.Prelude.{nat_eq}
+use Rattle.std.specs.List.{starts_with}
+use Rattle.std.specs.Cmp.Lexicographic.{slice_cmp, nat_list_cmp_total, pointwise, bytes_decides}
+use Rattle.std.proofs.lemmas.Map.Lookups.{exact_bytes}
+use Rattle.std.proofs.lemmas.List.{reverse-append, reverse-reverse, take-append-le, take-append-drop}
 use Rattle.std.proofs.Math.Seq.{take-length}
 use Rattle.std.specs.Cmp.Derive.Mapped.{lex_map}
 use Rattle.std.proofs.lemmas.Grind.{common_steps}
 use Rattle.hickory_wire.specs.rr.domain.DomainName.{label_offset, wire_form}
-use Rattle.hickory_wire.specs.rr.domain.NameOrder.{lower_label, lower_labels, label_cmp}
-use Rattle.hickory_wire.specs.rr.domain.NameHash.{map-reverse}
+use Rattle.hickory_wire.specs.rr.domain.NameOrder.{Encloses, lower_label, lower_labels, label_cmp}
+use Rattle.hickory_wire.specs.rr.domain.NameHash.{map-reverse, then-equal}
 use Rattle.hickory_wire.specs.rr.domain.OrderKey.{escaped, key_of_labels, order_key}
 use Rattle.hickory_wire.proofs.lemmas.rr.domain.LabelOrder.{last}
+use Rattle.hickory_wire.proofs.lemmas.rr.domain.SameNames.{same_cmp}
 
 pub escaped_low : (b : ℕ) (bs : List ℕ) → b < 2 → escaped (b ∷ bs) ≡ 1 ∷ (b + 1) ∷ escaped bs
 escaped_low zero bs h = refl
@@ -100,9 +105,13 @@ keys_append : (xs ys : List (List ℕ)) → key_of_labels (xs ++ ys) ≡ key_of_
 keys_append [] ys = refl
 keys_append (x ∷ xs) ys = ap (λ r. escaped x ++ 0 ∷ r) (keys_append xs ys) ∙ sym (append_assoc (escaped x) (0 ∷ key_of_labels xs) (key_of_labels ys))
 
+-- the labels at the end of a name stand first in its key
+pub key_split : (xs ys : List (List ℕ)) → order_key (xs ++ ys) ≡ order_key ys ++ order_key xs
+key_split xs ys = ap key_of_labels (reverse-append xs ys) ∙ keys_append (reverse ys) (reverse xs)
+
 -- the first label of a name stands last in its key
 pub first_last : (l : List ℕ) (ls : List (List ℕ)) → order_key (l ∷ ls) ≡ order_key ls ++ (escaped l ++ 0 ∷ [])
-first_last l ls = ap key_of_labels (reverse-append (l ∷ []) ls) ∙ keys_append (reverse ls) (l ∷ [])
+first_last l ls = key_split (l ∷ []) ls
 
 -- what is left of a key where the first label of its name is taken off
 pub record FirstOff (ls : List (List ℕ)) (key : List ℕ) (count : ℕ) : Type 0 where
@@ -133,3 +142,51 @@ keys_of_names a b p q =
     ∙ ap (λ ls. slice_cmp (slice_cmp nat_cmp) ls (reverse b)) own
     ∙ ap (slice_cmp (slice_cmp nat_cmp) (map lower_label (reverse a))) other
     ∙ lex_map lower_label (slice_cmp nat_cmp) (reverse a) (reverse b)
+
+-- a label in a key ends at its byte 0
+label_split : (x y r s : List ℕ) → escaped y ++ 0 ∷ s ≡ escaped x ++ 0 ∷ r → (y ≡ x) × (s ≡ r)
+label_split x y r s e =
+    let tied : ordering_then (slice_cmp nat_cmp y x) (slice_cmp nat_cmp s r) ≡ Equal =
+    sym (label_then y x s r) ∙ ap (λ zs. slice_cmp nat_cmp zs (escaped x ++ 0 ∷ r)) e ∙ same_cmp nat_list_cmp_total (escaped x ++ 0 ∷ r) in
+    let t = then-equal (slice_cmp nat_cmp y x) (slice_cmp nat_cmp s r) tied in
+    (exact_bytes y x t.0, exact_bytes s r t.1)
+
+-- a key that starts with another one is of labels that start with those of the other
+key_starts : (xs ys : List (List ℕ)) (rest : List ℕ) → key_of_labels ys ≡ key_of_labels xs ++ rest → (more : List (List ℕ)) × (ys ≡ xs ++ more)
+key_starts [] ys rest e = (ys, refl)
+key_starts (x ∷ xs) [] rest e = absurd (omega (arith, ap length e, length-append (escaped x ++ 0 ∷ key_of_labels xs) rest, length-append (escaped x) (0 ∷ key_of_labels xs)))
+key_starts (x ∷ xs) (y ∷ ys) rest e =
+    let split = label_split x y (key_of_labels xs ++ rest) (key_of_labels ys) (e ∙ append_assoc (escaped x) (0 ∷ key_of_labels xs) rest) in
+    let more = key_starts xs ys rest split.1 in
+    (more.0, ap (λ l. l ∷ ys) split.0 ∙ ap (λ ls. x ∷ ls) more.1)
+
+starts_exactly : (xs ys : List ℕ) → pointwise nat_eq xs (take (length xs) ys) ≡ true → ys ≡ xs ++ drop (length xs) ys
+starts_exactly xs ys h = sym (take-append-drop (length xs) ys) ∙ ap (λ zs. zs ++ drop (length xs) ys) (sym ((bytes_decides xs (take (length xs) ys)).0 h))
+
+starts_with_front : (xs more : List ℕ) → pointwise nat_eq xs (take (length xs) (xs ++ more)) ≡ true
+starts_with_front xs more = (bytes_decides xs (take (length xs) (xs ++ more))).1 (sym (take-append-le (length xs) xs more (omega arith) ∙ take-length xs))
+
+-- a name encloses another whose key starts with its own
+pub encloses_by_key : (own other : List (List ℕ)) (rest : List ℕ) → lower_labels own ≡ own → lower_labels other ≡ other → order_key other ≡ order_key own ++ rest → Encloses own other
+encloses_by_key own other rest p q e =
+    let more = key_starts (reverse own) (reverse other) rest e in
+    record {
+      front = reverse more.0;
+      ends = q ∙ sym (reverse-reverse other) ∙ ap reverse more.1 ∙ reverse-append (reverse own) more.0 ∙ ap (λ ls. reverse more.0 ++ ls) (reverse-reverse own ∙ sym p);
+    }
+
+-- and the key of another that it encloses starts so
+pub key_of_enclosed : (own other : List (List ℕ)) → lower_labels own ≡ own → lower_labels other ≡ other → (h : Encloses own other) → order_key other ≡ order_key own ++ order_key h.front
+key_of_enclosed own other p q h = ap order_key (sym q ∙ h.ends ∙ ap (λ ls. h.front ++ ls) p) ∙ key_split h.front own
+
+-- so whether one encloses the other is told by their keys
+pub key_encloses : (own other : List (List ℕ)) (key all : List ℕ) (b : Bool) → lower_labels own ≡ own → lower_labels other ≡ other → key ≡ order_key own → all ≡ order_key other → b ≡ starts_with nat_eq all key
+    → IsTrue b ↔ Encloses own other
+key_encloses own other key all b p q k a e = (
+  λ (h : IsTrue b).
+      let is : all ≡ key ++ drop (length key) all = starts_exactly key all (sym e ∙ h) in
+      encloses_by_key own other (drop (length key) all) p q (sym a ∙ is ∙ ap (λ xs. xs ++ drop (length key) all) k),
+  λ (h : Encloses own other).
+      let is : all ≡ key ++ order_key h.front = a ∙ key_of_enclosed own other p q h ∙ ap (λ xs. xs ++ order_key h.front) (sym k) in
+      e ∙ ap (λ xs. starts_with nat_eq xs key) is ∙ starts_with_front key (order_key h.front),
+)
