@@ -98,12 +98,16 @@ impl Address {
         self.bits.checked_shr(dropped).unwrap_or(0)
     }
 
-    /// Whether the bit at this index is one; which is so of an index behind the last bit where it is of the last bit.
+    /// Whether the bit at this index is one. Behind the last bit the first comes again, so a walk down a trie needs no
+    /// test of its own for a prefix of all bits, below which nothing stands.
     fn bit(self, index: u8) -> bool
-        ensures { IsTrue result ↔ (first_bits self (index + 1) % 2 ≡ 1) }
+        ensures { IsTrue result ↔ (first_bits self (index % width self.family + 1) % 2 ≡ 1) }
     {
-        let behind = self.family.width().saturating_sub(index).saturating_sub(1);
-        self.bits >> behind & 1 == 1
+        match self.family {
+            // A processor tests a bit of 32 in one step; to shift 128 takes it several.
+            Family::Ipv4 => (self.bits & 0xffff_ffff) as u32 >> (31 - index % 32) & 1 == 1,
+            Family::Ipv6 => self.bits >> (127 - index % 128) & 1 == 1,
+        }
     }
 
     /// The prefix of this length, a number of so many bits.

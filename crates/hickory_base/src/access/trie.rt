@@ -123,6 +123,8 @@ impl Trie {
     }
 
     /// The greatest prefix length of the networks that match the address.
+    // Its callers know the family of the address, so that in their code the tests of it fall away.
+    #[inline]
     pub(super) fn longest_match(&self, address: Address) -> Option<u8>
         ensures { IsLongestMatch self.now address result }
     {

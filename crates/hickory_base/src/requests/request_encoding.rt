@@ -28,9 +28,9 @@ fn question_bytes(alloc: Global, queries: &[LowerQuery]) -> Result<Vec<u8>, Allo
 }
 
 impl MessageRequest {
-    /// Writes the message: header, questions, and five lists of records, each cut where the next record in full passes
-    /// the encoder's limit (RFC 1035 sections 4.1.1 and 4.2.1). Each question is written anew from its query, with its
-    /// name in lower case.
+    /// Writes the message: header, questions, and five lists of records, each cut only before a record that in full
+    /// passes the encoder's limit (RFC 1035 sections 4.1.1 and 4.2.1). Each question is written anew from its query,
+    /// with its name in lower case.
     ///
     /// The encoder must be empty. The answer is the header as it was written: TC is set where a list was cut, and the
     /// counts are of what was written. `MaxSizeExceeded` says that header and questions pass the limit,

@@ -125,8 +125,8 @@ where
     S: Iterator<Item = &'a Record> + Drop,
     D: Iterator<Item = &'a Record> + Drop,
 {
-    /// Writes the reply: header, the questions as they were sent, and five lists of records, each cut where the next
-    /// record in full passes the encoder's limit (RFC 1035 sections 4.1.1 and 4.2.1).
+    /// Writes the reply: header, the questions as they were sent, and five lists of records, each cut only before a
+    /// record that in full passes the encoder's limit (RFC 1035 sections 4.1.1 and 4.2.1).
     ///
     /// The encoder must be empty. TC is set where a list was cut, and the counts are of what was written.
     /// `MaxSizeExceeded` says that header and questions pass the limit, `CharacterDataTooLong` and `DataTooLong` that a

@@ -1,10 +1,25 @@
 -- Networks in one another and in halves of one another, and the addresses that match them.
-use Rattle.std.proofs.Common.{◌≡◌, ℕ, zero, suc, ◌+◌, ◌-◌, ◌*◌, ◌/◌, ◌%◌, ◌^◌, ◌<◌, ◌≤◌, refl, sym, ap, ◌∙◌, subst, arith}
-use Rattle.std.proofs.lemmas.Nat.{shr-shr}
+use Rattle.std.proofs.Common.{◌≡◌, ℕ, zero, suc, ◌+◌, ◌-◌, ◌*◌, ◌/◌, ◌%◌, ◌^◌, ◌<◌, ◌≤◌, refl, sym, ap, ◌∙◌, subst, arith, bit_and}
+use Rattle.std.proofs.Math.Nat.{div-eq_of_lt, mod-eq_of_lt, mod-lt, mul-add-div_right}
+use Rattle.std.proofs.Math.Pow.{mod-mod-pow}
+use Rattle.std.proofs.lemmas.Nat.{shr-shr, mod-pow-add, pow_pos, and_mask}
 use Rattle.hickory_base.proofs.lemmas.access.NetworkText.{first_bits_fit}
 use Rattle.hickory_base.specs.declared.access.Address.{Address}
 use Rattle.hickory_base.specs.Access.{Network, Matches, width, first_bits}
 use Rattle.hickory_base.specs.Prefixes.{LiesIn, half, IsCommon}
+
+-- a bit of the low 32 bits is that bit of the whole number
+low_word : (n k : ℕ) → k < 32 → n % 2 ^ 32 / 2 ^ k % 2 ≡ n / 2 ^ k % 2
+low_word n k h =
+    let sum : ((31 - k) + 1) + k ≡ 32 = omega arith in
+    let whole : n % 2 ^ 32 ≡ n / 2 ^ k % 2 ^ ((31 - k) + 1) * 2 ^ k + n % 2 ^ k = ap (λ w. n % 2 ^ w) (sym sum) ∙ mod-pow-add n ((31 - k) + 1) k in
+    let rest : n % 2 ^ k / 2 ^ k ≡ 0 = div-eq_of_lt (mod-lt n (pow_pos k)) in
+    let quotient : n % 2 ^ 32 / 2 ^ k ≡ n / 2 ^ k % 2 ^ ((31 - k) + 1) + n % 2 ^ k / 2 ^ k = ap (λ m. m / 2 ^ k) whole ∙ mul-add-div_right (pow_pos k) _ _ in
+    let low : n % 2 ^ 32 / 2 ^ k ≡ n / 2 ^ k % 2 ^ ((31 - k) + 1) = omega (arith, quotient, rest) in
+    ap (λ m. m % 2) low ∙ mod-mod-pow (n / 2 ^ k) (31 - k) 1
+
+pub low_word_bit : (n k : ℕ) → k < 32 → bit_and (bit_and n 4294967295 / 2 ^ k) 1 ≡ n / 2 ^ k % 2
+low_word_bit n k h = and_mask _ 1 ∙ ap (λ m. m / 2 ^ k % 2) (and_mask n 32) ∙ low_word n k h
 
 -- the first bits of the first bits
 first_of_first : (bits width long short : ℕ) → short ≤ long → long ≤ width → bits / 2 ^ (width - long) / 2 ^ (long - short) ≡ bits / 2 ^ (width - short)
@@ -86,12 +101,14 @@ Matches-outer address inner outer lies matches =
           ∙ first_of_first address.bits (width address.family) inner.prefix_length outer.prefix_length lies.longer fits;
     }
 
--- the bit of an address that matches a network in one half
+-- the bit of an address that matches a network in one half, at an index that lies in the address therefore
 pub matched_bit : (address : Address) (inner outer : Network) (bit : ℕ) → bit < 2 → LiesIn inner (half outer bit) → Matches address inner
-    → first_bits address (outer.prefix_length + 1) % 2 ≡ bit
+    → first_bits address (outer.prefix_length % width address.family + 1) % 2 ≡ bit
 matched_bit address inner outer bit small lies matches =
     let begins = (Matches-outer address inner (half outer bit) lies matches).prefix in
-    omega (arith, begins)
+    let fits : inner.prefix_length ≤ width address.family = subst (λ f. inner.prefix_length ≤ width f) matches.family lies.fits in
+    let index : outer.prefix_length % width address.family ≡ outer.prefix_length = mod-eq_of_lt (omega (arith, lies.longer, fits)) in
+    rw index (omega (arith, begins))
 
 -- ---- the loop that looks for the longest network in which two lie
 pub record AgreesBelow (one other : Network) (count : ℕ) : Type 0 where

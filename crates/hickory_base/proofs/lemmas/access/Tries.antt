@@ -1,9 +1,9 @@
 -- The networks of a trie: how they stand at a node, how an insert changes them, and what a walk down has seen.
-use Rattle.std.proofs.Common.{◌≡◌, ℕ, ◌+◌, ◌-◌, ◌*◌, ◌/◌, ◌%◌, ◌^◌, ◌<◌, ◌≤◌, ◌⊎◌, ◌↔◌, Bool, true, false, cond, not, List, [], ◌∷◌, ◌++◌, length, get_or, IsTrue, Option, Some, None, Result, Ok, Err, OnOk, OnErr, Any, All, Box, Contains, inl, inr, refl, sym, ap, ◌∙◌, subst, arith, length-append}
+use Rattle.std.proofs.Common.{◌≡◌, ℕ, ◌+◌, ◌-◌, ◌/◌, ◌%◌, ◌^◌, ◌<◌, ◌≤◌, ◌⊎◌, ◌↔◌, Bool, true, false, cond, List, [], ◌∷◌, ◌++◌, length, IsTrue, Option, Some, None, Result, Ok, Err, OnOk, OnErr, Any, All, Box, Contains, inl, inr, refl, sym, ap, ◌∙◌, subst, arith, length-append}
 use Rattle.std.proofs.lemmas.List.Elements.{Contains-get_or, Contains-append_left, Contains-append_right, Contains-append_cases, Contains-push, Contains-push_cases, All-contains}
 use Rattle.hickory_base.specs.declared.access.Address.{Address}
 use Rattle.hickory_base.specs.declared.access.Family.{Family}
-use Rattle.hickory_base.specs.Access.{Network, Matches, IsLongestMatch, Inserts, first_bits}
+use Rattle.hickory_base.specs.Access.{Network, Matches, IsLongestMatch, Inserts, first_bits, width}
 use Rattle.hickory_base.specs.Prefixes.{LiesIn, half, IsCommon}
 use Rattle.std.specs.declared.alloc.Global.{Global}
 use Rattle.hickory_base.specs.Tries.{IsNode, networks_of, networks, IsTrie}
@@ -272,7 +272,7 @@ module _ (set : List Network) (address : Address) (node : Node) (is_node : IsNod
         found = h.found;
       }
 
-  pub walk_zero : (longest : Option ℕ) → IsWalked set (node.zero ++ node.one) address longest → ¬ (first_bits address (node.prefix.prefix_length + 1) % 2 ≡ 1)
+  pub walk_zero : (longest : Option ℕ) → IsWalked set (node.zero ++ node.one) address longest → ¬ (first_bits address (node.prefix.prefix_length % width address.family + 1) % 2 ≡ 1)
       → IsWalked set node.zero address longest
   walk_zero longest h bit = record {
     within = λ m is. h.within m (Contains-append_left node.zero node.one m is);
@@ -287,7 +287,7 @@ module _ (set : List Network) (address : Address) (node : Node) (is_node : IsNod
     found = h.found;
   }
 
-  pub walk_one : (longest : Option ℕ) → IsWalked set (node.zero ++ node.one) address longest → first_bits address (node.prefix.prefix_length + 1) % 2 ≡ 1
+  pub walk_one : (longest : Option ℕ) → IsWalked set (node.zero ++ node.one) address longest → first_bits address (node.prefix.prefix_length % width address.family + 1) % 2 ≡ 1
       → IsWalked set node.one address longest
   walk_one longest h bit = record {
     within = λ m is. h.within m (Contains-append_right node.zero node.one m is);
@@ -327,18 +327,18 @@ module _ (set : List Network) (address : Address) (node : Node) (is_node : IsNod
       subst (λ (r : Option ℕ). IsWalked set (node.zero ++ node.one) address r) (sym after_is) (walk_passes set address node is_node longest h other)
 
   pub to_one : IsWalked set (node.zero ++ node.one) address longest → (measured next : Node) → measured ≡ node → next ≡ node
-      → (index : ℕ) → index ≡ measured.prefix.prefix_length → first_bits address (index + 1) % 2 ≡ 1 → IsWalked set next.one address longest
+      → (index : ℕ) → index ≡ measured.prefix.prefix_length → first_bits address (index % width address.family + 1) % 2 ≡ 1 → IsWalked set next.one address longest
   to_one h measured next l n index index_is bit =
       let same : index ≡ node.prefix.prefix_length = index_is ∙ ap (λ (k : Node). k.prefix.prefix_length) l in
       subst (λ (k : Node). IsWalked set k.one address longest) (sym n)
-      (walk_one set address node is_node longest h (subst (λ k. first_bits address (k + 1) % 2 ≡ 1) same bit))
+      (walk_one set address node is_node longest h (subst (λ k. first_bits address (k % width address.family + 1) % 2 ≡ 1) same bit))
 
   pub to_zero : IsWalked set (node.zero ++ node.one) address longest → (measured next : Node) → measured ≡ node → next ≡ node
-      → (index : ℕ) → index ≡ measured.prefix.prefix_length → ¬ (first_bits address (index + 1) % 2 ≡ 1) → IsWalked set next.zero address longest
+      → (index : ℕ) → index ≡ measured.prefix.prefix_length → ¬ (first_bits address (index % width address.family + 1) % 2 ≡ 1) → IsWalked set next.zero address longest
   to_zero h measured next l n index index_is bit =
       let same : index ≡ node.prefix.prefix_length = index_is ∙ ap (λ (k : Node). k.prefix.prefix_length) l in
       subst (λ (k : Node). IsWalked set k.zero address longest) (sym n)
-      (walk_zero set address node is_node longest h (subst (λ k. ¬ (first_bits address (k + 1) % 2 ≡ 1)) same bit))
+      (walk_zero set address node is_node longest h (subst (λ k. ¬ (first_bits address (k % width address.family + 1) % 2 ≡ 1)) same bit))
 
 -- ---- a node above another one
 module _ (node : Node) (x common : Network) (is_node : IsNode node) (is_common : IsCommon node.prefix x common) (outside : ¬ (LiesIn x node.prefix)) where
