@@ -2,11 +2,14 @@
 // REFUSED_KIND is "memory", "read" (of the standard input) or "write" (to the standard output), and REFUSED_CALL is N for the Nth such
 // call, or N.. for that one and each after it. The first refusal is told on the standard error, by the line "refused".
 // Where REFUSED_KIND is "pieces" nothing is refused: each read of the input gives one byte, and each write to the output takes one.
+// The program is killed when the process that started it ends, so that one that hangs is not left behind.
 #define _GNU_SOURCE
 #include <errno.h>
+#include <signal.h>
 #include <stddef.h>
 #include <stdlib.h>
 #include <string.h>
+#include <sys/prctl.h>
 #include <sys/syscall.h>
 #include <unistd.h>
 
@@ -22,6 +25,11 @@ static unsigned long first;
 static int are_later_refused;
 // So many calls of that kind were made.
 static unsigned long calls;
+
+__attribute__((constructor)) static void end_with_parent(void) {
+    if (prctl(PR_SET_PDEATHSIG, SIGKILL) != 0)
+        abort();
+}
 
 __attribute__((constructor)) static void read_words(void) {
     const char *kind = getenv("REFUSED_KIND");
