@@ -93,12 +93,7 @@ fn find_in(notes: &[Note<'_>], suffix: &[u8]) -> Option<u16>
 }
 
 // The same among the notes of one bucket, from its last one on.
-fn find_linked(
-    notes: &[Note<'_>],
-    lasts: &[usize],
-    in_bucket: usize,
-    suffix: &[u8],
-) -> Option<u16>
+fn find_linked(notes: &[Note<'_>], lasts: &[usize], in_bucket: usize, suffix: &[u8]) -> Option<u16>
     requires linked { AreLinked notes.now lasts.now }
     requires apart { AreApart (pairs notes.now) }
     requires in_bucket { in_bucket ≡ bucket suffix.now }

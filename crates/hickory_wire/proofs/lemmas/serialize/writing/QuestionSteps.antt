@@ -121,3 +121,9 @@ question_note question suffix place end notes notes' n is h e =
 
 pub no_notes : (bytes : List ℕ) (start : ℕ) (notes : Notes) → notes ≡ [] → AreNotes bytes start notes
 no_notes bytes start notes e = subst (λ ns. AreNotes bytes start ns) (sym e) (λ i x h. absurd (omega arith))
+
+-- the notes of what stands behind an empty header
+pub notes_behind : (bytes question : List ℕ) (notes : Notes) → bytes ≡ replicate 12 0 ++ question → AreNotes (replicate 12 0 ++ question) (12 + length question) notes → AreNotes bytes (length bytes) notes
+notes_behind bytes question notes e h =
+    let long : 12 + length question ≡ length bytes = omega (arith, ap length e, length-append (replicate 12 0) question) in
+    subst (λ n. AreNotes bytes n notes) long (subst (λ bs. AreNotes bs (12 + length question) notes) (sym e) h)

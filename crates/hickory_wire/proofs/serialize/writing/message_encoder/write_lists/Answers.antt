@@ -1,11 +1,23 @@
-use Rattle.std.proofs.Common.{◌≡◌, ◌++◌, List, subst, take, rules}
+use Rattle.std.proofs.Common.{◌≡◌, ◌++◌, List, length, refl, subst, take, rules}
 use Rattle.std.specs.Iterator.Adapters.{chain_second}
+use Rattle.hickory_wire.specs.serialize.writing.Noted.{AreNotes}
 use Rattle.hickory_wire.specs.serialize.writing.Endings.{GivesRecords, ListFollows, NotedRun}
 use Rattle.hickory_wire.specs.declared.rr.rdata.RData.{RData}
 use Rattle.hickory_wire.specs.declared.rr.record.Record.{Record}
 use Rattle.hickory_wire.proofs.lemmas.serialize.writing.FiveLists.{five_lists, chain_gives}
 use Rattle.hickory_wire.proofs.lemmas.serialize.writing.NotedRuns.{puts_both, repeats, run_both}
+use Rattle.hickory_wire.proofs.lemmas.serialize.writing.QuestionSteps.{no_notes, notes_behind}
 use Rattle.hickory_wire.proofs.serialize.writing.message_encoder.write_lists.Goals as goal
+use Rattle.hickory_wire.proofs.serialize.writing.message_encoder.write_lists.Goals.{then-has_records+in_ok-note_question, else-has_records}
+
+pub write_list-requires : goal.write_list-requires
+write_list-requires g c κs =
+    let bytes = c.args.bytes.now.items in
+    let noted : AreNotes bytes (length bytes) c.if-has_records.table = elim c.if-has_records.branch [
+      | then-has_records+in_ok-note_question w ↦ rw w.table-is (notes_behind bytes c.args.parts.question.now w.note_question.new.table c.requires.asked w.in_ok-note_question.ensures)
+      | else-has_records w ↦ rw w.table-is (no_notes bytes (length bytes) c.new-table.result c.new-table.ensures)
+    ] in
+    ((refl, (refl, tt)), (c.requires.answers.0, (c.requires.answers.1, (c.requires.header, (c.requires.fits, noted)))))
 
 pub returns-clause-written : goal.returns-clause-written
 returns-clause-written g c =
