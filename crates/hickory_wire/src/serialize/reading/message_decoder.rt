@@ -148,8 +148,8 @@ impl Message {
     /// `EdnsNameNotRoot` and `DuplicateEdns`. `Memory` comes only where memory was refused.
     ///
     /// Memory is taken as records are read, so the counts of a short message cost nothing. Where names take many steps
-    /// behind compression pointers, more than one for four bytes of the message, what they lead to is kept by place, and
-    /// no place is walked again; this takes memory as well.
+    /// behind compression pointers, more than one for four bytes of the message, what they lead to is kept by place, so
+    /// that only names of at most two steps are walked again; this takes memory as well.
     pub fn read(alloc: Global, bytes: &[u8]) -> Result<Message, DecodeError>
         // What is read stands there.
         ensures found { IfOk result (λ m. Reads bytes.now m) }

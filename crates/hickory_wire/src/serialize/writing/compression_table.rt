@@ -101,11 +101,15 @@ fn find_linked(notes: &[Note<'_>], lasts: &[usize], in_bucket: usize, suffix: &[
 {
     let mut last = lasts[in_bucket];
     while last > 0 {
-        let note = &notes[last - 1];
-        if note.suffix == suffix {
-            return Some(note.place);
+        let Note {
+            suffix: noted,
+            place,
+            before,
+        } = notes[last - 1];
+        if noted == suffix {
+            return Some(place);
         }
-        last = note.before;
+        last = before;
     }
     None
 }

@@ -1,5 +1,5 @@
 -- Notes that lie in buckets, each of which leads to the one before it in its bucket.
-use Rattle.std.proofs.Common.{◌≡◌, ◌≢◌, inl, inr, ℕ, zero, suc, ◌+◌, ◌%◌, ◌<◌, ◌≤◌, List, [], ◌∷◌, ◌++◌, length, map, take, drop, get_or, set, replicate, Bool, true, false, None, Some, refl, sym, ap, ◌∙◌, subst, arith, length-append, length-take, length-drop}
+use Rattle.std.proofs.Common.{◌≡◌, ◌≢◌, inl, inr, ℕ, zero, suc, ◌+◌, ◌%◌, ◌<◌, ◌≤◌, List, [], ◌∷◌, ◌++◌, length, take, drop, get_or, set, replicate, true, false, None, Some, refl, sym, ap, ◌∙◌, subst, arith, length-append, length-take}
 use Rattle.std.specs.Hash.FoldHasher.{initial, write, finish}
 use Rattle.std.specs.List.{All}
 use Rattle.std.specs.Str.{bytes_eq}
@@ -7,7 +7,7 @@ use Rattle.std.proofs.lemmas.Slice.Eq.{bytes_eq-Decides}
 use Rattle.std.proofs.lemmas.Bool.{cases_lt, cases_eq, false_from_ne_true, cond-false}
 use Rattle.std.proofs.lemmas.List.{take-append-drop, map-append, get_or-take, take-take, take-append-le, get_or_append_left, get_or-append-add, take_all, length-map, length-set, length-replicate, get_or-replicate, get_or-set_same, get_or-set_other, get_or-map, drop_all, drop-append-le, drop-map, take-map}
 use Rattle.std.proofs.lemmas.List.Elements.{All-head, All-tail, All-push, All-nil, All-pop}
-use Rattle.hickory_wire.specs.serialize.writing.Noted.{Notes, first_place}
+use Rattle.hickory_wire.specs.serialize.writing.Noted.{first_place}
 use Rattle.hickory_wire.specs.serialize.writing.NameTable.{pairs, bucket, buckets, befores, AreApart, IsLast, AreLinked}
 use Rattle.hickory_wire.specs.declared.serialize.writing.compression_table.Note.{Note}
 use Rattle.hickory_wire.proofs.lemmas.serialize.writing.FirstPlaces.{pair, first_place-before, first_place-other, flipped_false, pairs-more, fresh_at, found_at}

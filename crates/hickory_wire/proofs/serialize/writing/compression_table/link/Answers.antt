@@ -1,4 +1,4 @@
-use Rattle.std.proofs.Common.{rules, arith, ◌≡◌, ◌++◌, ◌∷◌, [], take, take_all, get_or, sym, ap, ◌∙◌, subst, replicate}
+use Rattle.std.proofs.Common.{rules, arith, ◌≡◌, ◌++◌, ◌∷◌, [], take_all, get_or, sym, ap, ◌∙◌, subst}
 use Rattle.hickory_wire.specs.serialize.writing.NameTable.{pairs, AreLinked}
 use Rattle.hickory_wire.specs.declared.serialize.writing.compression_table.Note.{Note}
 use Rattle.hickory_wire.proofs.lemmas.serialize.writing.LinkedNotes.{AreLinked-none}

@@ -1,7 +1,6 @@
 use Rattle.std.proofs.Common.{arith, ◌≡◌, ◌+◌, ◌-◌, ◌<◌, length, take, drop, get_or, refl, sym, subst}
 use Rattle.std.specs.List.{All}
 use Rattle.std.proofs.lemmas.List.Elements.{All-nil, All-weaker}
-use Rattle.hickory_wire.specs.serialize.writing.Noted.{AreNotes}
 use Rattle.hickory_wire.specs.serialize.writing.QuestionNames.{StandsInFull}
 use Rattle.hickory_wire.proofs.lemmas.serialize.writing.FirstPlaces.{fresh_longer}
 use Rattle.hickory_wire.proofs.lemmas.serialize.writing.QuestionSteps.{next_label, question_note, no_notes, suffix_len, longer_noted}

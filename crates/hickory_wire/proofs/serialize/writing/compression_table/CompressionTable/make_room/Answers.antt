@@ -1,5 +1,5 @@
-use Rattle.std.proofs.Common.{◌≡◌, arith, ◌++◌, length, take, drop, sym, subst, ap, ◌∙◌}
-use Rattle.hickory_wire.specs.serialize.writing.NameTable.{pairs, AreLinked, IsTable}
+use Rattle.std.proofs.Common.{◌≡◌, arith, length, drop, sym, subst, ap, ◌∙◌}
+use Rattle.hickory_wire.specs.serialize.writing.NameTable.{pairs, IsTable}
 use Rattle.hickory_wire.proofs.lemmas.serialize.writing.FirstPlaces.{IsTable-linked}
 use Rattle.hickory_wire.proofs.lemmas.serialize.writing.LinkedNotes.{front_whole}
 use Rattle.hickory_wire.proofs.serialize.writing.compression_table.CompressionTable.make_room.Goals as goal

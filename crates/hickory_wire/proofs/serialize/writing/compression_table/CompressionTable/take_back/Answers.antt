@@ -1,6 +1,6 @@
-use Rattle.std.proofs.Common.{rules, ◌≡◌, arith, [], None, ◌++◌, length, take, drop, sym, subst, ap, ◌∙◌}
+use Rattle.std.proofs.Common.{rules, ◌≡◌, arith, [], None, length, take, drop, sym, subst, ap, ◌∙◌}
 use Rattle.std.proofs.lemmas.List.{take-map, nil_from_length}
-use Rattle.hickory_wire.specs.serialize.writing.NameTable.{pairs, AreLinked, IsTable}
+use Rattle.hickory_wire.specs.serialize.writing.NameTable.{pairs, IsTable}
 use Rattle.hickory_wire.proofs.lemmas.serialize.writing.FirstPlaces.{pair, IsTable-take}
 use Rattle.hickory_wire.proofs.lemmas.serialize.writing.LinkedNotes.{front_whole}
 use Rattle.hickory_wire.proofs.serialize.writing.compression_table.CompressionTable.take_back.Goals as goal
