@@ -1,5 +1,5 @@
 -- What a request to a zone comes to is what it comes to where that zone is the only one.
-use Rattle.std.proofs.Common.{◌≡◌, ◌⊎◌, inl, inr, ℕ, zero, suc, ◌<◌, ◌≤◌, Bool, true, false, cond, List, [], ◌∷◌, ◌++◌, length, map, Option, Some, None, Result, Ok, Err, Contains, Any, refl, sym, ap, subst, ◌∙◌, arith}
+use Rattle.std.proofs.Common.{◌≡◌, ◌⊎◌, inl, inr, ℕ, zero, suc, ◌<◌, ◌≤◌, Bool, true, false, cond, List, [], ◌∷◌, ◌++◌, length, Option, Some, None, Result, Ok, Err, Contains, Any, refl, sym, ap, subst, ◌∙◌, arith}
 use Rattle.std.specs.Prelude.{◌==◌, slice_index_or}
 use Rattle.std.specs.Map.{keys_of}
 use Rattle.std.proofs.lemmas.List.{map-append}
@@ -19,8 +19,8 @@ use Rattle.hickory_catalog.specs.Find.{Finds, IsNearest, MayAnswer}
 use Rattle.hickory_catalog.specs.Queries.{QueryReplies, ZoneReplies, ZoneReply, lookup, no_zone, one, other_count, transfer, unanswered, untransferred, zone}
 use Rattle.hickory_catalog.specs.Requests.{RequestAnswered, asks, refused, updates}
 use Rattle.hickory_catalog.specs.Server.{Server}
-use Rattle.hickory_catalog.specs.Updates.{ApexUpdated, FirstUpdated, HasNoHandler, UpdateReply, answered, no_apex, no_handler, unnamed, updated_zone, zone_of}
-use Rattle.hickory_catalog.specs.Zones.{AreInOrder, ChangesAt, HasZone}
+use Rattle.hickory_catalog.specs.Updates.{ApexUpdated, FirstUpdated, UpdateReply, answered, no_apex, no_handler, unnamed, updated_zone, zone_of}
+use Rattle.hickory_catalog.specs.Zones.{AreInOrder, ChangesAt}
 use Rattle.hickory_catalog.proofs.Nearest.{MayBy, no_longer, same_length}
 use Rattle.hickory_catalog.proofs.OneAnswer.{one_answer, one_nearest}
 

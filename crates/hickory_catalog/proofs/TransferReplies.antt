@@ -1,13 +1,11 @@
 -- What the replies of a transfer that is sent in as many as it takes have of it.
-use Rattle.std.proofs.Common.{◌≡◌, ◌⊎◌, inl, inr, ℕ, zero, suc, ◌+◌, ◌<◌, ◌≤◌, List, [], ◌∷◌, length, map, take, drop, Option, Some, None, IfSome, refl, sym, ap, subst, ◌∙◌, arith}
-use Rattle.std.specs.List.{AllByRecursion, flat_map, sum_by}
-use Rattle.std.specs.Option.{option_map, option_to_list}
+use Rattle.std.proofs.Common.{◌≡◌, ◌⊎◌, inl, inr, ℕ, zero, suc, ◌<◌, ◌≤◌, List, [], ◌∷◌, length, map, take, drop, Option, Some, None, IfSome, refl, sym, ap, subst, ◌∙◌, arith}
+use Rattle.std.specs.List.{AllByRecursion, flat_map}
 use Rattle.std.proofs.lemmas.Bool.{cases_lt}
 use Rattle.std.proofs.lemmas.List.Folds.{flat_map-map}
 use Rattle.hickory_wire.specs.op.EdnsFields.{EdnsFields}
-use Rattle.hickory_wire.specs.serialize.writing.RecordSize.{full_size}
-use Rattle.hickory_wire.specs.serialize.writing.Reply.{Reply, opt_record, reply_lists}
-use Rattle.hickory_wire.specs.serialize.writing.WholeReply.{FitsWhole, HasForm, total_size}
+use Rattle.hickory_wire.specs.serialize.writing.Reply.{Reply, opt_record}
+use Rattle.hickory_wire.specs.serialize.writing.WholeReply.{FitsWhole, HasForm}
 use Rattle.hickory_wire.specs.declared.rr.rdata.RData.{RData}
 use Rattle.hickory_wire.specs.declared.rr.record.Record.{Record}
 use Rattle.hickory_base.specs.declared.requests.message_request.MessageRequest.{MessageRequest}
