@@ -174,6 +174,30 @@ fn list_parents(alloc: Global, word: &str, out: &mut String) -> Result<(), Fault
     put_all_parents(&mut name, out).map_err(Fault::from)
 }
 
+/// Cuts a name in lower case to the end that it shares with the name of a word.
+fn cut_to_shared(alloc: Global, name: &mut LowerName, other: &str) -> Result<(), Fault> {
+    let other = text::lower_name(alloc, other)?;
+    name.keep_shared_end(&other);
+    Ok(())
+}
+
+/// Cuts a name in lower case to the end that it shares with the name of a word, and puts what is left behind a text.
+fn put_shared(
+    alloc: Global,
+    name: &mut LowerName,
+    other: &str,
+    out: &mut String,
+) -> Result<(), Fault> {
+    cut_to_shared(alloc, name, other)?;
+    writeln!(out, "{name}").map_err(Fault::from)
+}
+
+/// Tells the end that a name in lower case shares with another, which is not the whole name.
+fn share(alloc: Global, word: &str, other: &str, out: &mut String) -> Result<(), Fault> {
+    let mut name = text::lower_name(alloc, word)?;
+    put_shared(alloc, &mut name, other, out)
+}
+
 /// Obeys a command on names, if it is one.
 pub(crate) fn obey(
     alloc: Global,
@@ -193,6 +217,8 @@ pub(crate) fn obey(
         ["encloses", ..] => Err(Fault::Usage("encloses NAME NAME")),
         ["parents", word] => list_parents(alloc, word, out),
         ["parents", ..] => Err(Fault::Usage("parents NAME")),
+        ["shared", name, other] => share(alloc, name, other, out),
+        ["shared", ..] => Err(Fault::Usage("shared NAME NAME")),
         _ => return None,
     })
 }
