@@ -1,6 +1,7 @@
 -- Lemmas of labels, their order, their wire form and their spelling.
 pub mod Ends
 pub mod FirstLabel
+pub mod KeyWords
 pub mod LabelOrder
 pub mod NameSpelling
 pub mod OrderKeys

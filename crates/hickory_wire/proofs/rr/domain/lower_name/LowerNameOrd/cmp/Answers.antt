@@ -9,8 +9,8 @@ use Rattle.hickory_wire.proofs.rr.domain.lower_name.LowerNameOrd.cmp.Goals as go
 
 pub returns : goal.returns
 returns c =
-    let labels : c.cmp.result ≡ slice_cmp label_cmp (reverse c.self.inside.name.labels) (reverse c.other.inside.name.labels) =
-    c.cmp.ensures ∙ ap (λ (k : List ℕ). slice_cmp nat_cmp k c.as_slice-2.result.now) (c.as_slice.ensures ∙ c.self.invariant.1)
+    let labels : c.compare_keys.result ≡ slice_cmp label_cmp (reverse c.self.inside.name.labels) (reverse c.other.inside.name.labels) =
+    c.compare_keys.ensures ∙ ap (λ (k : List ℕ). slice_cmp nat_cmp k c.as_slice-2.result.now) (c.as_slice.ensures ∙ c.self.invariant.1)
     ∙ ap (slice_cmp nat_cmp _) (c.as_slice-2.ensures ∙ c.other.invariant.1)
     ∙ keys_of_names _ _ c.self.invariant.0 c.other.invariant.0 in
     let marks : c.cmp-marks.result ≡ bool_cmp c.self.inside.name.is_fqdn c.other.inside.name.is_fqdn =
