@@ -1,5 +1,6 @@
 -- Requests and what is read and written of them.
 pub mod MessageSameness
+pub mod QuestionList
 pub mod Questions
 pub mod RequestForm
 pub mod RequestReading

@@ -41,3 +41,4 @@ pub use text::code_text::CodeTextError;
 pub use values::boxed::Boxed;
 pub use values::items::Items;
 pub use values::octets::Octets;
+pub use values::short_octets::ShortOctets;

@@ -1,6 +1,7 @@
-//! Small types that keep memory: octets, lists, a value on the heap, and what they show of themselves.
+//! Small types that keep memory: octets, few or many, lists, a value on the heap, and what they show of themselves.
 
 pub mod boxed;
 pub mod debug;
 pub mod items;
 pub mod octets;
+pub mod short_octets;

@@ -3,3 +3,4 @@ pub mod MessagesCompared
 pub mod QuestionPlaces
 pub mod RequestForms
 pub mod RequestParts
+pub mod SingleQuestion

@@ -3,35 +3,68 @@
 ghost use Rattle.std.specs.Prelude.{◌≡◌, ◌==◌, ◌≤◌, length, max, IfOk, IfErr};
 ghost use Rattle.std.specs.Cmp.Lexicographic.{pointwise};
 ghost use Rattle.std.specs.Cmp.{partial_equiv_from_equiv};
+ghost use Rattle.hickory_base.specs.requests.QuestionList.{question_list};
 ghost use Rattle.hickory_base.specs.requests.Questions.{QuestionSection, one_query, payload_limit, edns_version, query_eq, section_eq, section_eq_equiv};
 
 use crate::errors::LookupError;
-use hickory_wire::{Boxed, Edns, Items, LowerQuery, Metadata, Octets, Record, TSIG};
+use hickory_wire::{Boxed, Edns, Items, LowerQuery, Metadata, Record, ShortOctets, TSIG};
 use std::marker::Model;
+use std::slice;
+
+/// Questions: the one of nearly every request in the value itself, and else a list of them.
+///
+/// Contracts speak of the questions as `question_list`.
+#[derive(Drop)]
+pub(crate) enum Questions {
+    /// Just one.
+    One(LowerQuery),
+    /// Any number.
+    Many(Items<LowerQuery>),
+}
+
+impl Questions {
+    /// The questions, in their order.
+    fn as_slice(&self) -> &[LowerQuery]
+        ensures { result.now ≡ question_list self.now }
+    {
+        match self {
+            Questions::One(query) => slice::from_ref(query),
+            Questions::Many(queries) => queries.as_slice(),
+        }
+    }
+
+    /// How many questions there are.
+    fn len(&self) -> usize
+        ensures { result ≡ length (question_list self.now) }
+    {
+        self.as_slice().len()
+    }
+}
 
 /// The questions of a request, and the bytes that hold them.
 #[derive(Drop)]
 pub struct Queries {
-    queries: Items<LowerQuery>,
-    original: Octets,
+    queries: Questions,
+    original: ShortOctets,
 }
 
 impl Model for Queries {
     ghost use Rattle.std.specs.Prelude.{◌≤◌, length};
+    ghost use Rattle.hickory_base.specs.requests.QuestionList.{question_list};
     ghost use Rattle.hickory_base.specs.requests.Questions.{QuestionSection};
 
     ghost Value = { QuestionSection };
 
-    ghost view = { λ q. record { queries = q.queries; bytes = q.original } };
+    ghost view = { λ q. record { queries = question_list q.queries; bytes = q.original } };
 
-    ghost invariant = { λ q. length q.queries ≤ 65535 };
+    ghost invariant = { λ q. length (question_list q.queries) ≤ 65535 };
 }
 
 impl Queries {
     /// The questions that stand in these bytes. Their number has 16 bits.
-    pub(crate) fn new(queries: Items<LowerQuery>, original: Octets) -> Queries
-        requires { length queries ≤ 65535 }
-        ensures { result ≡ record { queries = queries; bytes = original } }
+    pub(crate) fn new(queries: Questions, original: ShortOctets) -> Queries
+        requires { length (question_list queries) ≤ 65535 }
+        ensures { result ≡ record { queries = question_list queries; bytes = original } }
     {
         Queries { queries, original }
     }

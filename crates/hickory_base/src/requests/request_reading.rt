@@ -1,6 +1,7 @@
 //! Reading requests (RFC 1035 section 4.1).
 
 ghost use Rattle.std.specs.Prelude.{◌≡◌, ◌≢◌, ◌<◌, ◌≤◌, [], length, IfOk, IfErr, MatchResult, OnOk};
+ghost use Rattle.hickory_base.specs.requests.QuestionList.{question_list};
 ghost use Rattle.hickory_base.specs.requests.RequestReading.{FollowsHeader, IsFaultOf, IsQuestionSection, message_of, question_section};
 ghost use Rattle.hickory_wire.specs.serialize.layout.MessageLayout.{high_code, with_high_code};
 ghost use Rattle.hickory_wire.specs.serialize.reading.MessageReading.{Fault, Reads, message};
@@ -11,17 +12,25 @@ ghost use Rattle.hickory_wire.specs.declared.error.DecodeError.{DecodeError};
 ghost use Rattle.hickory_wire.specs.declared.error.DecodeError.TheVariants as decode_error;
 ghost use Rattle.hickory_wire.specs.declared.op.message.Message.{Message};
 
-use crate::requests::message_request::{MessageRequest, Queries};
+use crate::requests::message_request::{MessageRequest, Queries, Questions};
 use crate::server::Request;
 use hickory_wire::{
     BinDecoder, DecodeError, Edns, Items, LowerQuery, Metadata, Octets, ProtoError, Protocol,
-    ResponseCode,
+    ResponseCode, ShortOctets,
 };
 use std::alloc::Global;
 use std::net::SocketAddr;
 
-/// So many questions, each with its name in lower case beside it.
-fn read_lower_queries(
+/// The question at this place, with its name in lower case beside it.
+fn read_lower_query(alloc: Global, decoder: &mut BinDecoder<'_>) -> Result<LowerQuery, DecodeError>
+    ensures { Gives result decoder.old decoder.new question }
+{
+    let query = decoder.read_query(alloc)?;
+    Ok(LowerQuery::new(alloc, query)?)
+}
+
+/// So many questions as a list.
+fn read_query_list(
     alloc: Global,
     decoder: &mut BinDecoder<'_>,
     count: u16,
@@ -31,10 +40,24 @@ fn read_lower_queries(
 {
     let mut queries = Items::new(alloc);
     'queries: for _ in 0..count {
-        let query = decoder.read_query(alloc)?;
-        queries.push(LowerQuery::new(alloc, query)?)?;
+        queries.push(read_lower_query(alloc, decoder)?)?;
     }
     Ok(queries)
+}
+
+/// So many questions, each with its name in lower case beside it. One alone takes no list.
+fn read_lower_queries(
+    alloc: Global,
+    decoder: &mut BinDecoder<'_>,
+    count: u16,
+) -> Result<Questions, DecodeError>
+    ensures exact { GivesSeenBy question_list result decoder.old decoder.new (items question count []) }
+    ensures number { IfOk result (λ queries. length (question_list queries) ≤ count) }
+{
+    if count == 1 {
+        return Ok(Questions::One(read_lower_query(alloc, decoder)?));
+    }
+    Ok(Questions::Many(read_query_list(alloc, decoder, count)?))
 }
 
 impl Queries {
@@ -54,7 +77,7 @@ impl Queries {
     {
         let start = decoder.index();
         let queries = read_lower_queries(alloc, decoder, count)?;
-        let original = Octets::from_slice(alloc, decoder.slice_from(start)?)?;
+        let original = ShortOctets::from_slice(alloc, decoder.slice_from(start)?)?;
         Ok(Queries::new(queries, original))
     }
 }

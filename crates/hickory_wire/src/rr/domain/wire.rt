@@ -1,4 +1,4 @@
-//! Where the bytes of a name are kept.
+//! Where bytes are kept that are mostly few, as those of a name.
 
 ghost use Rattle.std.specs.Prelude.{◌≡◌, ◌≤◌, [], length, take, drop, map, IfOk};
 ghost use Rattle.std.specs.Char.{to_ascii_lowercase};
@@ -7,7 +7,7 @@ ghost use Rattle.hickory_wire.specs.rr.domain.NameBytes.{wire_bytes};
 use std::alloc::{AllocError, Global};
 use std::marker::Model;
 
-/// So many bytes take no memory of their own. Most names are no longer.
+/// So many bytes take no memory of their own. Most names and most question sections are no longer.
 const SHORT_LEN: usize = 30;
 
 /// A few bytes in an array.
@@ -97,7 +97,7 @@ impl ShortBytes {
     }
 }
 
-/// The bytes of a name: in the value itself where they are few, and else on the heap.
+/// The bytes of a name or of a question section: in the value itself where they are few, and else on the heap.
 ///
 /// Contracts speak of the bytes as `wire_bytes`.
 #[derive(Drop)]

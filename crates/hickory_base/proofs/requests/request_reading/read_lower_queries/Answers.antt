@@ -1,21 +1,12 @@
-use Rattle.std.proofs.Common.{◌∙◌, ◌∷◌, [], arith}
-use Rattle.std.proofs.lemmas.List.{length-append}
+use Rattle.std.proofs.Common.{arith}
 use Rattle.std.proofs.lemmas.Result.{err_from_is_err_and}
-use Rattle.hickory_wire.specs.serialize.reading.RecordReading.{question}
-use Rattle.hickory_wire.proofs.lemmas.serialize.reading.ItemsRead.{items_go_on, items_fail, items_done}
+use Rattle.hickory_base.proofs.lemmas.requests.SingleQuestion.{single_is_read, single_fails}
 use Rattle.hickory_base.proofs.requests.request_reading.read_lower_queries.Goals as goal
 
-pub returns-in_err-query-clause-exact : goal.returns-in_err-query-clause-exact
-returns-in_err-query-clause-exact c =
+pub returns-in_err-read_lower_query-clause-exact : goal.returns-in_err-read_lower_query-clause-exact
+returns-in_err-read_lower_query-clause-exact c =
     let p = err_from_is_err_and c.from_residual.result c.from_residual.ensures.1 in
-    rw (p.1, p.2) (items_fail question c.args.count c.queries.counter c.queries.queries c.queries.decoder _ c.queries.invariant.so_far _ c.queries-test.true c.in_err-query.ensures.exact.0, c.in_err-query.ensures.exact.1 ∙ c.queries.invariant.kept)
+    rw (p.1, p.2) (single_fails c.args.count c.args.decoder.now (omega (arith, c.if-count-eq1.true)) _ c.in_err-read_lower_query.ensures.0, c.in_err-read_lower_query.ensures.1)
 
-pub queries-preserved : goal.queries-preserved
-queries-preserved c = record {
-  so_far = rw (c.in_ok-push.ensures.ok, c.in_ok-new.ensures) (items_go_on question c.args.count c.queries.counter c.queries.queries c.queries.decoder _ c.queries.invariant.so_far c.in_ok-query.query c.read_query.new.self c.queries-test.true c.in_ok-query.ensures.exact.0);
-  kept = c.in_ok-query.ensures.exact.1 ∙ c.queries.invariant.kept;
-  number = rw c.in_ok-push.ensures.ok (omega (arith, length-append c.queries.queries (c.in_ok-new.field-0 ∷ []), c.queries.invariant.number));
-}
-
-pub returns-clause-exact : goal.returns-clause-exact
-returns-clause-exact c = (items_done question c.args.count c.queries.counter c.queries.queries c.queries.decoder _ c.queries.invariant.so_far c.queries-test.false, c.queries.invariant.kept)
+pub returns-then-count-eq1-clause-exact : goal.returns-then-count-eq1-clause-exact
+returns-then-count-eq1-clause-exact c = (single_is_read c.args.count c.args.decoder.now (omega (arith, c.if-count-eq1.true)) _ _ c.in_ok-read_lower_query.ensures.0, c.in_ok-read_lower_query.ensures.1)

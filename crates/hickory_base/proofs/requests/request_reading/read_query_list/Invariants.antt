@@ -1,7 +1,7 @@
 use Rattle.std.proofs.Common.{◌≡◌, ◌-◌, ◌≤◌, [], length}
 use Rattle.hickory_wire.specs.serialize.reading.SectionReading.{items}
 use Rattle.hickory_wire.specs.serialize.reading.RecordReading.{question}
-use Rattle.hickory_base.proofs.requests.request_reading.read_lower_queries.Given as goal
+use Rattle.hickory_base.proofs.requests.request_reading.read_query_list.Given as goal
 
 abbrev pub invariant-queries : goal.invariant-queries
 invariant-queries l = record {
