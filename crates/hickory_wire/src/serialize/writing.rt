@@ -11,3 +11,4 @@ pub mod name_encoder;
 pub mod question_notes;
 pub mod record_encoder;
 pub mod record_room;
+pub mod same_bytes;

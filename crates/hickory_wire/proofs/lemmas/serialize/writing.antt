@@ -16,6 +16,7 @@ pub mod QuestionsMoved
 pub mod ReadingBack
 pub mod RecordLists
 pub mod RepliesEncoded
+pub mod SameBytes
 pub mod WholeLists
 pub mod WritingFaults
 pub mod WrittenAdditionals

@@ -4,7 +4,7 @@ use Rattle.std.specs.Hash.FoldHasher.{initial, write, finish}
 use Rattle.std.specs.List.{All}
 use Rattle.hickory_wire.specs.serialize.writing.Noted.{Notes, IsPlace, first_place, IsNotedAt}
 use Rattle.hickory_wire.specs.declared.serialize.writing.compression_table.Note.{Note}
-use Rattle.hickory_wire.specs.declared.serialize.writing.compression_table.Owner.{Owner}
+use Rattle.hickory_wire.specs.declared.serialize.writing.compression_table.KeptName.{KeptName}
 
 abbrev pub pairs : List Note → Notes
 pairs notes = map (λ note. (note.suffix.now, note.place)) notes
@@ -35,9 +35,14 @@ pub record AreLinked (notes : List Note) (lasts : List ℕ) : Type 0 where
   pub last : (b : ℕ) → b < 512 → IsLast b (buckets notes) (slice_index lasts b)
   pub before : (i : ℕ) → i < length notes → IsLast (slice_index (buckets notes) i) (take i (buckets notes)) (slice_index (befores notes) i)
 
--- the notes, the owner name that is asked for first, and the last notes of the buckets, where they are linked
-pub record IsTable (notes : List Note) (last_owner : Option Owner) (lasts : List ℕ) : Type 0 where
+-- A name that is kept was noted at its place.
+abbrev pub IsKept : List Note → Option KeptName → Type 0
+IsKept notes kept = IfSome kept (λ name. IsNotedAt (pairs notes) name.wire.now name.place)
+
+-- the notes, the two names that are asked for first, and the last notes of the buckets, where they are linked
+pub record IsTable (notes : List Note) (last_owner last_target : Option KeptName) (lasts : List ℕ) : Type 0 where
   pub apart : AreApart (pairs notes)
   pub in_range : All (λ note. IsPlace note.1) (pairs notes)
   pub linked : lasts ≢ [] → AreLinked notes lasts
-  pub kept : IfSome last_owner (λ owner. IsNotedAt (pairs notes) owner.wire.now owner.place)
+  pub owner_kept : IsKept notes last_owner
+  pub target_kept : IsKept notes last_target

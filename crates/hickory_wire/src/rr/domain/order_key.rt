@@ -9,14 +9,12 @@ ghost use Rattle.hickory_wire.specs.rr.domain.NameBytes.{wire_bytes};
 ghost use Rattle.hickory_wire.specs.rr.domain.OrderKey.{IsSharedFront, escaped, order_key};
 
 use crate::rr::domain::wire::Wire;
+use crate::values::words::{WORD_LEN, word_at};
 use std::alloc::{AllocError, Global};
 use std::cmp::Ordering;
 
 /// At least as many bytes as the key of any name has: each byte of a label takes two at most, and each label one more.
 const KEY_ROOM: usize = 512;
-
-/// So many bytes of keys are compared at a time.
-const WORD_LEN: usize = 8;
 
 /// Puts a label, and the byte that ends it, in front of what stands in the room from a place on. Returns where it begins.
 fn put_label(room: &mut [u8; KEY_ROOM], end: usize, label: &[u8]) -> usize
@@ -105,23 +103,6 @@ pub(crate) fn make_order_key(alloc: Global, wire: &[u8]) -> Result<Wire, AllocEr
         place = next;
     }
     Wire::from_slice(alloc, &room[start..])
-}
-
-/// The eight bytes from a place on as a number, the first one highest: such numbers compare as the bytes do.
-fn word_at(bytes: &[u8], place: usize) -> u64
-    requires { place + 8 ≤ length bytes.now }
-    ensures { result ≡ big_endian 0 (take 8 (drop place bytes.now)) }
-{
-    u64::from_be_bytes([
-        bytes[place],
-        bytes[place + 1],
-        bytes[place + 2],
-        bytes[place + 3],
-        bytes[place + 4],
-        bytes[place + 5],
-        bytes[place + 6],
-        bytes[place + 7],
-    ])
 }
 
 /// Keys compared byte by byte: the first bytes that differ decide, and where none do, the lengths.

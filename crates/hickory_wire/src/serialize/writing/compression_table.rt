@@ -4,6 +4,7 @@ ghost use Rattle.std.specs.Prelude.{◌≡◌, ℕ, ◌<◌, ◌++◌, ◌∷◌
 ghost use Rattle.hickory_wire.specs.serialize.writing.Noted.{Notes, IsPlace, first_place, IsNotedAt};
 ghost use Rattle.hickory_wire.specs.serialize.writing.NameTable.{pairs, bucket, AreApart, AreLinked};
 
+use crate::serialize::writing::same_bytes::are_same;
 use std::alloc::{AllocError, Global};
 use std::hash::{FoldHasher, Hasher};
 use std::marker::Model;
@@ -17,9 +18,9 @@ struct Note<'n> {
     before: usize,
 }
 
-// The owner name of a record in wire form, without the end byte, and the place where it was noted.
+// A name in wire form, without the end byte, and the place where it was noted.
 #[derive(Clone, Copy)]
-struct Owner<'n> {
+struct KeptName<'n> {
     wire: &'n [u8],
     place: u16,
 }
@@ -41,8 +42,10 @@ pub(crate) struct CompressionTable<'n> {
     notes: Vec<Note<'n>>,
     // For each bucket, how many notes end with its last one, or 0 where it has none. Empty while the notes are searched one by one.
     lasts: Vec<usize>,
-    // The owner name that was written last: the records of an RRset have the same.
-    last_owner: Option<Owner<'n>>,
+    // The owner name that was written last: the records of an RRset have the same, and names in their data often end in it.
+    last_owner: Option<KeptName<'n>>,
+    // The end of a name that a search found last, as the name of the zone, in which most names of a message end.
+    last_target: Option<KeptName<'n>>,
     alloc: Global,
 }
 
@@ -55,7 +58,7 @@ impl<'n> Model for CompressionTable<'n> {
 
     ghost view = { λ table. pairs table.notes.items };
 
-    ghost invariant = { λ table. IsTable table.notes.items table.last_owner table.lasts.items };
+    ghost invariant = { λ table. IsTable table.notes.items table.last_owner table.last_target table.lasts.items };
 }
 
 // The bucket of a suffix.
@@ -69,6 +72,7 @@ fn bucket_of(suffix: &[u8]) -> usize
 }
 
 // The same where it may be known.
+#[inline(always)]
 fn known_bucket(in_bucket: Option<usize>, suffix: &[u8]) -> usize
     requires { IfSome in_bucket (λ b. b ≡ bucket suffix.now) }
     ensures is { result ≡ bucket suffix.now }
@@ -106,7 +110,7 @@ fn find_linked(notes: &[Note<'_>], lasts: &[usize], in_bucket: usize, suffix: &[
             place,
             before,
         } = notes[last - 1];
-        if noted == suffix {
+        if are_same(noted, suffix) {
             return Some(place);
         }
         last = before;
@@ -115,6 +119,7 @@ fn find_linked(notes: &[Note<'_>], lasts: &[usize], in_bucket: usize, suffix: &[
 }
 
 // Puts a note behind the others, and makes it the last one of its bucket.
+#[inline(always)]
 fn push_linked<'n>(
     notes: &mut Vec<Note<'n>>,
     lasts: &mut [usize],
@@ -128,11 +133,12 @@ fn push_linked<'n>(
     ensures err { OnErr result (pairs notes.new.items ≡ pairs notes.old.items) }
     ensures linked { AreLinked notes.new.items lasts.new }
 {
-    notes.push(Note {
+    // Appended as a slice, which hands nothing back where memory is refused.
+    notes.extend_from_slice(&[Note {
         suffix,
         place,
         before: lasts[in_bucket],
-    })?;
+    }])?;
     lasts[in_bucket] = notes.len();
     Ok(())
 }
@@ -182,6 +188,7 @@ impl<'n> CompressionTable<'n> {
             notes: Vec::new(alloc),
             lasts: Vec::new(alloc),
             last_owner: None,
+            last_target: None,
             alloc,
         }
     }
@@ -218,25 +225,36 @@ impl<'n> CompressionTable<'n> {
         }
     }
 
-    /// The place of the owner name that was kept last, where it is this one, letter case kept.
-    pub(crate) fn last_owner_place(&self, wire: &[u8]) -> Option<u16>
+    /// The place of this name where it is the owner name or the target that was kept last, letter case kept. It costs no hash and no search.
+    #[inline(always)]
+    pub(crate) fn known_place(&self, wire: &[u8]) -> Option<u16>
         ensures found { IfSome result (λ place. IsNotedAt self.now wire.now place) }
         ensures in_range { IfSome result (λ place. IsPlace place) }
     {
-        let owner = self.last_owner?;
-        if owner.wire == wire {
-            Some(owner.place)
-        } else {
-            None
+        if let Some(owner) = self.last_owner {
+            if are_same(owner.wire, wire) {
+                return Some(owner.place);
+            }
         }
+        if let Some(target) = self.last_target {
+            if are_same(target.wire, wire) {
+                return Some(target.place);
+            }
+        }
+        None
     }
 
-    /// Keeps an owner name that was noted, to be asked for first.
-    pub(crate) fn keep_owner(&mut self, wire: &'n [u8], place: u16)
+    /// Keeps a name that was noted, to be asked for before any search: as the owner name of a record, or as the end of another name.
+    pub(crate) fn keep(&mut self, is_owner: bool, wire: &'n [u8], place: u16)
         requires { IsNotedAt self.old wire.now place }
         ensures { self.new ≡ self.old }
     {
-        self.last_owner = Some(Owner { wire, place });
+        let kept = Some(KeptName { wire, place });
+        if is_owner {
+            self.last_owner = kept;
+        } else {
+            self.last_target = kept;
+        }
     }
 
     // Takes the memory of the first notes, and links them once they are too many to be searched one by one.
@@ -254,8 +272,8 @@ impl<'n> CompressionTable<'n> {
         Ok(())
     }
 
-    /// Notes a suffix that was not noted before. Its bucket is computed where it is not given.
-    pub(crate) fn note(
+    // Notes a suffix where the notes are searched one by one, and so they may be linked first.
+    fn note_in_list(
         &mut self,
         in_bucket: Option<usize>,
         suffix: &'n [u8],
@@ -281,11 +299,34 @@ impl<'n> CompressionTable<'n> {
         Ok(())
     }
 
+    /// Notes a suffix that was not noted before. Its bucket is computed where it is not given.
+    #[inline(always)]
+    pub(crate) fn note(
+        &mut self,
+        in_bucket: Option<usize>,
+        suffix: &'n [u8],
+        place: u16,
+    ) -> Result<(), AllocError>
+        requires in_bucket { IfSome in_bucket (λ b. b ≡ bucket suffix.now) }
+        requires fresh { first_place suffix.now self.old ≡ None }
+        requires in_range { IsPlace place }
+        ensures ok { OnOk result (self.new ≡ self.old ++ (suffix.now, place) ∷ []) }
+        ensures err { OnErr result (self.new ≡ self.old) }
+    {
+        if self.lasts.is_empty() {
+            return self.note_in_list(in_bucket, suffix, place);
+        }
+        let in_bucket = known_bucket(in_bucket, suffix);
+        push_linked(&mut self.notes, &mut self.lasts, in_bucket, suffix, place)?;
+        Ok(())
+    }
+
     /// Takes back what was noted since the mark. It takes no memory.
     pub(crate) fn take_back(&mut self, mark: usize)
         ensures { self.new ≡ take mark self.old }
     {
         self.last_owner = None;
+        self.last_target = None;
         if self.lasts.is_empty() {
             self.notes.truncate(mark);
         } else {

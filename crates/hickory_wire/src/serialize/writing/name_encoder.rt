@@ -1,8 +1,9 @@
 //! Names in bytes, with pointers to names that stand before them (RFC 1035 section 4.1.4).
 
-ghost use Rattle.std.specs.Prelude.{◌≡◌, ℕ, ◌+◌, ◌<◌, ◌≤◌, ◌/◌, ◌%◌, ◌++◌, ◌∷◌, [], length, OnOk, IfOk, IfSome};
+ghost use Rattle.std.specs.Prelude.{◌≡◌, ℕ, ◌+◌, ◌<◌, ◌≤◌, ◌/◌, ◌%◌, ◌^◌, ◌++◌, ◌∷◌, ◌≢◌, [], length, take, true, false, OnOk, IfOk, IfSome, None};
 ghost use Rattle.hickory_wire.specs.rr.domain.DomainName.{IsWire, AreLabels, wire_form};
-ghost use Rattle.hickory_wire.specs.serialize.writing.Noted.{WritesLabels, Compresses, IsNotedAt};
+ghost use Rattle.hickory_wire.specs.serialize.writing.Noted.{WritesLabels, Compresses, first_place};
+ghost use Rattle.hickory_wire.specs.serialize.writing.NameTable.{bucket};
 
 use crate::rr::domain::name::Name;
 use crate::serialize::writing::compression_table::CompressionTable;
@@ -19,36 +20,99 @@ fn write_pointer(bytes: &mut Vec<u8>, place: u16) -> Result<(), AllocError>
     bytes.extend_from_slice(&(0xc000 + place).to_be_bytes())
 }
 
-// Puts the labels of this wire form and their end behind the bytes, notes what it wrote label by label, and says where the whole was noted, if it was.
+// Puts the first bytes of a wire form behind the bytes. Eight are copied at once where there are as many, which is cheaper than a few, and those that are
+// too many are taken back.
+fn write_front(bytes: &mut Vec<u8>, wire: &[u8], len: usize) -> Result<(), AllocError>
+    requires { len ≤ length wire.now }
+    ensures { OnOk result (bytes.new.items ≡ bytes.old.items ++ take len wire.now) }
+{
+    if len <= 8 {
+        if let Some(front) = wire.first_chunk::<8>() {
+            bytes.extend_from_slice(front)?;
+            bytes.truncate(bytes.len() - (8 - len));
+            return Ok(());
+        }
+    }
+    bytes.extend_from_slice(&wire[..len])
+}
+
+// Ends a name that is at its end byte, or goes on as one that was written last. Answers whether that is so; else nothing was written.
+#[inline(always)]
+fn write_known<'n>(
+    bytes: &mut Vec<u8>,
+    table: &CompressionTable<'n>,
+    wire: &[u8],
+) -> Result<bool, AllocError>
+    requires header { 12 ≤ length bytes.old.items }
+    ensures known { IfOk result (λ known. known ≡ true →
+        WritesLabels bytes.old.items bytes.new.items table.now table.now wire.now × Compresses bytes.old.items bytes.new.items table.now table.now wire.now) }
+    ensures unknown { IfOk result (λ known. known ≡ false → (bytes.new.items ≡ bytes.old.items) × (wire.now ≢ [])) }
+{
+    if wire.is_empty() {
+        bytes.push(0)?;
+        return Ok(true);
+    }
+    if let Some(place) = table.known_place(wire) {
+        write_pointer(bytes, place)?;
+        return Ok(true);
+    }
+    Ok(false)
+}
+
+// Notes a name that was written at this place, if a pointer reaches there, and then keeps it if it is an owner name.
+#[inline(always)]
+fn note_written<'n>(
+    table: &mut CompressionTable<'n>,
+    in_bucket: Option<usize>,
+    wire: &'n [u8],
+    place: usize,
+    is_owner: bool,
+) -> Result<(), AllocError>
+    requires in_bucket { IfSome in_bucket (λ b. b ≡ bucket wire.now) }
+    requires labels { wire.now ≢ [] }
+    requires fresh { first_place wire.now table.old ≡ None }
+    requires behind { 12 ≤ place }
+    ensures near { OnOk result (place < 2 ^ 14 → table.new ≡ table.old ++ (wire.now, place) ∷ []) }
+    ensures far { OnOk result (2 ^ 14 ≤ place → table.new ≡ table.old) }
+{
+    if place >= POINTER_REACH {
+        return Ok(());
+    }
+    table.note(in_bucket, wire, place as u16)?;
+    if is_owner {
+        table.keep(true, wire, place as u16);
+    }
+    Ok(())
+}
+
+// Puts labels of this wire form, one at least, and their end behind the bytes, and notes what it wrote label by label. An owner name is kept, and else a
+// name that was found.
 fn write_labels<'n>(
     bytes: &mut Vec<u8>,
     table: &mut CompressionTable<'n>,
     wire: &'n [u8],
-) -> Result<Option<u16>, AllocError>
+    is_owner: bool,
+) -> Result<(), AllocError>
     requires wire { IsWire wire.now }
+    requires labels { wire.now ≢ [] }
     requires header { 12 ≤ length bytes.old.items }
     ensures labels { OnOk result (WritesLabels bytes.old.items bytes.new.items table.old table.new wire.now) }
     ensures compresses { OnOk result (Compresses bytes.old.items bytes.new.items table.old table.new wire.now) }
-    ensures noted { IfOk result (λ noted. IfSome noted (λ place. IsNotedAt table.new wire.now place)) }
 {
-    if wire.is_empty() {
-        bytes.push(0)?;
-        return Ok(None);
-    }
     let in_bucket = table.bucket(wire);
     if let Some(place) = table.find(in_bucket, wire) {
+        table.keep(is_owner, wire, place);
         write_pointer(bytes, place)?;
-        return Ok(Some(place));
+        return Ok(());
     }
     let place = bytes.len();
     let (label, rest) = wire.split_at(1 + usize::from(wire[0]));
-    bytes.extend_from_slice(label)?;
-    write_labels(bytes, table, rest)?;
-    if place >= POINTER_REACH {
-        return Ok(None);
+    write_front(bytes, wire, label.len())?;
+    if !write_known(bytes, table, rest)? {
+        write_labels(bytes, table, rest, false)?;
     }
-    table.note(in_bucket, wire, place as u16)?;
-    Ok(Some(place as u16))
+    note_written(table, in_bucket, wire, place, is_owner)?;
+    Ok(())
 }
 
 /// Puts a name behind the bytes, and notes its labels.
@@ -61,11 +125,14 @@ pub(crate) fn write_compressed_name<'n>(
     ensures labels { OnOk result (WritesLabels bytes.old.items bytes.new.items table.old table.new (wire_form name.now.labels)) }
     ensures are { AreLabels name.now.labels }
 {
-    write_labels(bytes, table, name.as_wire())?;
+    let wire = name.as_wire();
+    if !write_known(bytes, table, wire)? {
+        write_labels(bytes, table, wire, false)?;
+    }
     Ok(())
 }
 
-/// The same for the owner name of a record of a section. The one before is compared first, since the records of an RRset have one owner name.
+/// The same for the owner name of a record of a section, which is kept: the next record may have it too, and names in the data may end in it.
 pub(crate) fn write_owner<'n>(
     bytes: &mut Vec<u8>,
     table: &mut CompressionTable<'n>,
@@ -77,12 +144,8 @@ pub(crate) fn write_owner<'n>(
     ensures are { AreLabels name.now.labels }
 {
     let wire = name.as_wire();
-    if let Some(place) = table.last_owner_place(wire) {
-        write_pointer(bytes, place)?;
-        return Ok(());
-    }
-    if let Some(place) = write_labels(bytes, table, wire)? {
-        table.keep_owner(wire, place);
+    if !write_known(bytes, table, wire)? {
+        write_labels(bytes, table, wire, true)?;
     }
     Ok(())
 }

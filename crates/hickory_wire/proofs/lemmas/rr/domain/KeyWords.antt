@@ -9,10 +9,7 @@ use Rattle.std.specs.Slice.Scan.{big_endian}
 use Rattle.std.proofs.lemmas.Cmp.{ranked}
 use Rattle.std.proofs.lemmas.List.{get_or-drop, length-drop, take-take}
 use Rattle.std.proofs.Math.Seq.{take-add}
-
--- each number is a byte
-abbrev pub AreBytes : List ℕ → Type 0
-AreBytes xs = (k : ℕ) → get_or xs k 0 < 256
+use Rattle.hickory_wire.specs.serialize.layout.Bytes.{AreBytes}
 
 -- of numbers read on, the one that was greater before stays so
 stays_less : (n a b : ℕ) (xs ys : List ℕ) → n ≤ length xs → n ≤ length ys → AreBytes xs → a < b → big_endian a (take n xs) < big_endian b (take n ys)

@@ -8,9 +8,9 @@ use Rattle.std.proofs.lemmas.Bool.{cases_lt, cond-true, cond-false, false_from_n
 use Rattle.std.proofs.lemmas.List.{take-append-drop, map-append, get_or-take, take-take, take-append-le, get_or_append_left, get_or-append-add, take_all, get_or-map, take-map, length-map, map_more}
 use Rattle.std.proofs.lemmas.List.Elements.{All-head, All-tail, All-push, All-take}
 use Rattle.hickory_wire.specs.serialize.writing.Noted.{Notes, IsPlace, first_place, IsNotedAt}
-use Rattle.hickory_wire.specs.serialize.writing.NameTable.{pairs, AreApart, AreLinked, IsTable}
+use Rattle.hickory_wire.specs.serialize.writing.NameTable.{pairs, AreApart, AreLinked, IsKept, IsTable}
 use Rattle.hickory_wire.specs.declared.serialize.writing.compression_table.Note.{Note}
-use Rattle.hickory_wire.specs.declared.serialize.writing.compression_table.Owner.{Owner}
+use Rattle.hickory_wire.specs.declared.serialize.writing.compression_table.KeptName.{KeptName}
 
 skipped : (b : Bool) (v : ℕ) (o r s : Option ℕ) → cond b (Some v) o ≡ None → (o ≡ None → r ≡ s) → cond b (Some v) r ≡ s
 skipped true v o r s e h = cc
@@ -110,35 +110,41 @@ pub first_place-front : (s : List ℕ) (p : ℕ) (xs ys : Notes) → first_place
 first_place-front s p [] ys e = cc
 first_place-front s p (x ∷ xs) ys e = found_by (bytes_eq s x.0) x.1 (first_place s xs) (first_place s (xs ++ ys)) p e (first_place-front s p xs ys)
 
-still_kept : (owner : Option Owner) (notes more : Notes) → IfSome owner (λ o. IsNotedAt notes o.wire.now o.place) → IfSome owner (λ o. IsNotedAt (notes ++ more) o.wire.now o.place)
-still_kept None notes more h = tt
-still_kept (Some o) notes more h = (h.0, first_place-front o.wire.now o.place notes more h.1)
+still_kept : (kept : Option KeptName) (notes notes' : List Note) (more : Notes) → pairs notes' ≡ pairs notes ++ more → IsKept notes kept → IsKept notes' kept
+still_kept None notes notes' more e h = tt
+still_kept (Some name) notes notes' more e h = (h.0, ap (λ ns. first_place name.wire.now ns) e ∙ first_place-front name.wire.now name.place (pairs notes) more h.1)
+
+same_kept : (kept : Option KeptName) (notes notes' : List Note) → pairs notes' ≡ pairs notes → IsKept notes kept → IsKept notes' kept
+same_kept kept notes notes' e h = subst (λ ns. IfSome kept (λ name. IsNotedAt ns name.wire.now name.place)) (sym e) h
 
 -- ---- the table as a whole
-module _ (notes notes' : List Note) (owner : Option Owner) (lasts lasts' : List ℕ) where
+module _ (notes notes' : List Note) (owner target : Option KeptName) (lasts lasts' : List ℕ) where
   -- with one note more
-  pub IsTable-push : (s : List ℕ) (p : ℕ) → IsTable notes owner lasts → pairs notes' ≡ pairs notes ++ (s, p) ∷ [] → first_place s (pairs notes) ≡ None → IsPlace p → (lasts' ≢ [] → AreLinked notes' lasts') → IsTable notes' owner lasts'
+  pub IsTable-push : (s : List ℕ) (p : ℕ) → IsTable notes owner target lasts → pairs notes' ≡ pairs notes ++ (s, p) ∷ [] → first_place s (pairs notes) ≡ None → IsPlace p → (lasts' ≢ [] → AreLinked notes' lasts') → IsTable notes' owner target lasts'
   IsTable-push s p t e fresh at h = record {
     apart = subst (λ ns. AreApart ns) (sym e) (AreApart-push (pairs notes) s p t.apart fresh);
     in_range = subst (λ ns. All (λ note. IsPlace note.1) ns) (sym e) (All-push (λ note. IsPlace note.1) (pairs notes) (s, p) t.in_range at);
     linked = h;
-    kept = subst (λ ns. IfSome owner (λ o. IsNotedAt ns o.wire.now o.place)) (sym e) (still_kept owner (pairs notes) ((s, p) ∷ []) t.kept);
+    owner_kept = still_kept owner notes notes' ((s, p) ∷ []) e t.owner_kept;
+    target_kept = still_kept target notes notes' ((s, p) ∷ []) e t.target_kept;
   }
 
   -- with the first so many notes
-  pub IsTable-take : (k : ℕ) → IsTable notes owner lasts → pairs notes' ≡ take k (pairs notes) → (lasts' ≢ [] → AreLinked notes' lasts') → IsTable notes' None lasts'
+  pub IsTable-take : (k : ℕ) → IsTable notes owner target lasts → pairs notes' ≡ take k (pairs notes) → (lasts' ≢ [] → AreLinked notes' lasts') → IsTable notes' None None lasts'
   IsTable-take k t e h = record {
     apart = subst (λ ns. AreApart ns) (sym e) (AreApart-take k (pairs notes) t.apart);
     in_range = subst (λ ns. All (λ note. IsPlace note.1) ns) (sym e) (All-take (λ note. IsPlace note.1) k (pairs notes) t.in_range);
     linked = h;
-    kept = tt;
+    owner_kept = tt;
+    target_kept = tt;
   }
 
   -- with the same notes, linked
-  pub IsTable-linked : IsTable notes owner lasts → pairs notes' ≡ pairs notes → AreLinked notes' lasts' → IsTable notes' owner lasts'
+  pub IsTable-linked : IsTable notes owner target lasts → pairs notes' ≡ pairs notes → AreLinked notes' lasts' → IsTable notes' owner target lasts'
   IsTable-linked t e h = record {
     apart = subst (λ ns. AreApart ns) (sym e) t.apart;
     in_range = subst (λ ns. All (λ note. IsPlace note.1) ns) (sym e) t.in_range;
     linked = λ ne. h;
-    kept = subst (λ ns. IfSome owner (λ o. IsNotedAt ns o.wire.now o.place)) (sym e) t.kept;
+    owner_kept = same_kept owner notes notes' e t.owner_kept;
+    target_kept = same_kept target notes notes' e t.target_kept;
   }

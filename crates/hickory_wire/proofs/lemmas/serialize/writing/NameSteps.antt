@@ -1,9 +1,9 @@
 -- The steps of writing a name with pointers.
-use Rattle.std.proofs.Common.{◌≡◌, ◌≢◌, ℕ, ◌+◌, ◌/◌, ◌%◌, ◌<◌, ◌≤◌, List, [], ◌∷◌, ◌++◌, length, take, drop, get_or, Some, None, true, ◌==◌, refl, sym, ap, ◌∙◌, subst, arith, length-append}
+use Rattle.std.proofs.Common.{◌≡◌, ◌≢◌, inl, inr, ℕ, ◌+◌, ◌/◌, ◌%◌, ◌^◌, ◌<◌, ◌≤◌, List, [], ◌∷◌, ◌++◌, length, take, drop, get_or, Some, None, true, ◌==◌, refl, sym, ap, ◌∙◌, subst, arith, length-append}
 use Rattle.std.proofs.lemmas.List.{take_at, drop_at, append_assoc, append-nil, get_or-append-add}
 use Rattle.std.proofs.lemmas.List.Elements.{All-weaker, All-push, All-contains, All-head, All-tail, Contains-push, Contains-append_left}
 use Rattle.std.specs.List.{Contains}
-use Rattle.std.proofs.lemmas.Bool.{eqb-true}
+use Rattle.std.proofs.lemmas.Bool.{cases_lt, eqb-true}
 use Rattle.std.proofs.lemmas.Slice.Eq.{bytes_eq-Decides}
 use Rattle.hickory_wire.specs.rr.domain.DomainName.{IsLabel, AreLabels, IsWire, wire_form, cut}
 use Rattle.hickory_wire.specs.serialize.layout.Bytes.{BytesAt, KeepsFrom}
@@ -194,6 +194,21 @@ compresses_far old new wire notes notes' f far = record {
   repeats = λ _ h. absurd (note_missing wire h.0 notes f h.1);
   remembers = λ _ lt. absurd (omega arith);
 }
+
+-- a name that was written, and then noted where a pointer reaches it
+pub writes_noted : (old new wire : List ℕ) (notes notes' notes2 : Notes) (place : ℕ) → WritesLabels old new notes notes' wire → place ≡ length old → (place < 2 ^ 14 → notes2 ≡ notes' ++ (wire, place) ∷ []) → (2 ^ 14 ≤ place → notes2 ≡ notes') → WritesLabels old new notes notes2 wire
+writes_noted old new wire notes notes' notes2 place w at_old near far =
+    elim (cases_lt place (2 ^ 14)) [
+      | inl below ↦ writes_note old new wire notes notes' notes2 place w at_old (near below)
+      | inr above ↦ subst (λ ns. WritesLabels old new notes ns wire) (sym (far above)) w
+    ]
+
+pub compresses_noted : (old new wire : List ℕ) (notes notes' notes2 : Notes) (place : ℕ) → first_place wire notes ≡ None → place ≡ length old → (place < 2 ^ 14 → notes2 ≡ notes' ++ (wire, place) ∷ []) → Compresses old new notes notes2 wire
+compresses_noted old new wire notes notes' notes2 place f at_old near =
+    elim (cases_lt place (2 ^ 14)) [
+      | inl below ↦ compresses_note old new wire notes notes' notes2 place f (near below)
+      | inr above ↦ compresses_far old new wire notes notes2 f (omega (arith, above, at_old))
+    ]
 
 -- the root is neither repeated nor noted
 pub compresses_root : (old new wire : List ℕ) (notes : Notes) → wire ≡ [] → Compresses old new notes notes wire

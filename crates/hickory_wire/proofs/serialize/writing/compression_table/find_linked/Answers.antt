@@ -1,4 +1,7 @@
-use Rattle.std.proofs.Common.{rules, arith, ◌≡◌, ◌<◌, ℕ, ◌+◌, ◌-◌, [], length, take, get_or, sym, ◌∙◌, ap, subst}
+use Rattle.std.proofs.Common.{rules, arith, ◌≡◌, ◌≢◌, ◌<◌, ℕ, ◌+◌, ◌-◌, [], length, take, get_or, sym, ◌∙◌, ap, subst}
+use Rattle.std.specs.Str.{bytes_eq}
+use Rattle.std.proofs.lemmas.Bool.{false_from_ne_true}
+use Rattle.std.proofs.lemmas.Slice.Eq.{bytes_eq-Decides}
 use Rattle.hickory_wire.specs.serialize.writing.NameTable.{pairs, buckets, IsLast}
 use Rattle.hickory_wire.specs.serialize.writing.Noted.{first_place}
 use Rattle.hickory_wire.specs.declared.serialize.writing.compression_table.Note.{Note}
@@ -37,11 +40,12 @@ module _ (c : In-loop-last) where
 pub bounds-notes-last : goal.bounds-notes-last
 bounds-notes-last c = inside c
 
-pub returns-then-eq : goal.returns-then-eq
-returns-then-eq c =
-    let k = (goal.at.returns-then-eq c).In-loop-last in
+pub returns-then-are_same : goal.returns-then-are_same
+returns-then-are_same c =
+    let k = (goal.at.returns-then-are_same c).In-loop-last in
     let is : get_or c.args.notes.now (place k) (note k) ≡ note k = search rules in
-    found_linked c.args.suffix.now c.args.notes.now c.args.lasts.now (place k) (note k) (inside k) is c.requires.apart (sym c.eq.ensures ∙ c.if-eq.true)
+    let same : (note k).suffix.now ≡ c.args.suffix.now = search rules in
+    found_linked c.args.suffix.now c.args.notes.now c.args.lasts.now (place k) (note k) (inside k) is c.requires.apart ((bytes_eq-Decides (note k).suffix.now c.args.suffix.now).1 same)
 
 pub loop-last-smaller : goal.loop-last-smaller
 loop-last-smaller c =
@@ -53,7 +57,9 @@ pub loop-last-preserved : goal.loop-last-preserved
 loop-last-preserved c =
     let k = (goal.at.loop-last-preserved c).In-loop-last in
     let is : get_or c.args.notes.now (place k) (note k) ≡ note k = search rules in
-    IsIn-next c.args.suffix.now c.args.notes.now c.args.lasts.now (place k) (note k) (inside k) is c.requires.linked (reached k) (sym c.eq.ensures ∙ c.if-eq.false)
+    let differ : (note k).suffix.now ≢ c.args.suffix.now = search rules in
+    let other = false_from_ne_true (bytes_eq (note k).suffix.now c.args.suffix.now) (λ t. differ ((bytes_eq-Decides (note k).suffix.now c.args.suffix.now).0 t)) in
+    IsIn-next c.args.suffix.now c.args.notes.now c.args.lasts.now (place k) (note k) (inside k) is c.requires.linked (reached k) other
 
 pub returns : goal.returns
 returns c =

@@ -21,7 +21,7 @@ returns-clause-linked c =
     let notes = c.args.notes.now.items in
     let lasts = c.args.lasts.now in
     let n : Note = record { suffix = c.args.suffix; place = c.args.place; before = get_or lasts c.args.in_bucket 0 } in
-    let more : c.push.new.self.items ≡ notes ++ n ∷ [] = c.in_ok-push.ensures.items in
+    let more : c.extend_from_slice.new.self.items ≡ notes ++ n ∷ [] = c.in_ok-extend_from_slice.ensures.items in
     let long : c.len.result ≡ length notes + 1 = omega (arith, c.len.ensures, ap length more, length-append notes (n ∷ [])) in
     let linked = AreLinked-push notes n lasts (bucket_small c.args.suffix.now) c.requires.linked (ap (λ b. get_or lasts b 0) c.requires.in_bucket) in
     subst (λ ns. AreLinked ns (set lasts c.args.in_bucket c.len.result)) (sym more)

@@ -1,79 +1,94 @@
-use Rattle.std.proofs.Common.{rules, arith, ◌≡◌, ◌≢◌, ◌∙◌, ℕ, ◌+◌, ◌<◌, ◌≤◌, ◌++◌, [], length, None, Some, sym, ap, subst, take, drop, get_or, length-append}
+use Rattle.std.proofs.Common.{rules, arith, ◌≡◌, ◌≢◌, ◌∙◌, ℕ, List, ◌+◌, ◌<◌, ◌≤◌, ◌++◌, [], length, None, Some, sym, ap, subst, take, drop, get_or, length-append, length-take}
 use Rattle.hickory_wire.specs.rr.domain.DomainName.{IsWire}
-use Rattle.hickory_wire.specs.serialize.writing.Noted.{first_place, WritesLabels}
-use Rattle.hickory_wire.proofs.lemmas.serialize.writing.NameSteps.{empty_list, rest_of, writes_end, writes_pointer, writes_label, writes_note, still_fresh, found_noted, compresses_root, compresses_pointer, compresses_note, compresses_far}
+use Rattle.hickory_wire.specs.serialize.writing.Noted.{Notes, first_place, WritesLabels, Compresses}
+use Rattle.hickory_wire.proofs.lemmas.serialize.writing.NameSteps.{Rest, rest_of, writes_pointer, writes_label, writes_noted, still_fresh, compresses_pointer, compresses_noted}
 use Rattle.hickory_wire.proofs.serialize.writing.name_encoder.+write_labels.Goals as goal
-use Rattle.hickory_wire.proofs.serialize.writing.name_encoder.+write_labels.Goals.{In_ok-write_labels}
-
-pub returns-then-is_empty-clause-labels : goal.returns-then-is_empty-clause-labels
-returns-then-is_empty-clause-labels t c =
-    writes_end _ _ c.args.wire.now _ c.requires.header c.in_ok-push.ensures.items (empty_list c.args.wire.now (sym c.is_empty.ensures ∙ c.if-is_empty.true))
-
-pub returns-then-is_empty-clause-compresses : goal.returns-then-is_empty-clause-compresses
-returns-then-is_empty-clause-compresses t c =
-    compresses_root _ _ c.args.wire.now _ (empty_list c.args.wire.now (sym c.is_empty.ensures ∙ c.if-is_empty.true))
+use Rattle.hickory_wire.proofs.serialize.writing.name_encoder.+write_labels.Goals.{In_ok-write_front, In_ok-note_written, then-not-branch+in_ok-write_labels, else-not-branch}
 
 pub returns-in-Some-clause-labels : goal.returns-in-Some-clause-labels
 returns-in-Some-clause-labels t c =
-    let ne : c.args.wire.now ≢ [] = search rules in
-    let f : first_place c.args.wire.now c.args.table.now ≡ Some c.in-Some.place = search rules in
-    writes_pointer _ _ c.args.wire.now _ c.in-Some.place c.requires.header ne c.in_ok-write_pointer.ensures f
+    let f : first_place c.args.wire.now c.args.table.now ≡ Some c.in-Some.place = sym c.in-Some.ensures.found in
+    subst (λ ns. WritesLabels c.args.bytes.now.items c.write_pointer.new.bytes.items c.args.table.now ns c.args.wire.now) (sym c.keep.ensures)
+    (writes_pointer _ _ c.args.wire.now _ c.in-Some.place c.requires.header c.requires.labels c.in_ok-write_pointer.ensures f)
 
 pub returns-in-Some-clause-compresses : goal.returns-in-Some-clause-compresses
 returns-in-Some-clause-compresses t c =
-    let f : first_place c.args.wire.now c.args.table.now ≡ Some c.in-Some.place = search rules in
-    compresses_pointer _ _ c.args.wire.now _ c.in-Some.place c.in_ok-write_pointer.ensures f
+    let f : first_place c.args.wire.now c.args.table.now ≡ Some c.in-Some.place = sym c.in-Some.ensures.found in
+    subst (λ ns. Compresses c.args.bytes.now.items c.write_pointer.new.bytes.items c.args.table.now ns c.args.wire.now) (sym c.keep.ensures)
+    (compresses_pointer _ _ c.args.wire.now _ c.in-Some.place c.in_ok-write_pointer.ensures f)
+
+-- the labels behind the first one, before they are written
+module _ (t : ℕ) (c : In_ok-write_front t) where
+  abbrev behind : List ℕ
+  behind = drop (1 + get_or c.args.wire.now 0 0) c.args.wire.now
+
+  first : Rest c.args.wire.now
+  first = rest_of c.args.wire.now c.requires.wire c.requires.labels
+
+  is_behind : c.split_at.result.1.now ≡ behind
+  is_behind = c.split_at.ensures.back ∙ ap (λ i. drop (1 + i) c.args.wire.now) c.from.ensures
+
+  put : c.write_front.new.bytes.items ≡ c.args.bytes.now.items ++ take (1 + get_or c.args.wire.now 0 0) c.args.wire.now
+  put =
+      let size : length c.split_at.result.0.now ≡ 1 + get_or c.args.wire.now 0 0 = omega (arith, ap length c.split_at.ensures.front, length-take (1 + c.from.result) c.args.wire.now, c.from.ensures, first.within) in
+      c.in_ok-write_front.ensures ∙ ap (λ n. c.args.bytes.now.items ++ take n c.args.wire.now) size
+
+  longer : 12 ≤ length c.write_front.new.bytes.items
+  longer = omega (arith, c.requires.header, ap length put, length-append c.args.bytes.now.items (take (1 + get_or c.args.wire.now 0 0) c.args.wire.now))
+
+  unnoted : first_place c.args.wire.now c.args.table.now ≡ None
+  unnoted = search rules
+
+  -- What was written of the rest makes it what was written of the whole.
+  whole : (new : List ℕ) (notes : Notes) → WritesLabels c.write_front.new.bytes.items new c.args.table.now notes c.split_at.result.1.now → WritesLabels c.args.bytes.now.items new c.args.table.now notes c.args.wire.now
+  whole new notes w = writes_label c.args.bytes.now.items c.write_front.new.bytes.items new c.args.wire.now c.args.table.now notes c.requires.header c.requires.wire c.requires.labels put (subst (λ s. WritesLabels c.write_front.new.bytes.items new c.args.table.now notes s) is_behind w)
+
+  fresh : (new : List ℕ) (notes : Notes) → WritesLabels c.write_front.new.bytes.items new c.args.table.now notes c.split_at.result.1.now → first_place c.args.wire.now notes ≡ None
+  fresh new notes w = still_fresh c.args.wire.now (length c.split_at.result.1.now) c.args.table.now notes unnoted w.adds (omega (arith, first.shorter, ap length is_behind))
 
 pub write_labels-requires : goal.write_labels-requires
 write_labels-requires t c =
-    let ne : c.args.wire.now ≢ [] = search rules in
-    let r = rest_of c.args.wire.now c.requires.wire ne in
-    let e : c.split_at.result.1.now ≡ drop (1 + get_or c.args.wire.now 0 0) c.args.wire.now = c.split_at.ensures.back ∙ ap (λ i. drop (1 + i) c.args.wire.now) c.from.ensures in
-    let less : length c.split_at.result.1.now < length c.args.wire.now = omega (arith, r.shorter, ap length e) in
-    let longer : 12 ≤ length c.extend_from_slice.new.self.items = omega (arith, c.requires.header, ap length c.in_ok-extend_from_slice.ensures.items, length-append c.args.bytes.now.items c.split_at.result.0.now) in
-    (omega (arith, less, c.decreases), (subst IsWire (sym e) r.is_wire, longer))
+    let k = (goal.at.write_labels-requires t c).In_ok-write_front in
+    let same : c.write_known.new.bytes.items ≡ c.write_front.new.bytes.items = search rules in
+    (
+      omega (arith, (first t k).shorter, ap length (is_behind t k), c.decreases),
+      (subst IsWire (sym (is_behind t k)) (first t k).is_wire, (search rules, omega (arith, ap length same, longer t k))),
+    )
 
--- what the writing of the rest leaves
-module _ (t : ℕ) (c : In_ok-write_labels t) (ne : c.args.wire.now ≢ []) (fresh : first_place c.args.wire.now c.args.table.now ≡ None) where
-  back : c.split_at.result.1.now ≡ drop (1 + get_or c.args.wire.now 0 0) c.args.wire.now
-  back = c.split_at.ensures.back ∙ ap (λ i. drop (1 + i) c.args.wire.now) c.from.ensures
+-- how the rest was written, either way
+module _ (t : ℕ) (c : In_ok-note_written t) where
+  rest_written : WritesLabels c.write_front.new.bytes.items c.if-not-branch.bytes.items c.args.table.now c.if-not-branch.table c.split_at.result.1.now
+  rest_written =
+      elim c.if-not-branch.branch [
+        | then-not-branch+in_ok-write_labels w ↦
+            let same : c.write_known.new.bytes.items ≡ c.write_front.new.bytes.items = search rules in
+            subst (λ b. WritesLabels b c.if-not-branch.bytes.items c.args.table.now c.if-not-branch.table c.split_at.result.1.now) same
+            (subst (λ b. WritesLabels c.write_known.new.bytes.items b.items c.args.table.now c.if-not-branch.table c.split_at.result.1.now) (sym w.bytes-is)
+            (subst (λ ns. WritesLabels c.write_known.new.bytes.items w.write_labels.new.bytes.items c.args.table.now ns c.split_at.result.1.now) (sym w.table-is) w.in_ok-write_labels.ensures.labels))
+        | else-not-branch w ↦
+            let known : WritesLabels c.write_front.new.bytes.items c.write_known.new.bytes.items c.args.table.now c.args.table.now c.split_at.result.1.now = search rules in
+            subst (λ b. WritesLabels c.write_front.new.bytes.items b.items c.args.table.now c.if-not-branch.table c.split_at.result.1.now) (sym w.bytes-is)
+            (subst (λ ns. WritesLabels c.write_front.new.bytes.items c.write_known.new.bytes.items c.args.table.now ns c.split_at.result.1.now) (sym w.table-is) known)
+      ]
 
-  shorter : length c.split_at.result.1.now < length c.args.wire.now
-  shorter = omega (arith, (rest_of c.args.wire.now c.requires.wire ne).shorter, ap length back)
-
-  written : WritesLabels c.args.bytes.now.items c.write_labels.new.bytes.items c.args.table.now c.write_labels.new.table c.args.wire.now
-  written =
-      let mid : c.extend_from_slice.new.self.items ≡ c.args.bytes.now.items ++ take (1 + get_or c.args.wire.now 0 0) c.args.wire.now = c.in_ok-extend_from_slice.ensures.items ∙ ap (λ s. c.args.bytes.now.items ++ s) (c.split_at.ensures.front ∙ ap (λ i. take (1 + i) c.args.wire.now) c.from.ensures) in
-      let rest = subst (λ s. WritesLabels c.extend_from_slice.new.self.items c.write_labels.new.bytes.items c.args.table.now c.write_labels.new.table s) back c.in_ok-write_labels.ensures.labels in
-      writes_label c.args.bytes.now.items c.extend_from_slice.new.self.items c.write_labels.new.bytes.items c.args.wire.now c.args.table.now c.write_labels.new.table c.requires.header c.requires.wire ne mid rest
-
-  unnoted : first_place c.args.wire.now c.write_labels.new.table ≡ None
-  unnoted = still_fresh c.args.wire.now (length c.split_at.result.1.now) c.args.table.now c.write_labels.new.table fresh c.in_ok-write_labels.ensures.labels.adds shorter
-
-pub note-requires-clause-fresh : goal.note-requires-clause-fresh
-note-requires-clause-fresh t c = unnoted t (goal.at.note-requires-clause-fresh t c).In_ok-write_labels (search rules) (search rules)
-
-pub returns-then-place-ge-POINTER_REACH-clause-labels : goal.returns-then-place-ge-POINTER_REACH-clause-labels
-returns-then-place-ge-POINTER_REACH-clause-labels t c = written t (goal.at.returns-then-place-ge-POINTER_REACH-clause-labels t c).In_ok-write_labels (search rules) (search rules)
-
-pub returns-then-place-ge-POINTER_REACH-clause-compresses : goal.returns-then-place-ge-POINTER_REACH-clause-compresses
-returns-then-place-ge-POINTER_REACH-clause-compresses t c =
-    let fresh : first_place c.args.wire.now c.args.table.now ≡ None = search rules in
-    compresses_far c.args.bytes.now.items c.write_labels.new.bytes.items c.args.wire.now c.args.table.now c.write_labels.new.table fresh (search rules)
+pub note_written-requires-clause-fresh : goal.note_written-requires-clause-fresh
+note_written-requires-clause-fresh t c =
+    let k = (goal.at.note_written-requires-clause-fresh t c).In_ok-write_front in
+    elim c.if-not-branch.branch [
+      | then-not-branch+in_ok-write_labels w ↦
+          let same : c.write_known.new.bytes.items ≡ c.write_front.new.bytes.items = search rules in
+          let r = subst (λ b. WritesLabels b w.write_labels.new.bytes.items c.args.table.now w.write_labels.new.table c.split_at.result.1.now) same w.in_ok-write_labels.ensures.labels in
+          ap (λ ns. first_place c.args.wire.now ns) w.table-is ∙ fresh t k w.write_labels.new.bytes.items w.write_labels.new.table r
+      | else-not-branch w ↦ ap (λ ns. first_place c.args.wire.now ns) w.table-is ∙ unnoted t k
+    ]
 
 pub returns-clause-labels : goal.returns-clause-labels
 returns-clause-labels t c =
-    let k = (goal.at.returns-clause-labels t c).In_ok-write_labels in
-    let at : c.len-place.result ≡ length c.args.bytes.now.items = search rules in
-    writes_note c.args.bytes.now.items c.write_labels.new.bytes.items c.args.wire.now c.args.table.now c.write_labels.new.table c.note.new.self c.len-place.result (written t k (search rules) (search rules)) at c.in_ok-note.ensures.ok
+    let k = (goal.at.returns-clause-labels t c).In_ok-write_front in
+    let r = rest_written t (goal.at.returns-clause-labels t c).In_ok-note_written in
+    writes_noted c.args.bytes.now.items c.if-not-branch.bytes.items c.args.wire.now c.args.table.now c.if-not-branch.table c.note_written.new.table c.len-place.result (whole t k c.if-not-branch.bytes.items c.if-not-branch.table r) (search rules) c.in_ok-note_written.ensures.near c.in_ok-note_written.ensures.far
 
 pub returns-clause-compresses : goal.returns-clause-compresses
 returns-clause-compresses t c =
-    let fresh : first_place c.args.wire.now c.args.table.now ≡ None = search rules in
-    compresses_note c.args.bytes.now.items c.write_labels.new.bytes.items c.args.wire.now c.args.table.now c.write_labels.new.table c.note.new.self c.len-place.result fresh c.in_ok-note.ensures.ok
-
-pub returns-clause-noted : goal.returns-clause-noted
-returns-clause-noted t c =
-    let k = (goal.at.returns-clause-noted t c).In_ok-write_labels in
-    let ne : c.args.wire.now ≢ [] = search rules in
-    (ne, found_noted c.args.wire.now c.len-place.result c.write_labels.new.table c.note.new.self (unnoted t k (search rules) (search rules)) c.in_ok-note.ensures.ok)
+    let k = (goal.at.returns-clause-compresses t c).In_ok-write_front in
+    compresses_noted c.args.bytes.now.items c.if-not-branch.bytes.items c.args.wire.now c.args.table.now c.if-not-branch.table c.note_written.new.table c.len-place.result (unnoted t k) (search rules) c.in_ok-note_written.ensures.near

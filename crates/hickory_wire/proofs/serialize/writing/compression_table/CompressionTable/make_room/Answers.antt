@@ -10,5 +10,5 @@ invariant_of-self-then-len-ge-LIST_LEN c =
     let same : pairs c.in_ok-self-inside.field-0.items ≡ pairs notes = c.in_ok-self-inside.ensures.same ∙ ap pairs c.deref.ensures.value in
     let long : length c.link.new.lasts ≡ c.in_ok-lasts.lasts.len = omega (arith, c.in_ok-self-inside.ensures.linked.each, c.in_ok-lasts.ensures.len) in
     let back = front_whole c.in_ok-lasts.lasts.len c.link.new.lasts (drop (length c.link.new.lasts) c.in_ok-lasts.lasts.items) long in
-    subst (λ ls. IsTable c.in_ok-self-inside.field-0.items c.self.inside.last_owner ls) (sym back)
-    (IsTable-linked notes c.in_ok-self-inside.field-0.items c.self.inside.last_owner c.self.inside.lasts.items c.link.new.lasts c.self.invariant same c.in_ok-self-inside.ensures.linked)
+    subst (λ ls. IsTable c.in_ok-self-inside.field-0.items c.self.inside.last_owner c.self.inside.last_target ls) (sym back)
+    (IsTable-linked notes c.in_ok-self-inside.field-0.items c.self.inside.last_owner c.self.inside.last_target c.self.inside.lasts.items c.link.new.lasts c.self.invariant same c.in_ok-self-inside.ensures.linked)
