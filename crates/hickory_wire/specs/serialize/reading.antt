@@ -4,6 +4,7 @@ pub mod KnownNames
 pub mod MessageFaults
 pub mod MessageReading
 pub mod NameReading
+pub mod OptReading
 pub mod OptionReading
 pub mod Reading
 pub mod RecordFaults

@@ -13,8 +13,10 @@ pub mod LabelLoop
 pub mod LabelSteps
 pub mod MessageFaultLaws
 pub mod NameLaws
+pub mod OptRecord
 pub mod OptionSteps
 pub mod OptionsRead
+pub mod PlainNames
 pub mod ReadData
 pub mod ReadFields
 pub mod ReadRecords

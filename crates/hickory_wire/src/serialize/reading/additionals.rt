@@ -1,8 +1,10 @@
 //! What an additional section holds (RFC 1035 section 4.1, RFC 6891 section 6.1.1, RFC 8945 section 5.2).
 
-ghost use Rattle.std.specs.Prelude.{◌≡◌, length, MatchResult, ◌==◌, Ok, IsTrue};
+ghost use Rattle.std.specs.Prelude.{◌≡◌, length, MatchResult, ◌==◌, Ok, IsTrue, is_some, true, false};
 ghost use Rattle.hickory_wire.specs.serialize.reading.Reading.{Fails};
 ghost use Rattle.hickory_wire.specs.serialize.reading.SectionReading.{add_record, no_additionals};
+ghost use Rattle.hickory_wire.specs.serialize.reading.OptReading.{add_edns};
+ghost use Rattle.hickory_wire.specs.declared.error.DecodeError.TheVariants.{RecordAfterSignature};
 
 use crate::error::DecodeError;
 use crate::op::edns::Edns;
@@ -63,14 +65,35 @@ impl Additionals {
         (records, edns, signature)
     }
 
+    /// Behind a TSIG record no other may stand (RFC 8945, section 5.2).
+    fn refuse_behind_signature(&self) -> Result<(), DecodeError>
+        ensures { MatchResult result (λ _. is_some self.now.signature ≡ false) (λ e. (is_some self.now.signature ≡ true) × (e ≡ RecordAfterSignature)) }
+    {
+        if self.signature.is_some() {
+            return Err(DecodeError::RecordAfterSignature);
+        }
+        Ok(())
+    }
+
+    /// Puts what the next record says, an OPT record at the root. On an error nothing is promised of what was read before.
+    #[tactic(auto, unfolding(crate::specs::serialize::reading::OptReading::add_edns))]
+    pub(crate) fn add_edns(&mut self, edns: Edns) -> Result<(), DecodeError>
+        ensures { MatchResult result (λ _. add_edns self.old edns ≡ Ok self.new) (λ e. Fails e (add_edns self.old edns)) }
+    {
+        self.refuse_behind_signature()?;
+        if self.edns.is_some() {
+            return Err(DecodeError::DuplicateEdns);
+        }
+        self.edns = Some(edns);
+        Ok(())
+    }
+
     /// Puts the next record where its data belong. On an error nothing is promised of what was read before.
     #[tactic(auto, unfolding(crate::specs::serialize::reading::SectionReading::add_record))]
     pub(crate) fn add(&mut self, alloc: Global, next: Record) -> Result<(), DecodeError>
         ensures { MatchResult result (λ _. add_record self.old next ≡ Ok self.new) (λ e. Fails e (add_record self.old next)) }
     {
-        if self.signature.is_some() {
-            return Err(DecodeError::RecordAfterSignature);
-        }
+        self.refuse_behind_signature()?;
         let Record {
             name,
             dns_class,
@@ -83,11 +106,7 @@ impl Additionals {
                 if !has_no_label(&name) {
                     return Err(DecodeError::EdnsNameNotRoot);
                 }
-                if self.edns.is_some() {
-                    return Err(DecodeError::DuplicateEdns);
-                }
-                self.edns = Some(Edns::from_opt(dns_class, ttl, options));
-                Ok(())
+                self.add_edns(Edns::from_opt(dns_class, ttl, options))
             }
             RData::TSIG(signature) => {
                 let signature = Record {

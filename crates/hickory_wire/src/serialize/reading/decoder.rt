@@ -1,13 +1,13 @@
 //! Reading from the front of a message to its end.
 
-ghost use Rattle.std.specs.Prelude.{◌≡◌, ◌≢◌, IfOk, IfErr, IfSome, ◌+◌, ◌^◌, ◌≤◌, ◌<◌, length, slice_range, ℕ};
+ghost use Rattle.std.specs.Prelude.{◌≡◌, ◌≢◌, [], IsTrue, false, Ok, IfOk, IfErr, IfSome, ◌+◌, ◌^◌, ◌≤◌, ◌<◌, length, slice_range, ℕ};
 ghost use Rattle.std.specs.Int.{w8, w16, w32};
 ghost use Rattle.hickory_wire.specs.serialize.layout.Bytes.{AreBytes};
 ghost use Rattle.hickory_wire.specs.serialize.reading.Cursor.{Cursor};
 ghost use Rattle.hickory_wire.specs.rr.domain.DomainName.{DomainName};
-ghost use Rattle.hickory_wire.specs.serialize.reading.Reading.{Gives, GivesSeenBy, number, octets, rest_of};
+ghost use Rattle.hickory_wire.specs.serialize.reading.Reading.{Gives, GivesSeenBy, number, octets, rest_of, moved};
 ghost use Rattle.hickory_wire.specs.serialize.layout.NameLayout.{LabelsAt, NameAt, NameFault, IsFullyQualified};
-ghost use Rattle.hickory_wire.specs.serialize.reading.NameReading.{name};
+ghost use Rattle.hickory_wire.specs.serialize.reading.NameReading.{name, qualified};
 ghost use Rattle.hickory_wire.specs.declared.error.DecodeError.TheVariants.{Memory, InsufficientBytes};
 
 use crate::error::DecodeError;
@@ -26,6 +26,9 @@ const BYTES_PER_STEP: usize = 4;
 
 /// So few steps cost less to take again than to keep what they lead to.
 const FEW_STEPS: usize = 2;
+
+/// The low byte of the type OPT; its high byte is 0.
+const OPT_TYPE: u8 = 41;
 
 /// A place in the bytes of a message, from where it is read on.
 #[derive(Drop)]
@@ -134,6 +137,22 @@ impl<'a> BinDecoder<'a> {
             }
             Err(_) => Err(DecodeError::InsufficientBytes),
         }
+    }
+
+    /// Goes behind owner name and type of an OPT record where one begins here, with the root in full as its owner name
+    /// (RFC 6891, section 6.1.2). Answers whether one does; else the place stays.
+    pub(crate) fn skip_opt_front(&mut self) -> bool
+        ensures root { IsTrue result → name self.old ≡ Ok (qualified [], moved self.old 1) }
+        ensures kind { IsTrue result → number w16 (moved self.old 1) ≡ Ok (41, self.new) }
+        ensures kept { self.new.bytes ≡ self.old.bytes }
+        ensures none { result ≡ false → self.new ≡ self.old }
+    {
+        let rest = &self.bytes[self.index..];
+        if rest.len() < 3 || rest[0] != 0 || rest[1] != 0 || rest[2] != OPT_TYPE {
+            return false;
+        }
+        self.index += 3;
+        true
     }
 
     /// The next `count` bytes, which stay where they are.

@@ -1,10 +1,10 @@
 //! Reading sections and whole messages (RFC 1035 section 4.1).
 
-ghost use Rattle.std.specs.Prelude.{◌≡◌, ◌≢◌, ◌<◌, [], IfOk, IfErr, MatchResult};
+ghost use Rattle.std.specs.Prelude.{◌≡◌, ◌≢◌, ◌<◌, [], Ok, IfOk, IfErr, MatchResult};
 ghost use Rattle.hickory_wire.specs.serialize.reading.MessageFaults.{MessageFault};
 ghost use Rattle.hickory_wire.specs.serialize.layout.MessageLayout.{MessageAt, high_code, with_high_code, is_for_additionals_alone};
 ghost use Rattle.hickory_wire.specs.serialize.reading.MessageReading.{message, Reads, Fault};
-ghost use Rattle.hickory_wire.specs.serialize.reading.Reading.{Gives};
+ghost use Rattle.hickory_wire.specs.serialize.reading.Reading.{Gives, Fails};
 ghost use Rattle.hickory_wire.specs.serialize.reading.RecordReading.{question};
 ghost use Rattle.hickory_wire.specs.serialize.reading.SectionReading.{items, section_record, additionals_after, no_additionals};
 ghost use Rattle.hickory_wire.specs.declared.error.DecodeError.TheVariants.{Memory};
@@ -85,6 +85,26 @@ impl<'a> BinDecoder<'a> {
         Ok(records)
     }
 
+    /// The next record of an additional section, put where its data belong. After an error nothing is promised of what was
+    /// read before.
+    ///
+    /// An OPT record with the root in full as its owner name, as nearly all have it, is read without a record being made.
+    fn read_additional(
+        &mut self,
+        alloc: Global,
+        additionals: &mut Additionals,
+    ) -> Result<(), DecodeError>
+        ensures exact { MatchResult result (λ _. additionals_after 1 additionals.old self.old ≡ Ok (additionals.new, self.new)) (λ e. Fails e (additionals_after 1 additionals.old self.old)) }
+        ensures kept { self.new.bytes ≡ self.old.bytes }
+    {
+        if self.skip_opt_front() {
+            let edns = self.read_opt_fields(alloc)?;
+            return additionals.add_edns(edns);
+        }
+        let next = self.read_record(alloc)?;
+        additionals.add(alloc, next)
+    }
+
     /// So many records of an additional section, with its OPT and its TSIG apart.
     ///
     /// Memory is taken as records are read. Then the place is the one behind the last. An error is the first fault: those
@@ -100,8 +120,7 @@ impl<'a> BinDecoder<'a> {
     {
         let mut additionals = Additionals::new(alloc);
         'additionals: for _ in 0..count {
-            let next = self.read_record(alloc)?;
-            additionals.add(alloc, next)?;
+            self.read_additional(alloc, &mut additionals)?;
         }
         Ok(additionals)
     }

@@ -1,6 +1,6 @@
 //! Reading a name from the bytes of a message.
 
-ghost use Rattle.std.specs.Prelude.{◌≡◌, ◌≢◌, ◌≤◌, ◌++◌, List, length, map, MatchResult, IfOk, IfSome, slice_get, ◌<◌, ◌+◌, true, Some, ℕ};
+ghost use Rattle.std.specs.Prelude.{◌≡◌, ◌≢◌, ◌≤◌, ◌++◌, List, length, map, MatchResult, IfOk, IfSome, slice_get, slice_range, ◌<◌, ◌+◌, true, Some, ℕ};
 ghost use Rattle.hickory_wire.specs.serialize.reading.KnownNames.{IsRest};
 ghost use Rattle.hickory_wire.specs.declared.error.DecodeError.TheVariants.{Memory, NameTooLong};
 ghost use Rattle.hickory_wire.specs.serialize.reading.NameReading.{labels_from, target};
@@ -99,9 +99,29 @@ fn name_with_rest(alloc: Global, labels: &mut Labels, rest: &[u8]) -> Result<Nam
     Ok(labels.to_name(alloc, true)?)
 }
 
-/// The name at a place, fully qualified, the place behind it, and how many steps were taken behind its first pointer: a step
-/// for each label and each pointer. What is known of the message is not walked again.
-pub(crate) fn read_name_at(
+/// Where the byte 0 stands that ends the name at a place, if the name stands there in full: labels one behind the other up
+/// to that byte, without a pointer, and with at most 255 bytes in all. It looks at the length bytes alone.
+fn plain_end(bytes: &[u8], from: usize) -> Option<usize>
+    ensures within { IfSome result (λ end. (from ≤ end) × (end < length bytes.now)) }
+    ensures wire { IfSome result (λ end. IsWire (slice_range bytes.now from end)) }
+    ensures reads { IfSome result (λ end. labels_from bytes.now from from 1 ≡ Ok (cut (slice_range bytes.now from end), end + 1)) }
+{
+    let mut place = from;
+    while place - from < MAX_NAME_LEN {
+        let high = usize::from(byte_at(bytes, place)?);
+        if high == 0 {
+            return Some(place);
+        }
+        if high >= LABEL_LIMIT {
+            return None;
+        }
+        place += 1 + high;
+    }
+    None
+}
+
+/// The same as `read_name_at`, label by label and from pointer to pointer.
+fn read_by_labels(
     alloc: Global,
     bytes: &[u8],
     from: usize,
@@ -147,5 +167,30 @@ pub(crate) fn read_name_at(
             start = target;
             place = target;
         }
+    }
+}
+
+/// The name at a place, fully qualified, the place behind it, and how many steps were taken behind its first pointer: a step
+/// for each label and each pointer. What is known of the message is not walked again.
+pub(crate) fn read_name_at(
+    alloc: Global,
+    bytes: &[u8],
+    from: usize,
+    known: &Option<KnownNames<'_>>,
+) -> Result<(Name, usize, usize), DecodeError>
+    requires { IfSome known.now (λ names. names ≡ bytes.now) }
+    ensures gives { MatchResult result
+        (λ x. labels_from bytes.now from from 1 ≡ Ok (x.0.labels, x.1))
+        (λ e. Fails e (labels_from bytes.now from from 1)) }
+    ensures qualified { IfOk result (λ x. x.0.is_fqdn ≡ true) }
+    ensures in_range { IfOk result (λ x. x.1 ≤ length bytes.now) }
+{
+    match plain_end(bytes, from) {
+        // It has no pointer, so no step was taken behind one.
+        Some(end) => {
+            let name = Name::from_wire(alloc, &bytes[from..end], true)?;
+            Ok((name, end + 1, 0))
+        }
+        None => read_by_labels(alloc, bytes, from, known),
     }
 }

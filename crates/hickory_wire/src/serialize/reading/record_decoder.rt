@@ -4,6 +4,7 @@ ghost use Rattle.std.specs.Prelude.{◌≡◌, ◌≢◌, ◌+◌, ◌^◌, ◌<
 ghost use Rattle.std.specs.Int.{w16};
 ghost use Rattle.hickory_wire.specs.serialize.reading.Reading.{Gives, GivesSeenBy, octets};
 ghost use Rattle.hickory_wire.specs.serialize.reading.RecordReading.{string, strings_until, counted_octets, soa, mx, tsig, form, record_data, resource, question};
+ghost use Rattle.hickory_wire.specs.serialize.reading.OptReading.{opt_fields};
 ghost use Rattle.hickory_wire.specs.serialize.layout.MessageLayout.{QuestionRead};
 ghost use Rattle.hickory_wire.specs.serialize.reading.RecordFaults.{QuestionFault, RecordFault};
 ghost use Rattle.hickory_wire.specs.serialize.layout.RecordLayout.{RecordAt};
@@ -13,6 +14,7 @@ ghost use Rattle.hickory_wire.specs.declared.rr.rdata.RData.{RData as Data};
 ghost use Rattle.hickory_wire.specs.declared.rr.record.Record.{Record as ResourceRecord};
 
 use crate::error::DecodeError;
+use crate::op::edns::Edns;
 use crate::op::query::Query;
 use crate::rr::dns_class::DNSClass;
 use crate::rr::rdata::{MX, RData, SOA};
@@ -212,6 +214,19 @@ impl<'a> BinDecoder<'a> {
             rdata,
             proof: Proof::Indeterminate,
         })
+    }
+
+    /// What an OPT record says, from the place behind its type on (RFC 6891 section 6.1.2).
+    #[tactic(auto, unfolding(crate::specs::serialize::reading::OptReading::opt_fields))]
+    pub(crate) fn read_opt_fields(&mut self, alloc: Global) -> Result<Edns, DecodeError>
+        ensures { Gives result self.old self.new opt_fields }
+    {
+        let class = self.read_u16()?;
+        let ttl = self.read_u32()?;
+        let len = self.read_u16()?;
+        let bytes = self.read_slice(usize::from(len))?;
+        let options = options_of(alloc, bytes)?;
+        Ok(Edns::from_opt(DNSClass::new(class), ttl, options))
     }
 
     /// The record at this place (RFC 1035 section 4.1.3): its owner name, type, class and TTL, and its data in the form of

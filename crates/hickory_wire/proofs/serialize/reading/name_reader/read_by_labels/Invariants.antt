@@ -3,7 +3,7 @@ use Rattle.std.specs.Prelude.{IfSome}
 use Rattle.hickory_wire.specs.serialize.reading.NameReading.{labels_from}
 use Rattle.hickory_wire.specs.rr.domain.DomainName.{wire_form}
 use Rattle.hickory_wire.proofs.lemmas.serialize.reading.LabelLoop.{with_front}
-use Rattle.hickory_wire.proofs.serialize.reading.name_reader.read_name_at.Given as goal
+use Rattle.hickory_wire.proofs.serialize.reading.name_reader.read_by_labels.Given as goal
 
 abbrev pub invariant-labels : goal.invariant-labels
 invariant-labels l = record {

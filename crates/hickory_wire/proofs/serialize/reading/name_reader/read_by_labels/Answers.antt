@@ -8,7 +8,7 @@ use Rattle.hickory_wire.proofs.lemmas.rr.domain.WireForm.{wire-push, name_len-wi
 use Rattle.hickory_wire.specs.rr.domain.DomainName.{wire_form, cut, DomainName}
 use Rattle.std.proofs.lemmas.List.{length-take, length-drop}
 use Rattle.std.proofs.Common.{length-append}
-use Rattle.hickory_wire.proofs.serialize.reading.name_reader.read_name_at.Goals as goal
+use Rattle.hickory_wire.proofs.serialize.reading.name_reader.read_by_labels.Goals as goal
 
 pub returns-in_default-byte_at-clause-gives : goal.returns-in_default-byte_at-clause-gives
 returns-in_default-byte_at-clause-gives c = λ _.
