@@ -49,8 +49,7 @@ module _ (t : ℕ) (c : In_ok-write_front t) where
 pub write_labels-requires : goal.write_labels-requires
 write_labels-requires t c =
     let k = (goal.at.write_labels-requires t c).In_ok-write_front in
-    let same : c.write_known.new.bytes.items ≡ c.write_front.new.bytes.items = search rules in
-    (
+    let same : c.write_known.new.bytes.items ≡ c.write_front.new.bytes.items = search rules in (
       omega (arith, (first t k).shorter, ap length (is_behind t k), c.decreases),
       (subst IsWire (sym (is_behind t k)) (first t k).is_wire, (search rules, omega (arith, ap length same, longer t k))),
     )

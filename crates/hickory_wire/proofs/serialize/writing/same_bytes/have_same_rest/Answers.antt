@@ -18,8 +18,7 @@ returns c =
     let last = length a - 8 in
     let front : take last a ≡ take last b = fewer last c.loop-place.place a b (omega (arith, c.loop-place-test.false)) c.loop-place.invariant in
     let read : Words a b (last + 8) c.word_at-2.result c.word_at-3.result =
-    words_at a b last 8 _ _ (omega arith) (omega (arith, c.requires.len)) c.word_at-2.ensures.bytes c.word_at-3.ensures.bytes front c.word_at-2.ensures.is c.word_at-3.ensures.is in
-    (
+    words_at a b last 8 _ _ (omega arith) (omega (arith, c.requires.len)) c.word_at-2.ensures.bytes c.word_at-3.ensures.bytes front c.word_at-2.ensures.is c.word_at-3.ensures.is in (
       λ t. same_whole (last + 8) a b c.requires.len (omega arith) (read.alike (eqb-true c.word_at-2.result c.word_at-3.result t)),
       λ e. let same : c.word_at-2.result ≡ c.word_at-3.result = c.word_at-2.ensures.is ∙ ap (λ s. big_endian 0 (take 8 (drop last s))) e ∙ sym c.word_at-3.ensures.is in search rules,
     )
