@@ -13,9 +13,9 @@ pairs notes = map (λ note. (note.suffix.now, note.place)) notes
 abbrev pub AreApart : Notes → Type 0
 AreApart notes = (k : ℕ) (d : List ℕ × ℕ) → k < length notes → first_place (slice_index_or notes k d).0 (take k notes) ≡ None
 
--- the bucket of a suffix, of 512
+-- the bucket of a suffix, of 1024
 unfoldable pub bucket : List ℕ → ℕ
-bucket suffix = finish (write initial suffix) % 512
+bucket suffix = finish (write initial suffix) % 1024
 
 abbrev pub buckets : List Note → List ℕ
 buckets notes = map (λ note. bucket note.suffix.now) notes
@@ -31,8 +31,8 @@ pub record IsLast (bucket : ℕ) (buckets : List ℕ) (last : ℕ) : Type 0 wher
 
 -- From each bucket's last note, each one leads to the one before it in the bucket.
 pub record AreLinked (notes : List Note) (lasts : List ℕ) : Type 0 where
-  pub each : length lasts ≡ 512
-  pub last : (b : ℕ) → b < 512 → IsLast b (buckets notes) (slice_index lasts b)
+  pub each : length lasts ≡ 1024
+  pub last : (b : ℕ) → b < 1024 → IsLast b (buckets notes) (slice_index lasts b)
   pub before : (i : ℕ) → i < length notes → IsLast (slice_index (buckets notes) i) (take i (buckets notes)) (slice_index (befores notes) i)
 
 -- A name that is kept was noted at its place.

@@ -15,7 +15,7 @@ struct Note<'n> {
     suffix: &'n [u8],
     place: u16,
     // Where the notes are linked, how many of them end with the one before it in its bucket, or 0 where it is the first there.
-    before: usize,
+    before: u16,
 }
 
 // A name in wire form, without the end byte, and the place where it was noted.
@@ -32,7 +32,7 @@ const FIRST_CAPACITY: usize = 16;
 const LIST_LEN: usize = 16;
 
 // The notes that are linked lie in so many buckets.
-const BUCKETS: usize = 512;
+const BUCKETS: usize = 1024;
 
 /// The names that were noted, each once, with the place where it stands, letter case kept.
 ///
@@ -41,7 +41,7 @@ const BUCKETS: usize = 512;
 pub(crate) struct CompressionTable<'n> {
     notes: Vec<Note<'n>>,
     // For each bucket, how many notes end with its last one, or 0 where it has none. Empty while the notes are searched one by one.
-    lasts: Vec<usize>,
+    lasts: Vec<u16>,
     // The owner name that was written last: the records of an RRset have the same, and names in their data often end in it.
     last_owner: Option<KeptName<'n>>,
     // The end of a name that a search found last, as the name of the zone, in which most names of a message end.
@@ -64,7 +64,7 @@ impl<'n> Model for CompressionTable<'n> {
 // The bucket of a suffix.
 fn bucket_of(suffix: &[u8]) -> usize
     ensures is { result ≡ bucket suffix.now }
-    ensures below { result < 512 }
+    ensures below { result < 1024 }
 {
     let mut hasher = FoldHasher::default();
     hasher.write(suffix);
@@ -76,7 +76,7 @@ fn bucket_of(suffix: &[u8]) -> usize
 fn known_bucket(in_bucket: Option<usize>, suffix: &[u8]) -> usize
     requires { IfSome in_bucket (λ b. b ≡ bucket suffix.now) }
     ensures is { result ≡ bucket suffix.now }
-    ensures below { result < 512 }
+    ensures below { result < 1024 }
 {
     match in_bucket {
         Some(known) => known,
@@ -85,6 +85,7 @@ fn known_bucket(in_bucket: Option<usize>, suffix: &[u8]) -> usize
 }
 
 // The first place of the suffix among the notes. Slices of other lengths are told apart by them.
+#[inline(never)]
 fn find_in(notes: &[Note<'_>], suffix: &[u8]) -> Option<u16>
     ensures { result ≡ first_place suffix.now (pairs notes.now) }
 {
@@ -97,13 +98,14 @@ fn find_in(notes: &[Note<'_>], suffix: &[u8]) -> Option<u16>
 }
 
 // The same among the notes of one bucket, from its last one on.
-fn find_linked(notes: &[Note<'_>], lasts: &[usize], in_bucket: usize, suffix: &[u8]) -> Option<u16>
+#[inline(always)]
+fn find_linked(notes: &[Note<'_>], lasts: &[u16], in_bucket: usize, suffix: &[u8]) -> Option<u16>
     requires linked { AreLinked notes.now lasts.now }
     requires apart { AreApart (pairs notes.now) }
     requires in_bucket { in_bucket ≡ bucket suffix.now }
     ensures { result ≡ first_place suffix.now (pairs notes.now) }
 {
-    let mut last = lasts[in_bucket];
+    let mut last = usize::from(lasts[in_bucket]);
     while last > 0 {
         let Note {
             suffix: noted,
@@ -113,7 +115,7 @@ fn find_linked(notes: &[Note<'_>], lasts: &[usize], in_bucket: usize, suffix: &[
         if are_same(noted, suffix) {
             return Some(place);
         }
-        last = before;
+        last = usize::from(before);
     }
     None
 }
@@ -122,7 +124,7 @@ fn find_linked(notes: &[Note<'_>], lasts: &[usize], in_bucket: usize, suffix: &[
 #[inline(always)]
 fn push_linked<'n>(
     notes: &mut Vec<Note<'n>>,
-    lasts: &mut [usize],
+    lasts: &mut [u16],
     in_bucket: usize,
     suffix: &'n [u8],
     place: u16,
@@ -133,13 +135,17 @@ fn push_linked<'n>(
     ensures err { OnErr result (pairs notes.new.items ≡ pairs notes.old.items) }
     ensures linked { AreLinked notes.new.items lasts.new }
 {
-    // Appended as a slice, which hands nothing back where memory is refused.
-    notes.extend_from_slice(&[Note {
+    // There are never so many: each note has a place of its own, and a pointer reaches no more than 2^14 of them.
+    if notes.len() >= usize::from(u16::MAX) {
+        return Err(AllocError);
+    }
+    notes.reserve(1)?;
+    notes.push_reserved(Note {
         suffix,
         place,
         before: lasts[in_bucket],
-    }])?;
-    lasts[in_bucket] = notes.len();
+    });
+    lasts[in_bucket] = notes.len() as u16;
     Ok(())
 }
 
@@ -147,9 +153,9 @@ fn push_linked<'n>(
 fn link<'n>(
     alloc: Global,
     notes: &[Note<'n>],
-    lasts: &mut [usize],
+    lasts: &mut [u16],
 ) -> Result<Vec<Note<'n>>, AllocError>
-    requires { lasts.old ≡ replicate 512 0 }
+    requires { lasts.old ≡ replicate 1024 0 }
     ensures same { IfOk result (λ linked. pairs linked.items ≡ pairs notes.now) }
     ensures linked { IfOk result (λ linked. AreLinked linked.items lasts.new) }
 {
@@ -167,7 +173,7 @@ fn link<'n>(
 }
 
 // Takes back the notes behind the first so many, the last one first, so that each bucket ends in the one before.
-fn unlink(notes: &mut Vec<Note<'_>>, lasts: &mut [usize], mark: usize)
+fn unlink(notes: &mut Vec<Note<'_>>, lasts: &mut [u16], mark: usize)
     requires { AreLinked notes.old.items lasts.old }
     ensures notes { notes.new.items ≡ take mark notes.old.items }
     ensures linked { AreLinked notes.new.items lasts.new }
@@ -212,6 +218,7 @@ impl<'n> CompressionTable<'n> {
     }
 
     /// The place where the suffix was noted, letter case kept. Its bucket is computed where it is not given.
+    #[inline(always)]
     pub(crate) fn find(&self, in_bucket: Option<usize>, suffix: &[u8]) -> Option<u16>
         requires { IfSome in_bucket (λ b. b ≡ bucket suffix.now) }
         ensures found { result ≡ first_place suffix.now self.now }
@@ -265,7 +272,7 @@ impl<'n> CompressionTable<'n> {
             return self.notes.reserve(FIRST_CAPACITY);
         }
         if self.lasts.is_empty() && self.notes.len() >= LIST_LEN {
-            let mut lasts = vec![in self.alloc; 0usize; BUCKETS]?;
+            let mut lasts = vec![in self.alloc; 0u16; BUCKETS]?;
             self.notes = link(self.alloc, &self.notes, &mut lasts)?;
             self.lasts = lasts;
         }

@@ -21,6 +21,12 @@ use crate::serialize::writing::record_encoder::{
 };
 use std::alloc::AllocError;
 
+// How many bytes most records take at most: an address of IPv6 whose owner name is a pointer takes as many.
+const USUAL_LEN: usize = 28;
+
+// So many records mostly fit into the memory that a reply begins with.
+const FEW_RECORDS: usize = 16;
+
 /// What was written of a list, and why it, or a list before it, could not be written on.
 #[derive(Clone, Copy)]
 pub(crate) struct Front {
@@ -48,6 +54,19 @@ pub(crate) fn drain<'a, I: Iterator<Item = &'a Record> + Drop>(records: I)
     for _record in records {}
 }
 
+// Takes the memory for so many records at once, as far as they can be written: growing step by step copies what was written before. For a few records
+// there is room from the start.
+#[inline(always)]
+fn make_room(bytes: &mut Vec<u8>, limit: u16, count: usize) -> Result<(), AllocError>
+    ensures { bytes.new.items ≡ bytes.old.items }
+{
+    if count <= FEW_RECORDS {
+        return Ok(());
+    }
+    let left = usize::from(limit).saturating_sub(bytes.len());
+    bytes.reserve(count.saturating_mul(USUAL_LEN).min(left))
+}
+
 // Puts the first records of a list behind the bytes, up to the one that passes the limit or has no form.
 fn write_records<'n, 'a: 'n, I: Iterator<Item = &'a Record> + Drop>(
     bytes: &mut Vec<u8>,
@@ -68,6 +87,7 @@ fn write_records<'n, 'a: 'n, I: Iterator<Item = &'a Record> + Drop>(
     ensures counted { IfOk result (λ run. length bytes.old.items + run.count ≤ length bytes.new.items) }
     ensures noted { OnOk result (AreNotes bytes.new.items (length bytes.new.items) table.new) }
 {
+    make_room(bytes, limit, records.size_hint().0)?;
     let mut count = 0u16;
     let mut ending = Ending::Whole;
     for record in records {

@@ -13,22 +13,29 @@ use std::alloc::AllocError;
 const POINTER_REACH: usize = 0x4000;
 
 // A pointer to this place.
+#[inline(always)]
 fn write_pointer(bytes: &mut Vec<u8>, place: u16) -> Result<(), AllocError>
     requires { place < 16384 }
     ensures { OnOk result (bytes.new.items ≡ bytes.old.items ++ (192 + place / 256) ∷ (place % 256) ∷ []) }
 {
-    bytes.extend_from_slice(&(0xc000 + place).to_be_bytes())
+    let [high, low] = (0xc000 + place).to_be_bytes();
+    bytes.reserve(2)?;
+    bytes.push_reserved(high);
+    bytes.push_reserved(low);
+    Ok(())
 }
 
 // Puts the first bytes of a wire form behind the bytes. Eight are copied at once where there are as many, which is cheaper than a few, and those that are
 // too many are taken back.
+#[inline(always)]
 fn write_front(bytes: &mut Vec<u8>, wire: &[u8], len: usize) -> Result<(), AllocError>
     requires { len ≤ length wire.now }
     ensures { OnOk result (bytes.new.items ≡ bytes.old.items ++ take len wire.now) }
 {
     if len <= 8 {
         if let Some(front) = wire.first_chunk::<8>() {
-            bytes.extend_from_slice(front)?;
+            let front = *front;
+            bytes.extend_from_slice(&front)?;
             bytes.truncate(bytes.len() - (8 - len));
             return Ok(());
         }
@@ -87,7 +94,9 @@ fn note_written<'n>(
 
 // Puts labels of this wire form, one at least, and their end behind the bytes, and notes what it wrote label by label. An owner name is kept, and else a
 // name that was found.
-fn write_labels<'n>(
+#[cycle(labels)]
+#[inline(always)]
+fn write_new_labels<'n>(
     bytes: &mut Vec<u8>,
     table: &mut CompressionTable<'n>,
     wire: &'n [u8],
@@ -115,6 +124,24 @@ fn write_labels<'n>(
     Ok(())
 }
 
+// The same, for the labels behind others. It is apart so that most names, of which all but the first label was written before, need no call.
+#[cycle(labels)]
+#[inline(never)]
+fn write_labels<'n>(
+    bytes: &mut Vec<u8>,
+    table: &mut CompressionTable<'n>,
+    wire: &'n [u8],
+    is_owner: bool,
+) -> Result<(), AllocError>
+    requires wire { IsWire wire.now }
+    requires labels { wire.now ≢ [] }
+    requires header { 12 ≤ length bytes.old.items }
+    ensures labels { OnOk result (WritesLabels bytes.old.items bytes.new.items table.old table.new wire.now) }
+    ensures compresses { OnOk result (Compresses bytes.old.items bytes.new.items table.old table.new wire.now) }
+{
+    write_new_labels(bytes, table, wire, is_owner)
+}
+
 /// Puts a name behind the bytes, and notes its labels.
 pub(crate) fn write_compressed_name<'n>(
     bytes: &mut Vec<u8>,
@@ -127,7 +154,7 @@ pub(crate) fn write_compressed_name<'n>(
 {
     let wire = name.as_wire();
     if !write_known(bytes, table, wire)? {
-        write_labels(bytes, table, wire, false)?;
+        write_new_labels(bytes, table, wire, false)?;
     }
     Ok(())
 }
@@ -145,7 +172,7 @@ pub(crate) fn write_owner<'n>(
 {
     let wire = name.as_wire();
     if !write_known(bytes, table, wire)? {
-        write_labels(bytes, table, wire, true)?;
+        write_new_labels(bytes, table, wire, true)?;
     }
     Ok(())
 }

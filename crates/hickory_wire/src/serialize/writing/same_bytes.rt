@@ -15,6 +15,7 @@ fn may_be_same(a: &[u8], b: &[u8]) -> bool
 }
 
 // Whether bytes of one length are the same behind the first eight. The last eight are compared at once, with some of those before them a second time.
+#[inline(always)]
 fn have_same_rest(a: &[u8], b: &[u8]) -> bool
     requires len { length a.now ≡ length b.now }
     requires front { 8 ≤ length a.now → take 8 a.now ≡ take 8 b.now }

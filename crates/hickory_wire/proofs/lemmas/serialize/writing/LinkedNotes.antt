@@ -12,10 +12,10 @@ use Rattle.hickory_wire.specs.serialize.writing.NameTable.{pairs, bucket, bucket
 use Rattle.hickory_wire.specs.declared.serialize.writing.compression_table.Note.{Note}
 use Rattle.hickory_wire.proofs.lemmas.serialize.writing.FirstPlaces.{pair, first_place-before, first_place-other, flipped_false, pairs-more, fresh_at, found_at}
 
-pub bucket_small : (s : List ℕ) → bucket s < 512
+pub bucket_small : (s : List ℕ) → bucket s < 1024
 unfolding bucket write
 bucket_small s =
-    let below : (n : ℕ) → n % 512 < 512 = λ n. omega arith in
+    let below : (n : ℕ) → n % 1024 < 1024 = λ n. omega arith in
     below (finish (write initial s))
 
 -- what is put back of a vector whose elements were written in place
@@ -100,8 +100,8 @@ module _ (notes : List Note) (n : Note) where
   this_front : take (length notes) (buckets (notes ++ n ∷ [])) ≡ buckets notes
   this_front = earlier_front (length notes) (omega arith) ∙ take_all (length notes) (buckets notes) (omega (arith, length-buckets notes))
 
-  module _ (lasts : List ℕ) (b_small : bucket n.suffix.now < 512) where
-    last_pushed : AreLinked notes lasts → (b : ℕ) → b < 512 → IsLast b (buckets (notes ++ n ∷ [])) (get_or (set lasts (bucket n.suffix.now) (length notes + 1)) b 0)
+  module _ (lasts : List ℕ) (b_small : bucket n.suffix.now < 1024) where
+    last_pushed : AreLinked notes lasts → (b : ℕ) → b < 1024 → IsLast b (buckets (notes ++ n ∷ [])) (get_or (set lasts (bucket n.suffix.now) (length notes + 1)) b 0)
     last_pushed h b small = elim (cases_eq b (bucket n.suffix.now)) [
       | inl e ↦
           let is : get_or (set lasts (bucket n.suffix.now) (length notes + 1)) b 0 ≡ length (buckets notes) + 1 = ap (λ c. get_or (set lasts (bucket n.suffix.now) (length notes + 1)) c 0) e ∙ get_or-set_same lasts (bucket n.suffix.now) (length notes + 1) 0 (omega (arith, h.each, b_small)) ∙ ap (λ l. l + 1) (sym (length-buckets notes)) in
@@ -126,7 +126,7 @@ module _ (notes : List Note) (n : Note) where
       before = before_pushed h e;
     }
 
-    last_popped : AreLinked (notes ++ n ∷ []) lasts → (b : ℕ) → b < 512 → IsLast b (buckets notes) (get_or (set lasts (bucket n.suffix.now) n.before) b 0)
+    last_popped : AreLinked (notes ++ n ∷ []) lasts → (b : ℕ) → b < 1024 → IsLast b (buckets notes) (get_or (set lasts (bucket n.suffix.now) n.before) b 0)
     last_popped h b small = elim (cases_eq b (bucket n.suffix.now)) [
       | inl e ↦
           let is : get_or (set lasts (bucket n.suffix.now) n.before) b 0 ≡ n.before = ap (λ c. get_or (set lasts (bucket n.suffix.now) n.before) c 0) e ∙ get_or-set_same lasts (bucket n.suffix.now) n.before 0 (omega (arith, h.each, b_small)) in
@@ -149,10 +149,10 @@ module _ (notes : List Note) (n : Note) where
       before = before_popped h;
     }
 
-pub AreLinked-none : AreLinked [] (replicate 512 0)
+pub AreLinked-none : AreLinked [] (replicate 1024 0)
 AreLinked-none = record {
-  each = length-replicate 512 zero;
-  last = λ b small. subst (λ last. IsLast b [] last) (sym (get_or-replicate 512 b zero zero small)) (last_of_none b);
+  each = length-replicate 1024 zero;
+  last = λ b small. subst (λ last. IsLast b [] last) (sym (get_or-replicate 1024 b zero zero small)) (last_of_none b);
   before = λ i lt. absurd (omega (arith, lt));
 }
 

@@ -5,4 +5,4 @@ use Rattle.hickory_wire.proofs.serialize.writing.compression_table.bucket_of.Goa
 
 pub returns-clause-is : goal.returns-clause-is
 unfolding bucket
-returns-clause-is c = ap (λ n. n % 512) (c.finish.ensures ∙ ap (λ (h : FoldHasher). h.state) (c.write.ensures ∙ ap (λ h. write h c.args.suffix.now) c.default-hasher.ensures))
+returns-clause-is c = ap (λ n. n % 1024) (c.finish.ensures ∙ ap (λ (h : FoldHasher). h.state) (c.write.ensures ∙ ap (λ h. write h c.args.suffix.now) c.default-hasher.ensures))

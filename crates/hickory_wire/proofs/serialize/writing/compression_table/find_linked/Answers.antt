@@ -17,9 +17,10 @@ bounds-lasts-in_bucket c = omega (arith, c.requires.in_bucket, bucket_small c.ar
 
 pub loop-last-init : goal.loop-last-init
 loop-last-init c =
-    let small : c.args.in_bucket < 512 = omega (arith, c.requires.in_bucket, bucket_small c.args.suffix.now) in
-    IsIn-first c.args.suffix.now c.args.notes.now (get_or c.args.lasts.now c.args.in_bucket 0)
-    (subst (λ b. IsLast b (buckets c.args.notes.now) (get_or c.args.lasts.now c.args.in_bucket 0)) c.requires.in_bucket (c.requires.linked.last c.args.in_bucket small))
+    let small : c.args.in_bucket < 1024 = omega (arith, c.requires.in_bucket, bucket_small c.args.suffix.now) in
+    subst (λ l. IsIn c.args.suffix.now c.args.notes.now l) (sym c.from-last.ensures)
+    (IsIn-first c.args.suffix.now c.args.notes.now (get_or c.args.lasts.now c.args.in_bucket 0)
+    (subst (λ b. IsLast b (buckets c.args.notes.now) (get_or c.args.lasts.now c.args.in_bucket 0)) c.requires.in_bucket (c.requires.linked.last c.args.in_bucket small)))
 
 -- the note that the chain has come to
 module _ (c : In-loop-last) where
@@ -51,7 +52,7 @@ pub loop-last-smaller : goal.loop-last-smaller
 loop-last-smaller c =
     let k = (goal.at.loop-last-smaller c).In-loop-last in
     let is : get_or c.args.notes.now (place k) (note k) ≡ note k = search rules in
-    omega (arith, c.loop-last-test.true, before_less c.args.suffix.now c.args.notes.now c.args.lasts.now (place k) (note k) (inside k) is c.requires.linked)
+    omega (arith, c.loop-last-test.true, c.from-last-in-loop-last.ensures, before_less c.args.suffix.now c.args.notes.now c.args.lasts.now (place k) (note k) (inside k) is c.requires.linked)
 
 pub loop-last-preserved : goal.loop-last-preserved
 loop-last-preserved c =
@@ -59,7 +60,8 @@ loop-last-preserved c =
     let is : get_or c.args.notes.now (place k) (note k) ≡ note k = search rules in
     let differ : (note k).suffix.now ≢ c.args.suffix.now = search rules in
     let other = false_from_ne_true (bytes_eq (note k).suffix.now c.args.suffix.now) (λ t. differ ((bytes_eq-Decides (note k).suffix.now c.args.suffix.now).0 t)) in
-    IsIn-next c.args.suffix.now c.args.notes.now c.args.lasts.now (place k) (note k) (inside k) is c.requires.linked (reached k) other
+    subst (λ l. IsIn c.args.suffix.now c.args.notes.now l) (sym c.from-last-in-loop-last.ensures)
+    (IsIn-next c.args.suffix.now c.args.notes.now c.args.lasts.now (place k) (note k) (inside k) is c.requires.linked (reached k) other)
 
 pub returns : goal.returns
 returns c =

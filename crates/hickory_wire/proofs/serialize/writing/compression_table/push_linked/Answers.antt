@@ -1,4 +1,4 @@
-use Rattle.std.proofs.Common.{arith, ◌≡◌, ◌+◌, ◌++◌, ◌∷◌, [], length, get_or, set, sym, ap, subst, length-append}
+use Rattle.std.proofs.Common.{rules, arith, ◌∙◌, ◌≡◌, ◌+◌, ◌++◌, ◌∷◌, [], length, get_or, set, sym, ap, subst, length-append}
 use Rattle.hickory_wire.specs.serialize.writing.NameTable.{bucket, AreLinked}
 use Rattle.hickory_wire.specs.declared.serialize.writing.compression_table.Note.{Note}
 use Rattle.hickory_wire.proofs.lemmas.serialize.writing.LinkedNotes.{bucket_small, AreLinked-push}
@@ -21,9 +21,10 @@ returns-clause-linked c =
     let notes = c.args.notes.now.items in
     let lasts = c.args.lasts.now in
     let n : Note = record { suffix = c.args.suffix; place = c.args.place; before = get_or lasts c.args.in_bucket 0 } in
-    let more : c.extend_from_slice.new.self.items ≡ notes ++ n ∷ [] = c.in_ok-extend_from_slice.ensures.items in
-    let long : c.len.result ≡ length notes + 1 = omega (arith, c.len.ensures, ap length more, length-append notes (n ∷ [])) in
+    let same : c.reserve.new.self.items ≡ notes = search rules in
+    let more : c.push_reserved.new.self.items ≡ notes ++ n ∷ [] = c.push_reserved.ensures.items ∙ ap (λ ns. ns ++ n ∷ []) same in
+    let long : c.len-2.result ≡ length notes + 1 = omega (arith, c.len-2.ensures, ap length more, length-append notes (n ∷ [])) in
     let linked = AreLinked-push notes n lasts (bucket_small c.args.suffix.now) c.requires.linked (ap (λ b. get_or lasts b 0) c.requires.in_bucket) in
-    subst (λ ns. AreLinked ns (set lasts c.args.in_bucket c.len.result)) (sym more)
-    (subst (λ b. AreLinked (notes ++ n ∷ []) (set lasts b c.len.result)) (sym c.requires.in_bucket)
+    subst (λ ns. AreLinked ns (set lasts c.args.in_bucket c.len-2.result)) (sym more)
+    (subst (λ b. AreLinked (notes ++ n ∷ []) (set lasts b c.len-2.result)) (sym c.requires.in_bucket)
     (subst (λ l. AreLinked (notes ++ n ∷ []) (set lasts (bucket c.args.suffix.now) l)) (sym long) linked))

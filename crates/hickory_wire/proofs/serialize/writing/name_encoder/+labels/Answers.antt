@@ -2,23 +2,23 @@ use Rattle.std.proofs.Common.{rules, arith, ◌≡◌, ◌≢◌, ◌∙◌, ℕ
 use Rattle.hickory_wire.specs.rr.domain.DomainName.{IsWire}
 use Rattle.hickory_wire.specs.serialize.writing.Noted.{Notes, first_place, WritesLabels, Compresses}
 use Rattle.hickory_wire.proofs.lemmas.serialize.writing.NameSteps.{Rest, rest_of, writes_pointer, writes_label, writes_noted, still_fresh, compresses_pointer, compresses_noted}
-use Rattle.hickory_wire.proofs.serialize.writing.name_encoder.+write_labels.Goals as goal
-use Rattle.hickory_wire.proofs.serialize.writing.name_encoder.+write_labels.Goals.{In_ok-write_front, In_ok-note_written, then-not-branch+in_ok-write_labels, else-not-branch}
+use Rattle.hickory_wire.proofs.serialize.writing.name_encoder.+labels.Goals as goal
+use Rattle.hickory_wire.proofs.serialize.writing.name_encoder.+labels.Goals.{write_new_labels-In_ok-write_front, write_new_labels-In_ok-note_written, write_new_labels-then-not-branch+in_ok-write_labels, write_new_labels-else-not-branch}
 
-pub returns-in-Some-clause-labels : goal.returns-in-Some-clause-labels
-returns-in-Some-clause-labels t c =
+pub write_new_labels-returns-in-Some-clause-labels : goal.write_new_labels-returns-in-Some-clause-labels
+write_new_labels-returns-in-Some-clause-labels t c =
     let f : first_place c.args.wire.now c.args.table.now ≡ Some c.in-Some.place = sym c.in-Some.ensures.found in
     subst (λ ns. WritesLabels c.args.bytes.now.items c.write_pointer.new.bytes.items c.args.table.now ns c.args.wire.now) (sym c.keep.ensures)
     (writes_pointer _ _ c.args.wire.now _ c.in-Some.place c.requires.header c.requires.labels c.in_ok-write_pointer.ensures f)
 
-pub returns-in-Some-clause-compresses : goal.returns-in-Some-clause-compresses
-returns-in-Some-clause-compresses t c =
+pub write_new_labels-returns-in-Some-clause-compresses : goal.write_new_labels-returns-in-Some-clause-compresses
+write_new_labels-returns-in-Some-clause-compresses t c =
     let f : first_place c.args.wire.now c.args.table.now ≡ Some c.in-Some.place = sym c.in-Some.ensures.found in
     subst (λ ns. Compresses c.args.bytes.now.items c.write_pointer.new.bytes.items c.args.table.now ns c.args.wire.now) (sym c.keep.ensures)
     (compresses_pointer _ _ c.args.wire.now _ c.in-Some.place c.in_ok-write_pointer.ensures f)
 
 -- the labels behind the first one, before they are written
-module _ (t : ℕ) (c : In_ok-write_front t) where
+module _ (t : ℕ) (c : write_new_labels-In_ok-write_front t) where
   abbrev behind : List ℕ
   behind = drop (1 + get_or c.args.wire.now 0 0) c.args.wire.now
 
@@ -46,48 +46,48 @@ module _ (t : ℕ) (c : In_ok-write_front t) where
   fresh : (new : List ℕ) (notes : Notes) → WritesLabels c.write_front.new.bytes.items new c.args.table.now notes c.split_at.result.1.now → first_place c.args.wire.now notes ≡ None
   fresh new notes w = still_fresh c.args.wire.now (length c.split_at.result.1.now) c.args.table.now notes unnoted w.adds (omega (arith, first.shorter, ap length is_behind))
 
-pub write_labels-requires : goal.write_labels-requires
-write_labels-requires t c =
-    let k = (goal.at.write_labels-requires t c).In_ok-write_front in
+pub write_new_labels-write_labels-requires : goal.write_new_labels-write_labels-requires
+write_new_labels-write_labels-requires t c =
+    let k = (goal.at.write_new_labels-write_labels-requires t c).In_ok-write_front in
     let same : c.write_known.new.bytes.items ≡ c.write_front.new.bytes.items = search rules in (
       omega (arith, (first t k).shorter, ap length (is_behind t k), c.decreases),
       (subst IsWire (sym (is_behind t k)) (first t k).is_wire, (search rules, omega (arith, ap length same, longer t k))),
     )
 
 -- how the rest was written, either way
-module _ (t : ℕ) (c : In_ok-note_written t) where
+module _ (t : ℕ) (c : write_new_labels-In_ok-note_written t) where
   rest_written : WritesLabels c.write_front.new.bytes.items c.if-not-branch.bytes.items c.args.table.now c.if-not-branch.table c.split_at.result.1.now
   rest_written =
       elim c.if-not-branch.branch [
-        | then-not-branch+in_ok-write_labels w ↦
+        | write_new_labels-then-not-branch+in_ok-write_labels w ↦
             let same : c.write_known.new.bytes.items ≡ c.write_front.new.bytes.items = search rules in
             subst (λ b. WritesLabels b c.if-not-branch.bytes.items c.args.table.now c.if-not-branch.table c.split_at.result.1.now) same
             (subst (λ b. WritesLabels c.write_known.new.bytes.items b.items c.args.table.now c.if-not-branch.table c.split_at.result.1.now) (sym w.bytes-is)
             (subst (λ ns. WritesLabels c.write_known.new.bytes.items w.write_labels.new.bytes.items c.args.table.now ns c.split_at.result.1.now) (sym w.table-is) w.in_ok-write_labels.ensures.labels))
-        | else-not-branch w ↦
+        | write_new_labels-else-not-branch w ↦
             let known : WritesLabels c.write_front.new.bytes.items c.write_known.new.bytes.items c.args.table.now c.args.table.now c.split_at.result.1.now = search rules in
             subst (λ b. WritesLabels c.write_front.new.bytes.items b.items c.args.table.now c.if-not-branch.table c.split_at.result.1.now) (sym w.bytes-is)
             (subst (λ ns. WritesLabels c.write_front.new.bytes.items c.write_known.new.bytes.items c.args.table.now ns c.split_at.result.1.now) (sym w.table-is) known)
       ]
 
-pub note_written-requires-clause-fresh : goal.note_written-requires-clause-fresh
-note_written-requires-clause-fresh t c =
-    let k = (goal.at.note_written-requires-clause-fresh t c).In_ok-write_front in
+pub write_new_labels-note_written-requires-clause-fresh : goal.write_new_labels-note_written-requires-clause-fresh
+write_new_labels-note_written-requires-clause-fresh t c =
+    let k = (goal.at.write_new_labels-note_written-requires-clause-fresh t c).In_ok-write_front in
     elim c.if-not-branch.branch [
-      | then-not-branch+in_ok-write_labels w ↦
+      | write_new_labels-then-not-branch+in_ok-write_labels w ↦
           let same : c.write_known.new.bytes.items ≡ c.write_front.new.bytes.items = search rules in
           let r = subst (λ b. WritesLabels b w.write_labels.new.bytes.items c.args.table.now w.write_labels.new.table c.split_at.result.1.now) same w.in_ok-write_labels.ensures.labels in
           ap (λ ns. first_place c.args.wire.now ns) w.table-is ∙ fresh t k w.write_labels.new.bytes.items w.write_labels.new.table r
-      | else-not-branch w ↦ ap (λ ns. first_place c.args.wire.now ns) w.table-is ∙ unnoted t k
+      | write_new_labels-else-not-branch w ↦ ap (λ ns. first_place c.args.wire.now ns) w.table-is ∙ unnoted t k
     ]
 
-pub returns-clause-labels : goal.returns-clause-labels
-returns-clause-labels t c =
-    let k = (goal.at.returns-clause-labels t c).In_ok-write_front in
-    let r = rest_written t (goal.at.returns-clause-labels t c).In_ok-note_written in
+pub write_new_labels-returns-clause-labels : goal.write_new_labels-returns-clause-labels
+write_new_labels-returns-clause-labels t c =
+    let k = (goal.at.write_new_labels-returns-clause-labels t c).In_ok-write_front in
+    let r = rest_written t (goal.at.write_new_labels-returns-clause-labels t c).In_ok-note_written in
     writes_noted c.args.bytes.now.items c.if-not-branch.bytes.items c.args.wire.now c.args.table.now c.if-not-branch.table c.note_written.new.table c.len-place.result (whole t k c.if-not-branch.bytes.items c.if-not-branch.table r) (search rules) c.in_ok-note_written.ensures.near c.in_ok-note_written.ensures.far
 
-pub returns-clause-compresses : goal.returns-clause-compresses
-returns-clause-compresses t c =
-    let k = (goal.at.returns-clause-compresses t c).In_ok-write_front in
+pub write_new_labels-returns-clause-compresses : goal.write_new_labels-returns-clause-compresses
+write_new_labels-returns-clause-compresses t c =
+    let k = (goal.at.write_new_labels-returns-clause-compresses t c).In_ok-write_front in
     compresses_noted c.args.bytes.now.items c.if-not-branch.bytes.items c.args.wire.now c.args.table.now c.if-not-branch.table c.note_written.new.table c.len-place.result (unnoted t k) (search rules) c.in_ok-note_written.ensures.near
