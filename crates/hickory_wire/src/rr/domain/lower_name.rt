@@ -10,9 +10,7 @@ ghost use Rattle.hickory_wire.specs.rr.domain.NameOrder.{Encloses, IsSharedEnd, 
 ghost use Rattle.hickory_wire.specs.rr.domain.NameHash.{name_hash_input, name_hash_alike};
 
 use crate::rr::domain::name::Name;
-use crate::rr::domain::order_key::{
-    compare_keys, escaped_len, make_order_key, shared_len, wire_len,
-};
+use crate::rr::domain::order_key::{escaped_len, make_order_key, shared_len, wire_len};
 use crate::rr::domain::wire::Wire;
 use std::alloc::{AllocError, Global};
 use std::cmp::Ordering;
@@ -138,7 +136,7 @@ impl Ord for LowerName {
 
     fn cmp(&self, other: &LowerName) -> Ordering {
         let marks = self.name.is_fqdn().cmp(&other.name.is_fqdn());
-        compare_keys(self.key.as_slice(), other.key.as_slice()).then(marks)
+        self.key.compare(&other.key).then(marks)
     }
 }
 

@@ -2,15 +2,20 @@
 
 ghost use Rattle.std.specs.Prelude.{◌≡◌, ◌≤◌, [], length, take, drop, map, IfOk};
 ghost use Rattle.std.specs.Char.{to_ascii_lowercase};
+ghost use Rattle.std.specs.Cmp.Lexicographic.{slice_cmp};
+ghost use Rattle.std.specs.Ordering.{nat_cmp};
 ghost use Rattle.hickory_wire.specs.rr.domain.NameBytes.{wire_bytes};
 
+use crate::rr::domain::order_key::compare_keys;
+use crate::values::words::word_at;
 use std::alloc::{AllocError, Global};
+use std::cmp::Ordering;
 use std::marker::Model;
 
 /// So many bytes take no memory of their own. Most names and most question sections are no longer.
 const SHORT_LEN: usize = 30;
 
-/// A few bytes in an array.
+/// A few bytes in an array. Behind them it is zero, so that they can be compared without a look at how many they are.
 #[derive(Drop)]
 pub(crate) struct ShortBytes {
     bytes: [u8; SHORT_LEN],
@@ -18,13 +23,33 @@ pub(crate) struct ShortBytes {
 }
 
 impl Model for ShortBytes {
-    ghost use Rattle.std.specs.Prelude.{List, ℕ, take, ◌≤◌};
+    ghost use Rattle.std.specs.Prelude.{List, ℕ, take, drop, replicate, ◌≤◌, ◌-◌, ◌≡◌};
 
     ghost Value = { List ℕ };
 
     ghost view = { λ short. take short.len short.bytes };
 
-    ghost invariant = { λ short. short.len ≤ 30 };
+    ghost invariant = { λ short. (short.len ≤ 30) × (drop short.len short.bytes ≡ replicate (30 - short.len) 0) };
+}
+
+/// Arrays compared eight bytes at a time, two of them twice.
+#[inline(always)]
+fn compare_words(a: &[u8; SHORT_LEN], b: &[u8; SHORT_LEN]) -> Ordering
+    ensures { result ≡ slice_cmp nat_cmp a.now b.now }
+{
+    let (x, y) = (word_at(a, 0), word_at(b, 0));
+    if x != y {
+        return x.cmp(&y);
+    }
+    let (x, y) = (word_at(a, 8), word_at(b, 8));
+    if x != y {
+        return x.cmp(&y);
+    }
+    let (x, y) = (word_at(a, 16), word_at(b, 16));
+    if x != y {
+        return x.cmp(&y);
+    }
+    word_at(a, 22).cmp(&word_at(b, 22))
 }
 
 impl ShortBytes {
@@ -82,8 +107,8 @@ impl ShortBytes {
         requires { count ≤ length self.old }
         ensures { self.new ≡ drop count self.old }
     {
-        self.bytes.copy_within(count.., 0);
-        self.len -= count as u8;
+        let rest = ShortBytes::from_slice(&self.bytes[count..usize::from(self.len)]);
+        *self = rest;
     }
 
     /// Leaves the first bytes alone.
@@ -92,8 +117,17 @@ impl ShortBytes {
         ensures { self.new ≡ take len self.old }
     {
         if len < usize::from(self.len) {
+            self.bytes[len..].fill(0);
             self.len = len as u8;
         }
+    }
+
+    /// Compares them as lists of bytes compare: the first bytes that differ decide, and where none do, the lengths.
+    #[inline(always)]
+    fn compare(&self, other: &ShortBytes) -> Ordering
+        ensures { result ≡ slice_cmp nat_cmp self.now other.now }
+    {
+        compare_words(&self.bytes, &other.bytes).then(self.len.cmp(&other.len))
     }
 }
 
@@ -178,6 +212,20 @@ impl Wire {
             Wire::Long(bytes) => remove_front(bytes, count),
         }
     }
+
+    /// Compares them as lists of bytes compare.
+    #[inline(always)]
+    pub(crate) fn compare(&self, other: &Wire) -> Ordering
+        ensures { result ≡ slice_cmp nat_cmp (wire_bytes self.now) (wire_bytes other.now) }
+    {
+        if let Wire::Short(bytes) = self {
+            if let Wire::Short(others) = other {
+                return bytes.compare(others);
+            }
+        }
+        compare_keys(self.as_slice(), other.as_slice())
+    }
+
     /// Leaves the first bytes alone.
     pub(crate) fn truncate(&mut self, len: usize)
         requires { len ≤ length (wire_bytes self.old) }

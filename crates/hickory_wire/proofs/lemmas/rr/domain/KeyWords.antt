@@ -20,10 +20,10 @@ stays_less (suc n) a b (x ∷ xs) (y ∷ ys) p q s l =
     let small : x < 256 = s 0 in
     stays_less n (a * 256 + x) (b * 256 + y) xs ys (omega arith) (omega arith) (λ k. s (suc k)) (omega arith)
 
-less_is : (a b : ℕ) → a < b → nat_cmp a b ≡ Less
+pub less_is : (a b : ℕ) → a < b → nat_cmp a b ≡ Less
 less_is a b l = sym (nat_cmp_is a b Less l)
 
-greater_is : (a b : ℕ) → b < a → nat_cmp a b ≡ Greater
+pub greater_is : (a b : ℕ) → b < a → nat_cmp a b ≡ Greater
 greater_is a b l = sym (nat_cmp_is a b Greater l)
 
 equal_is : (a : ℕ) → nat_cmp a a ≡ Equal
@@ -92,7 +92,7 @@ words_at xs ys i n v w p q s t e is also =
 pub fewer : (m n : ℕ) (xs ys : List ℕ) → m ≤ n → take n xs ≡ take n ys → take m xs ≡ take m ys
 fewer m n xs ys h e = sym (take-take m n xs h) ∙ ap (take m) e ∙ take-take m n ys h
 
-both_more : (a b : ℕ) (o : Ordering) → MatchOrdering o (a < b) (a ≡ b) (b < a) → o ≡ nat_cmp (suc a) (suc b)
+pub both_more : (a b : ℕ) (o : Ordering) → MatchOrdering o (a < b) (a ≡ b) (b < a) → o ≡ nat_cmp (suc a) (suc b)
 both_more a b Less l = let below : a < b = l in nat_cmp_is (suc a) (suc b) Less (omega arith)
 both_more a b Equal l = let level : a ≡ b = l in nat_cmp_is (suc a) (suc b) Equal (omega arith)
 both_more a b Greater l = let above : b < a = l in nat_cmp_is (suc a) (suc b) Greater (omega arith)
