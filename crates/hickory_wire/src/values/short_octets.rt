@@ -1,6 +1,6 @@
 //! Bytes that are mostly few.
 
-ghost use Rattle.std.specs.Prelude.{◌≡◌, length, IfOk};
+ghost use Rattle.std.specs.Prelude.{◌≡◌, IfOk};
 
 use crate::rr::domain::wire::Wire;
 use std::alloc::{AllocError, Global};
@@ -38,12 +38,5 @@ impl ShortOctets {
         ensures { result.now ≡ self.now }
     {
         self.bytes.as_slice()
-    }
-
-    /// How many bytes there are.
-    pub fn len(&self) -> usize
-        ensures { result ≡ length self.now }
-    {
-        self.as_slice().len()
     }
 }

@@ -135,8 +135,10 @@ impl Ord for LowerName {
     ghost matches_eq = { Prim.search (comparing, rules) };
 
     fn cmp(&self, other: &LowerName) -> Ordering {
-        let marks = self.name.is_fqdn().cmp(&other.name.is_fqdn());
-        self.key.compare(&other.key).then(marks)
+        match self.key.compare(&other.key) {
+            Ordering::Equal => self.name.is_fqdn().cmp(&other.name.is_fqdn()),
+            decided => decided,
+        }
     }
 }
 

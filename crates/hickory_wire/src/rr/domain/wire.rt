@@ -127,7 +127,10 @@ impl ShortBytes {
     fn compare(&self, other: &ShortBytes) -> Ordering
         ensures { result ≡ slice_cmp nat_cmp self.now other.now }
     {
-        compare_words(&self.bytes, &other.bytes).then(self.len.cmp(&other.len))
+        match compare_words(&self.bytes, &other.bytes) {
+            Ordering::Equal => self.len.cmp(&other.len),
+            decided => decided,
+        }
     }
 }
 

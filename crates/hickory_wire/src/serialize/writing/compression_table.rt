@@ -46,6 +46,8 @@ pub(crate) struct CompressionTable<'n> {
     last_owner: Option<KeptName<'n>>,
     // The end of a name that a search found last, as the name of the zone, in which most names of a message end.
     last_target: Option<KeptName<'n>>,
+    // How many notes to have memory for once they are linked.
+    expected: usize,
     alloc: Global,
 }
 
@@ -149,9 +151,10 @@ fn push_linked<'n>(
     Ok(())
 }
 
-// The same notes, linked in buckets of which none had any.
+// The same notes, linked in buckets of which none had any, with memory for as many as are expected.
 fn link<'n>(
     alloc: Global,
+    expected: usize,
     notes: &[Note<'n>],
     lasts: &mut [u16],
 ) -> Result<Vec<Note<'n>>, AllocError>
@@ -159,7 +162,7 @@ fn link<'n>(
     ensures same { IfOk result (λ linked. pairs linked.items ≡ pairs notes.now) }
     ensures linked { IfOk result (λ linked. AreLinked linked.items lasts.new) }
 {
-    let mut linked = Vec::with_capacity(alloc, 4 * LIST_LEN)?;
+    let mut linked = Vec::with_capacity(alloc, expected.max(4 * LIST_LEN))?;
     for note in notes {
         push_linked(
             &mut linked,
@@ -195,8 +198,17 @@ impl<'n> CompressionTable<'n> {
             lasts: Vec::new(alloc),
             last_owner: None,
             last_target: None,
+            expected: 0,
             alloc,
         }
+    }
+
+    /// Tells how many notes may come, so that linking them takes the memory for all at once. It takes none itself.
+    #[inline(always)]
+    pub(crate) fn expect(&mut self, count: usize)
+        ensures { self.new ≡ self.old }
+    {
+        self.expected = count;
     }
 
     /// How many notes there are, for `take_back`.
@@ -273,7 +285,7 @@ impl<'n> CompressionTable<'n> {
         }
         if self.lasts.is_empty() && self.notes.len() >= LIST_LEN {
             let mut lasts = vec![in self.alloc; 0u16; BUCKETS]?;
-            self.notes = link(self.alloc, &self.notes, &mut lasts)?;
+            self.notes = link(self.alloc, self.expected, &self.notes, &mut lasts)?;
             self.lasts = lasts;
         }
         Ok(())

@@ -24,6 +24,12 @@ use std::alloc::AllocError;
 // How many bytes most records take at most: an address of IPv6 whose owner name is a pointer takes as many.
 const USUAL_LEN: usize = 28;
 
+// How many bytes a record takes at least: that of the root, ten more, and no data.
+const LEAST_LEN: usize = 11;
+
+// How many names most records have at most: that of the owner, and one in the data.
+const USUAL_NAMES: usize = 2;
+
 // So many records mostly fit into the memory that a reply begins with.
 const FEW_RECORDS: usize = 16;
 
@@ -54,16 +60,23 @@ pub(crate) fn drain<'a, I: Iterator<Item = &'a Record> + Drop>(records: I)
     for _record in records {}
 }
 
-// Takes the memory for so many records at once, as far as they can be written: growing step by step copies what was written before. For a few records
-// there is room from the start.
+// Takes the memory for so many records at once, as far as they can be written, and tells the table how many names may come: growing step by step copies what
+// was there before. For a few records there is room from the start.
 #[inline(always)]
-fn make_room(bytes: &mut Vec<u8>, limit: u16, count: usize) -> Result<(), AllocError>
-    ensures { bytes.new.items ≡ bytes.old.items }
+fn make_room(
+    bytes: &mut Vec<u8>,
+    table: &mut CompressionTable<'_>,
+    limit: u16,
+    count: usize,
+) -> Result<(), AllocError>
+    ensures bytes { bytes.new.items ≡ bytes.old.items }
+    ensures table { table.new ≡ table.old }
 {
     if count <= FEW_RECORDS {
         return Ok(());
     }
     let left = usize::from(limit).saturating_sub(bytes.len());
+    table.expect(count.saturating_mul(USUAL_NAMES).min(left / LEAST_LEN));
     bytes.reserve(count.saturating_mul(USUAL_LEN).min(left))
 }
 
@@ -87,7 +100,7 @@ fn write_records<'n, 'a: 'n, I: Iterator<Item = &'a Record> + Drop>(
     ensures counted { IfOk result (λ run. length bytes.old.items + run.count ≤ length bytes.new.items) }
     ensures noted { OnOk result (AreNotes bytes.new.items (length bytes.new.items) table.new) }
 {
-    make_room(bytes, limit, records.size_hint().0)?;
+    make_room(bytes, table, limit, records.size_hint().0)?;
     let mut count = 0u16;
     let mut ending = Ending::Whole;
     for record in records {

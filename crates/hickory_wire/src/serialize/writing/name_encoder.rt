@@ -45,9 +45,9 @@ fn write_front(bytes: &mut Vec<u8>, wire: &[u8], len: usize) -> Result<(), Alloc
 
 // Ends a name that is at its end byte, or goes on as one that was written last. Answers whether that is so; else nothing was written.
 #[inline(always)]
-fn write_known<'n>(
+fn write_known(
     bytes: &mut Vec<u8>,
-    table: &CompressionTable<'n>,
+    table: &CompressionTable<'_>,
     wire: &[u8],
 ) -> Result<bool, AllocError>
     requires header { 12 ≤ length bytes.old.items }

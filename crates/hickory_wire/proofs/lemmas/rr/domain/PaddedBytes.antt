@@ -77,6 +77,12 @@ by_rooms room m n xs ys long long' le le' e e' =
     ∙ ap (λ k. ordering_then (slice_cmp nat_cmp (take m xs ++ replicate (room - m) zero) (take n ys ++ replicate (room - n) zero)) (nat_cmp (length (take m xs)) k)) (sym size')
     ∙ padded (take m xs) (take n ys) (room - m) (room - n) (omega (arith, size, size', le, le'))
 
+-- what is not equal decides, whatever comes behind it
+pub decided : (o next : Ordering) → (o ≡ Equal → ⊥) → o ≡ ordering_then o next
+decided Less next f = refl
+decided Equal next f = absurd (f refl)
+decided Greater next f = refl
+
 -- The last words decide, where they are all that is left.
 pub last_words : (n : ℕ) (xs ys : List ℕ) (v w : ℕ) → length xs ≡ n → length ys ≡ n → Words xs ys n v w → nat_cmp v w ≡ slice_cmp nat_cmp xs ys
 last_words n xs ys v w long long' read = elim (cases_eq v w) [

@@ -38,4 +38,4 @@ returns c =
     let front : take 22 c.args.a.now ≡ take 22 c.args.b.now = fewer 22 24 c.args.a.now c.args.b.now (omega arith) (third.alike c.if-x-y-3.false) in
     c.cmp-2.ensures
     ∙ last_words 30 c.args.a.now c.args.b.now _ _ (omega arith) (omega arith)
-      (words_at c.args.a.now c.args.b.now 22 8 _ _ (omega arith) (omega arith) c.word_at-x.ensures.bytes c.word_at-y.ensures.bytes front c.word_at.ensures.is c.word_at-2.ensures.is)
+    (words_at c.args.a.now c.args.b.now 22 8 _ _ (omega arith) (omega arith) c.word_at-x.ensures.bytes c.word_at-y.ensures.bytes front c.word_at.ensures.is c.word_at-2.ensures.is)
