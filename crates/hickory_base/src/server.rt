@@ -16,8 +16,8 @@ use std::net::SocketAddr;
 /// A request: a message, the bytes that it was read from, and where it came from.
 #[derive(Drop)]
 pub struct Request {
-    message: MessageRequest,
-    bytes: Octets,
+    pub(crate) message: MessageRequest,
+    pub(crate) bytes: Octets,
     source: SocketAddr,
     protocol: Protocol,
 }

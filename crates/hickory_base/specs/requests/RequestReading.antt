@@ -1,16 +1,17 @@
 -- Requests as they are read (RFC 1035 section 4.1).
 use Rattle.std.specs.Prelude.{◌≡◌, ◌≢◌, ℕ, List, [], Ok, slice_range}
 use Rattle.hickory_wire.specs.serialize.reading.Cursor.{Cursor}
-use Rattle.hickory_wire.specs.serialize.layout.MessageLayout.{ItemsAt, QuestionRead}
+use Rattle.hickory_wire.specs.serialize.layout.MessageLayout.{ItemsAt, QuestionRead, high_code, with_high_code}
 use Rattle.hickory_wire.specs.serialize.reading.MessageReading.{Fault}
 use Rattle.hickory_wire.specs.serialize.reading.Reading.{Read, ◌>>=◌}
 use Rattle.hickory_wire.specs.serialize.reading.RecordReading.{question}
-use Rattle.hickory_wire.specs.serialize.reading.SectionReading.{header, items}
+use Rattle.hickory_wire.specs.serialize.reading.SectionReading.{header, items, section_record, additionals_after, no_additionals}
 use Rattle.hickory_wire.specs.declared.error.DecodeError.{DecodeError}
 use Rattle.hickory_wire.specs.declared.error.DecodeError.TheVariants.{Memory}
 use Rattle.hickory_wire.specs.declared.error.ProtoError.{ProtoError}
 use Rattle.hickory_wire.specs.declared.error.ProtoError.TheVariants.{Decode}
 use Rattle.hickory_wire.specs.declared.op.header.Header.{Header}
+use Rattle.hickory_wire.specs.declared.op.header.HeaderCounts.{HeaderCounts}
 use Rattle.hickory_wire.specs.declared.op.message.Message.{Message}
 use Rattle.hickory_base.specs.requests.Questions.{QuestionSection}
 use Rattle.hickory_base.specs.declared.requests.message_request.MessageRequest.{MessageRequest}
@@ -18,6 +19,23 @@ use Rattle.hickory_base.specs.declared.requests.message_request.MessageRequest.{
 -- so many questions, and the bytes from the first of them to the place behind the last
 unfoldable pub question_section : ℕ → Cursor → Read QuestionSection
 question_section count c = items question count [] c >>= λ queries. Ok (record { queries = queries.0; bytes = slice_range c.bytes c.place queries.1.place }, queries.1)
+
+-- so many records of the additional section, and what its OPT record says, put into a message that has none
+unfoldable pub additionals_of : MessageRequest → ℕ → Cursor → Read MessageRequest
+additionals_of m count c = additionals_after count no_additionals c >>= λ extras. Ok (
+  record m {
+    metadata = with_high_code m.metadata (high_code extras.0.edns);
+    additionals = extras.0.records;
+    signature = extras.0.signature;
+    edns = extras.0.edns;
+  },
+  extras.1,
+)
+
+-- the records behind the questions, put into a message that has none
+unfoldable pub sections : MessageRequest → HeaderCounts → Cursor → Read MessageRequest
+sections m counts c = items section_record counts.answers [] c >>= λ answers. items section_record counts.authorities [] answers.1 >>= λ authorities.
+    additionals_of (record m { answers = answers.0; authorities = authorities.0 }) counts.additionals authorities.1
 
 -- the message of a request
 abbrev pub message_of : MessageRequest → Message

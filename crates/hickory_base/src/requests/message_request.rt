@@ -44,8 +44,8 @@ impl Questions {
 /// The questions of a request, and the bytes that hold them.
 #[derive(Drop)]
 pub struct Queries {
-    queries: Questions,
-    original: ShortOctets,
+    pub(crate) queries: Questions,
+    pub(crate) original: ShortOctets,
 }
 
 impl Model for Queries {

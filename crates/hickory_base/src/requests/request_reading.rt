@@ -1,13 +1,12 @@
 //! Reading requests (RFC 1035 section 4.1).
 
 ghost use Rattle.std.specs.Prelude.{◌≡◌, ◌≢◌, ◌<◌, ◌≤◌, [], length, IfOk, IfErr, MatchResult, OnOk};
-ghost use Rattle.hickory_base.specs.requests.QuestionList.{question_list};
-ghost use Rattle.hickory_base.specs.requests.RequestReading.{FollowsHeader, IsFaultOf, IsQuestionSection, message_of, question_section};
+ghost use Rattle.hickory_base.specs.requests.RequestReading.{FollowsHeader, IsFaultOf, IsQuestionSection, message_of, question_section, additionals_of, sections};
 ghost use Rattle.hickory_wire.specs.serialize.layout.MessageLayout.{high_code, with_high_code};
 ghost use Rattle.hickory_wire.specs.serialize.reading.MessageReading.{Fault, Reads, message};
 ghost use Rattle.hickory_wire.specs.serialize.reading.Reading.{Gives, GivesSeenBy};
 ghost use Rattle.hickory_wire.specs.serialize.reading.RecordReading.{question};
-ghost use Rattle.hickory_wire.specs.serialize.reading.SectionReading.{items};
+ghost use Rattle.hickory_wire.specs.serialize.reading.SectionReading.{items, section_record};
 ghost use Rattle.hickory_wire.specs.declared.error.DecodeError.{DecodeError};
 ghost use Rattle.hickory_wire.specs.declared.error.DecodeError.TheVariants as decode_error;
 ghost use Rattle.hickory_wire.specs.declared.op.message.Message.{Message};
@@ -15,13 +14,14 @@ ghost use Rattle.hickory_wire.specs.declared.op.message.Message.{Message};
 use crate::requests::message_request::{MessageRequest, Queries, Questions};
 use crate::server::Request;
 use hickory_wire::{
-    BinDecoder, DecodeError, Edns, Items, LowerQuery, Metadata, Octets, ProtoError, Protocol,
-    ResponseCode, ShortOctets,
+    BinDecoder, DecodeError, Edns, HeaderCounts, Items, LowerQuery, MessageType, Metadata, Octets,
+    OpCode, ProtoError, Protocol, Record, ResponseCode, ShortOctets,
 };
-use std::alloc::Global;
+use std::alloc::{AllocError, Global};
 use std::net::SocketAddr;
 
 /// The question at this place, with its name in lower case beside it.
+#[inline(never)]
 fn read_lower_query(alloc: Global, decoder: &mut BinDecoder<'_>) -> Result<LowerQuery, DecodeError>
     ensures { Gives result decoder.old decoder.new question }
 {
@@ -45,29 +45,55 @@ fn read_query_list(
     Ok(queries)
 }
 
-/// So many questions, each with its name in lower case beside it. One alone takes no list.
-fn read_lower_queries(
-    alloc: Global,
-    decoder: &mut BinDecoder<'_>,
-    count: u16,
-) -> Result<Questions, DecodeError>
-    ensures exact { GivesSeenBy question_list result decoder.old decoder.new (items question count []) }
-    ensures number { IfOk result (λ queries. length (question_list queries) ≤ count) }
-{
-    if count == 1 {
-        return Ok(Questions::One(read_lower_query(alloc, decoder)?));
-    }
-    Ok(Questions::Many(read_query_list(alloc, decoder, count)?))
-}
-
 impl Queries {
+    /// No questions.
+    fn none(alloc: Global) -> Result<Queries, AllocError>
+        ensures { IfOk result (λ section. section ≡ record { queries = []; bytes = [] }) }
+    {
+        let original = ShortOctets::from_slice(alloc, &[])?;
+        Ok(Queries::new(Questions::Many(Items::new(alloc)), original))
+    }
+
+    /// One question, and the bytes that hold it. It takes no list.
+    #[tactic(auto, unfolding(crate::specs::requests::RequestReading::question_section, hickory_wire::specs::serialize::reading::SectionReading::items))]
+    fn read_single(
+        &mut self,
+        alloc: Global,
+        decoder: &mut BinDecoder<'_>,
+    ) -> Result<(), DecodeError>
+        ensures { GivesSeenBy (λ _. self.new) result decoder.old decoder.new (question_section 1) }
+    {
+        let start = decoder.index();
+        self.queries = Questions::One(read_lower_query(alloc, decoder)?);
+        self.original = ShortOctets::from_slice(alloc, decoder.slice_from(start)?)?;
+        Ok(())
+    }
+
+    /// The same as `read`, in the place of other questions.
+    #[tactic(auto, unfolding(crate::specs::requests::RequestReading::question_section))]
+    fn read_in_place(
+        &mut self,
+        alloc: Global,
+        decoder: &mut BinDecoder<'_>,
+        count: u16,
+    ) -> Result<(), DecodeError>
+        ensures { GivesSeenBy (λ _. self.new) result decoder.old decoder.new (question_section count) }
+    {
+        if count == 1 {
+            return self.read_single(alloc, decoder);
+        }
+        let start = decoder.index();
+        self.queries = Questions::Many(read_query_list(alloc, decoder, count)?);
+        self.original = ShortOctets::from_slice(alloc, decoder.slice_from(start)?)?;
+        Ok(())
+    }
+
     /// So many questions, one behind the other, and the bytes that hold them (RFC 1035 section 4.1.2). A header counts
     /// its questions in 16 bits.
     ///
     /// Memory is taken as questions are read: a count that is higher than the questions that are there costs nothing.
     /// Then the decoder's place is the one behind the last. An error is the first fault of the first question that has
     /// one, or `Memory` where memory was refused. After an error the place is left open.
-    #[tactic(auto, unfolding(crate::specs::requests::RequestReading::question_section))]
     pub fn read(
         alloc: Global,
         decoder: &mut BinDecoder<'_>,
@@ -75,10 +101,9 @@ impl Queries {
     ) -> Result<Queries, DecodeError>
         ensures { Gives result decoder.old decoder.new (question_section count) }
     {
-        let start = decoder.index();
-        let queries = read_lower_queries(alloc, decoder, count)?;
-        let original = ShortOctets::from_slice(alloc, decoder.slice_from(start)?)?;
-        Ok(Queries::new(queries, original))
+        let mut queries = Queries::none(alloc)?;
+        queries.read_in_place(alloc, decoder, count)?;
+        Ok(queries)
     }
 }
 
@@ -94,43 +119,113 @@ fn with_high_code(mut metadata: Metadata, edns: &Option<Edns>) -> Metadata
     metadata
 }
 
+/// So many records of an answer or authority section, where none were read yet.
+#[tactic(auto, unfolding(hickory_wire::specs::serialize::reading::SectionReading::items))]
+fn read_records(
+    alloc: Global,
+    decoder: &mut BinDecoder<'_>,
+    count: u16,
+    records: &mut Items<Record>,
+) -> Result<(), DecodeError>
+    requires { records.old ≡ [] }
+    ensures { GivesSeenBy (λ _. records.new) result decoder.old decoder.new (items section_record count []) }
+{
+    if count == 0 {
+        return Ok(());
+    }
+    *records = decoder.read_section(alloc, count)?;
+    Ok(())
+}
+
 impl MessageRequest {
-    /// The message at this place, with pointers counted from the front of the bytes (RFC 1035 section 4.1).
-    ///
-    /// Then the decoder's place is the one behind it. After an error the place is left open.
-    #[tactic(auto, unfolding(crate::specs::requests::RequestReading::question_section, hickory_wire::specs::serialize::reading::MessageReading::message))]
-    pub(crate) fn read(
+    /// A message of nothing, to be read into: a message is too large to be handed on from step to step.
+    fn empty(alloc: Global) -> Result<MessageRequest, AllocError>
+        ensures answers { IfOk result (λ m. m.answers ≡ []) }
+        ensures authorities { IfOk result (λ m. m.authorities ≡ []) }
+    {
+        Ok(MessageRequest {
+            metadata: Metadata::new(0, MessageType::Query, OpCode::QUERY),
+            queries: Queries::none(alloc)?,
+            answers: Items::new(alloc),
+            authorities: Items::new(alloc),
+            additionals: Items::new(alloc),
+            signature: None,
+            edns: None,
+        })
+    }
+
+    /// Reads so many records of the additional section, and what its OPT record adds to the response code.
+    #[tactic(auto, unfolding(crate::specs::requests::RequestReading::additionals_of))]
+    fn read_additionals(
+        &mut self,
         alloc: Global,
         decoder: &mut BinDecoder<'_>,
-    ) -> Result<MessageRequest, DecodeError>
-        ensures exact { GivesSeenBy message_of result decoder.old decoder.new message }
-        ensures questions { IfOk result (λ m. FollowsHeader decoder.old m.queries) }
+        count: u16,
+    ) -> Result<(), DecodeError>
+        requires { self.old.metadata.response_code < 16 }
+        ensures exact { GivesSeenBy (λ _. self.new) result decoder.old decoder.new (additionals_of self.old count) }
+    {
+        let additionals = decoder.read_additionals(alloc, count)?;
+        let (additionals, edns, signature) = additionals.into_parts();
+        self.metadata = with_high_code(self.metadata, &edns);
+        self.additionals = additionals;
+        self.edns = edns;
+        self.signature = signature;
+        Ok(())
+    }
+
+    /// Reads the records behind the questions.
+    #[tactic(auto, unfolding(crate::specs::requests::RequestReading::sections, crate::specs::requests::RequestReading::additionals_of))]
+    fn read_sections(
+        &mut self,
+        alloc: Global,
+        decoder: &mut BinDecoder<'_>,
+        counts: &HeaderCounts,
+    ) -> Result<(), DecodeError>
+        requires code { self.old.metadata.response_code < 16 }
+        requires none { (self.old.answers ≡ []) × (self.old.authorities ≡ []) }
+        ensures { GivesSeenBy (λ _. self.new) result decoder.old decoder.new (sections self.old counts.now) }
+    {
+        read_records(alloc, decoder, counts.answers, &mut self.answers)?;
+        read_records(alloc, decoder, counts.authorities, &mut self.authorities)?;
+        self.read_additionals(alloc, decoder, counts.additionals)
+    }
+
+    /// The message at this place, with pointers counted from the front of the bytes (RFC 1035 section 4.1), in the place of
+    /// one without a record.
+    ///
+    /// Then the decoder's place is the one behind it. After an error the place is left open.
+    #[tactic(auto, unfolding(crate::specs::requests::RequestReading::question_section, crate::specs::requests::RequestReading::sections, crate::specs::requests::RequestReading::additionals_of, hickory_wire::specs::serialize::reading::MessageReading::message))]
+    fn read_in_place(
+        &mut self,
+        alloc: Global,
+        decoder: &mut BinDecoder<'_>,
+    ) -> Result<(), DecodeError>
+        requires { (self.old.answers ≡ []) × (self.old.authorities ≡ []) }
+        ensures exact { GivesSeenBy (λ _. message_of self.new) result decoder.old decoder.new message }
+        ensures questions { IfOk result (λ _. FollowsHeader decoder.old self.new.queries) }
     {
         let header = decoder.read_header()?;
-        let queries = Queries::read(alloc, decoder, header.counts.queries)?;
-        let answers = decoder.read_section(alloc, header.counts.answers)?;
-        let authorities = decoder.read_section(alloc, header.counts.authorities)?;
-        let additionals = decoder.read_additionals(alloc, header.counts.additionals)?;
-        let (additionals, edns, signature) = additionals.into_parts();
-        Ok(MessageRequest {
-            metadata: with_high_code(header.metadata, &edns),
-            queries,
-            answers,
-            authorities,
-            additionals,
-            signature,
-            edns,
-        })
+        self.metadata = header.metadata;
+        self.queries
+            .read_in_place(alloc, decoder, header.counts.queries)?;
+        self.read_sections(alloc, decoder, &header.counts)
     }
 }
 
-/// The message that bytes begin with.
-fn read_message(alloc: Global, bytes: &[u8]) -> Result<MessageRequest, DecodeError>
-    ensures found { IfOk result (λ m. Reads bytes.now (message_of m)) }
-    ensures questions { IfOk result (λ m. IsQuestionSection bytes.now m.queries) }
+/// Reads the message that bytes begin with in the place of one without a record.
+#[inline(never)]
+fn read_message(
+    alloc: Global,
+    bytes: &[u8],
+    message: &mut MessageRequest,
+) -> Result<(), DecodeError>
+    requires { (message.old.answers ≡ []) × (message.old.authorities ≡ []) }
+    ensures found { IfOk result (λ _. Reads bytes.now (message_of message.new)) }
+    ensures questions { IfOk result (λ _. IsQuestionSection bytes.now message.new.queries) }
     ensures fault { IfErr result (λ e. e ≢ decode_error.Memory → Fault bytes.now e) }
 {
-    MessageRequest::read(alloc, &mut BinDecoder::new(bytes))
+    message.read_in_place(alloc, &mut BinDecoder::new(bytes))
 }
 
 /// What a request cannot be read for: want of memory stays want of memory.
@@ -145,6 +240,21 @@ fn reading_error(e: DecodeError) -> ProtoError
 }
 
 impl Request {
+    /// Reads the message that its bytes begin with, in the place of one without a record.
+    fn read_in_place(&mut self, alloc: Global) -> Result<(), ProtoError>
+        requires { (self.old.message.answers ≡ []) × (self.old.message.authorities ≡ []) }
+        ensures found { IfOk result (λ _. Reads self.old.bytes (message_of self.new.message)) }
+        ensures questions { IfOk result (λ _. IsQuestionSection self.old.bytes self.new.message.queries) }
+        ensures only { (m : Message) → Reads self.old.bytes m → MatchResult result (λ _. message_of self.new.message ≡ m) (λ e. e ≡ ProtoError.Memory) }
+        ensures fault { IfErr result (λ e. e ≢ ProtoError.Memory → IsFaultOf self.old.bytes e) }
+        ensures kept { (self.new.bytes ≡ self.old.bytes) × (self.new.source ≡ self.old.source) × (self.new.protocol ≡ self.old.protocol) }
+    {
+        match read_message(alloc, self.bytes.as_slice(), &mut self.message) {
+            Ok(()) => Ok(()),
+            Err(e) => Err(reading_error(e)),
+        }
+    }
+
     /// The request that bytes begin with (RFC 1035 section 4.1), with the address and the transport that it came from.
     /// What stands behind the message is kept in its bytes and not looked at.
     ///
@@ -166,9 +276,11 @@ impl Request {
         ensures raw { IfOk result (λ r. r.bytes ≡ bytes.items) }
         ensures source { IfOk result (λ r. (r.source ≡ src) × (r.protocol ≡ protocol)) }
     {
-        match read_message(alloc, bytes.as_slice()) {
-            Ok(message) => Ok(Request::new(message, Octets::from_vec(bytes), src, protocol)),
-            Err(e) => Err(reading_error(e)),
+        let message = MessageRequest::empty(alloc)?;
+        let mut request = Request::new(message, Octets::from_vec(bytes), src, protocol);
+        match request.read_in_place(alloc) {
+            Ok(()) => Ok(request),
+            Err(e) => Err(e),
         }
     }
 }

@@ -1,9 +1,7 @@
 -- A single question is read as a list of one.
 use Rattle.std.proofs.Common.{◌≡◌, ℕ, [], ◌∷◌, Ok, refl}
-use Rattle.hickory_wire.specs.declared.error.DecodeError.{DecodeError}
 use Rattle.hickory_wire.specs.declared.op.query.Query.{Query}
 use Rattle.hickory_wire.specs.serialize.reading.Cursor.{Cursor}
-use Rattle.hickory_wire.specs.serialize.reading.Reading.{Fails}
 use Rattle.hickory_wire.specs.serialize.reading.RecordReading.{question}
 use Rattle.hickory_wire.specs.serialize.reading.SectionReading.{items}
 
@@ -11,7 +9,3 @@ module _ (count : ℕ) (c : Cursor) (single : count ≡ 1) where
   pub single_is_read : (q : Query) (next : Cursor) → question c ≡ Ok (q, next) → items question count [] c ≡ Ok (q ∷ [], next)
   unfolding items
   single_is_read q next h = rw (single, h) refl
-
-  pub single_fails : (e : DecodeError) → Fails e (question c) → Fails e (items question count [] c)
-  unfolding items
-  single_fails e h not_memory = rw (single, h not_memory) refl

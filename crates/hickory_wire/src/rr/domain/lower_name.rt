@@ -43,6 +43,7 @@ impl Model for LowerName {
 
 impl LowerName {
     /// A copy of a name with its labels in lower case; it is fully qualified where the name is.
+    #[inline(never)]
     pub fn new(alloc: Global, name: &Name) -> Result<LowerName, AllocError>
         ensures { IfOk result (λ lower. lower ≡ lower_name name.now) }
     {

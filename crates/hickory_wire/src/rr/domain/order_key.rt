@@ -16,10 +16,16 @@ use std::cmp::Ordering;
 /// At least as many bytes as the key of any name has: each byte of a label takes two at most, and each label one more.
 const KEY_ROOM: usize = 512;
 
+/// Names of so few bytes in wire form, as most are, take a room for their keys that costs less to make.
+const SHORT_NAME: usize = 32;
+
+/// At least as many bytes as the key of such a name has.
+const SHORT_ROOM: usize = 64;
+
 /// Puts a label, and the byte that ends it, in front of what stands in the room from a place on. Returns where it begins.
-fn put_label(room: &mut [u8; KEY_ROOM], end: usize, label: &[u8]) -> usize
+fn put_label(room: &mut [u8], end: usize, label: &[u8]) -> usize
     requires enough { 2 * length label.now < end }
-    requires within { end ≤ 512 }
+    requires within { end ≤ length room.old }
     ensures put { drop result room.new ≡ escaped label.now ++ 0 ∷ drop end room.old }
     ensures before { result < end }
     ensures few { end ≤ result + 2 * length label.now + 1 }
@@ -88,21 +94,32 @@ pub(crate) fn wire_len(key: &[u8]) -> usize
     len
 }
 
+/// The key of the name whose labels these are, made at the end of a room.
+fn make_key_in(room: &mut [u8], alloc: Global, wire: &[u8]) -> Result<Wire, AllocError>
+    requires wire { IsWire wire.now }
+    requires enough { 2 * length wire.now ≤ length room.old }
+    ensures { IfOk result (λ key. wire_bytes key ≡ order_key (cut wire.now)) }
+{
+    let mut start = room.len();
+    let mut place = 0;
+    while place < wire.len() {
+        let first = place + 1;
+        let next = first + usize::from(wire[place]);
+        start = put_label(room, start, &wire[first..next]);
+        place = next;
+    }
+    Wire::from_slice(alloc, &room[start..])
+}
+
 /// The key of the name whose labels these are. Keys compare as the labels of the names do, from the last one on.
 pub(crate) fn make_order_key(alloc: Global, wire: &[u8]) -> Result<Wire, AllocError>
     requires { IsWire wire.now }
     ensures { IfOk result (λ key. wire_bytes key ≡ order_key (cut wire.now)) }
 {
-    let mut room = [0; KEY_ROOM];
-    let mut start = KEY_ROOM;
-    let mut place = 0;
-    while place < wire.len() {
-        let first = place + 1;
-        let next = first + usize::from(wire[place]);
-        start = put_label(&mut room, start, &wire[first..next]);
-        place = next;
+    if wire.len() <= SHORT_NAME {
+        return make_key_in(&mut [0; SHORT_ROOM], alloc, wire);
     }
-    Wire::from_slice(alloc, &room[start..])
+    make_key_in(&mut [0; KEY_ROOM], alloc, wire)
 }
 
 /// Keys compared byte by byte: the first bytes that differ decide, and where none do, the lengths.

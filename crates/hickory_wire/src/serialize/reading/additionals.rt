@@ -76,6 +76,7 @@ impl Additionals {
     }
 
     /// Puts what the next record says, an OPT record at the root. On an error nothing is promised of what was read before.
+    #[inline(always)]
     #[tactic(auto, unfolding(crate::specs::serialize::reading::OptReading::add_edns))]
     pub(crate) fn add_edns(&mut self, edns: Edns) -> Result<(), DecodeError>
         ensures { MatchResult result (λ _. add_edns self.old edns ≡ Ok self.new) (λ e. Fails e (add_edns self.old edns)) }

@@ -39,6 +39,7 @@ fn first_option(bytes: &[u8]) -> Option<FirstOption<'_>>
 }
 
 /// The options that bytes are made of, or none where the bytes are not made of options.
+#[inline(always)]
 pub(crate) fn options_of(alloc: Global, bytes: &[u8]) -> Result<Items<EdnsOption>, AllocError>
     ensures { IfOk result (λ options. options ≡ options_of bytes.now) }
 {

@@ -240,6 +240,7 @@ impl<'a> BinDecoder<'a> {
     /// `InsufficientBytes` where a field, or as many bytes as the length says, are not there; those of the data;
     /// `IncorrectDataLength` where the data end elsewhere than their length says, or a TSIG record has none. `Memory`
     /// comes only where memory was refused. After an error the place is left open.
+    #[inline(never)]
     pub fn read_record(&mut self, alloc: Global) -> Result<Record, DecodeError>
         ensures exact { Gives result self.old self.new resource }
         ensures found { IfOk result (λ r. RecordAt self.old.bytes self.old.place r self.new.place) }
@@ -251,6 +252,7 @@ impl<'a> BinDecoder<'a> {
         self.next_record(alloc)
     }
 
+    #[inline(always)]
     #[tactic(auto, unfolding(crate::specs::serialize::reading::RecordReading::question))]
     fn next_query(&mut self, alloc: Global) -> Result<Query, DecodeError>
         ensures { Gives result self.old self.new question }
@@ -269,6 +271,7 @@ impl<'a> BinDecoder<'a> {
     ///
     /// Then the place is the one behind it. An error is the first fault from left to right, those of a name or
     /// `InsufficientBytes`, or it is `Memory` where memory was refused. After an error the place is left open.
+    #[inline(always)]
     pub fn read_query(&mut self, alloc: Global) -> Result<Query, DecodeError>
         ensures exact { Gives result self.old self.new question }
         ensures found { IfOk result (λ q. QuestionRead self.old.bytes self.old.place q self.new.place) }

@@ -94,8 +94,8 @@ pub record KeyMade (ls : List (List ℕ)) (place start : ℕ) (room : List ℕ) 
   pub count : ℕ
   pub below : count ≤ length ls
   pub at : place ≡ label_offset ls count
-  pub within : start ≤ 512
-  pub enough : 512 ≤ start + 2 * place
+  pub within : start ≤ length room
+  pub enough : length room ≤ start + 2 * place
   pub made : drop start room ≡ order_key (take count ls)
 
 pub one_more : (ls : List (List ℕ)) (i : ℕ) → i < length ls → order_key (take (i + 1) ls) ≡ escaped (get_or ls i []) ++ 0 ∷ order_key (take i ls)

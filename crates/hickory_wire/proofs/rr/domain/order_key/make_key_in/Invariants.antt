@@ -1,7 +1,7 @@
 use Rattle.std.proofs.Common.{length, ◌-◌}
 use Rattle.hickory_wire.specs.rr.domain.DomainName.{cut}
 use Rattle.hickory_wire.proofs.lemmas.rr.domain.OrderKeys.{KeyMade}
-use Rattle.hickory_wire.proofs.rr.domain.order_key.make_order_key.Given as goal
+use Rattle.hickory_wire.proofs.rr.domain.order_key.make_key_in.Given as goal
 
 abbrev pub invariant-loop-place : goal.invariant-loop-place
 invariant-loop-place l = KeyMade (cut l.wire) l.place l.start l.room
