@@ -122,6 +122,10 @@ pub(crate) fn chain_answer<H: ZoneHandler>(
     if !asked.answer.is_continue() {
         return asked;
     }
+    // Mostly there is nobody else to consult, and the answer stays where it is.
+    if chain.len() == 1 {
+        return asked;
+    }
     let place = asked.place;
     let before = &chain[..place];
     let behind = &chain[place + 1..];
