@@ -5,6 +5,7 @@ ghost use Rattle.hickory_wire.specs.serialize.writing.Reply.{Reply};
 ghost use Rattle.hickory_base.specs.zone_store.Lookups.{result_of};
 ghost use Rattle.hickory_base.specs.requests.Requests.{information};
 ghost use Rattle.hickory_base.specs.responses.Responses.{header_of};
+ghost use Rattle.hickory_catalog.specs.Forwarded.{forwarded_contents};
 ghost use Rattle.hickory_catalog.specs.Queries.{GivenReplies, HandlerReply, QueryReplies, ZoneReplies, ZoneReply, consult_options, is_out_of_memory};
 ghost use Rattle.hickory_catalog.specs.Replies.{Contents, contents_of};
 ghost use Rattle.hickory_catalog.specs.Sending.{IsUntouched, Sends, SendsInOrder};
@@ -58,6 +59,21 @@ fn is_out_of_memory<T>(outcome: &Result<T, LookupError>) -> bool
     }
 }
 
+/// What a handler that asks elsewhere replies to what the chain answered in the end, which is taken out.
+fn external_contents<H: ZoneHandler>(
+    handler: &H,
+    alloc: Global,
+    request: &Request,
+    query: &LowerQuery,
+    outcome: &mut Result<AuthLookup, LookupError>,
+) -> ReplyContents
+    ensures { contents_of result ≡ forwarded_contents request.now.message query.now (H.validates_dnssec handler.now) outcome.old }
+{
+    let validates = handler.can_validate_dnssec();
+    let outcome = mem::replace(outcome, Ok(AuthLookup::Empty));
+    forwarded_contents(alloc, request.message(), query, validates, outcome)
+}
+
 /// What the handler that was asked replies to what the chain answered in the end, whose records may be taken out.
 fn handler_contents<H: ZoneHandler>(
     handler: &H,
@@ -77,11 +93,7 @@ fn handler_contents<H: ZoneHandler>(
         ZoneType::Primary | ZoneType::Secondary => {
             authoritative_contents(handler, alloc, request, query, outcome)
         }
-        ZoneType::External => {
-            let validates = handler.can_validate_dnssec();
-            let outcome = mem::replace(outcome, Ok(AuthLookup::Empty));
-            Ok(forwarded_contents(alloc, request.message(), query, validates, outcome))
-        }
+        ZoneType::External => { Ok(external_contents(handler, alloc, request, query, outcome)) }
     }
 }
 
@@ -208,15 +220,15 @@ fn answer_chained<S: ReplySigner, H: ZoneHandler, R: ResponseHandler>(
     sink: &mut R,
 ) -> Result<ResponseInfo, CatalogError>
     requires lookup { (asked.now.query.now.query_type == 252) ≡ false }
-    requires answers { ChainAnswers H.ZoneHandler asked.now.request.now (information asked.now.request.now asked.now.query.now) (consult_options edns.old) asked.now.chain.now answered.old.place answered.old.answer answered.old.context }
-    requires place { IsSome (result_of answered.old.answer) → answered.old.place < length asked.now.chain.now }
+    requires answers { ChainAnswers H.ZoneHandler asked.now.request.now (information asked.now.request.now asked.now.query.now) (consult_options edns.old) asked.now.chain.now answered.old.place answered.old.given.0 answered.old.given.1 }
+    requires place { IsSome (result_of answered.old.given.0) → answered.old.place < length asked.now.chain.now }
     ensures replied { IfOk result (λ info. (reply : Reply) ×
         ZoneReply (server_of H.ZoneHandler S.signature_for asked.now.catalog.now) asked.now.chain.now asked.now.request.now edns.old asked.now.moment asked.now.query.now reply ×
         Sends R.ResponseHandler asked.now.request.now.message.metadata sink.old sink.new reply (header_of info)) }
     ensures refused { IfErr result (λ e. (e ≡ CatalogError.Memory) × IsUntouched R.ResponseHandler sink.old sink.new) }
 {
     let place = answered.place;
-    match &mut answered.answer {
+    match &mut answered.given.0 {
         LookupControlFlow::Skip => Ok(send_error(
             sink,
             asked.alloc,
@@ -225,10 +237,10 @@ fn answer_chained<S: ReplySigner, H: ZoneHandler, R: ResponseHandler>(
             ResponseCode::SERV_FAIL,
         )),
         LookupControlFlow::Continue(outcome) => {
-            answer_outcome(asked, place, outcome, &answered.context, edns, sink)
+            answer_outcome(asked, place, outcome, &answered.given.1, edns, sink)
         }
         LookupControlFlow::Break(outcome) => {
-            answer_outcome(asked, place, outcome, &answered.context, edns, sink)
+            answer_outcome(asked, place, outcome, &answered.given.1, edns, sink)
         }
     }
 }
