@@ -65,11 +65,11 @@ module _ {H : Type 0} {handler : Ghosts H} {info : RequestInformation} {options 
   continued Skip is c = absurd cc
 
 -- beside one handler alone nobody stands
-pub alone : {H : Type 0} (chain : List H) (place : ℕ) → length chain ≡ 1 → place < length chain → remove chain place ≡ []
-alone [] place one lt = absurd (omega (arith, lt))
-alone (h ∷ []) zero one lt = refl
-alone (h ∷ []) (suc place) one lt = absurd (omega (arith, lt))
-alone (h ∷ g ∷ hs) place one lt = absurd (omega (arith, one))
+pub alone : {H : Type 0} (chain : List H) (place : ℕ) → length chain ≤ 1 → place < length chain → remove chain place ≡ []
+alone [] place few lt = absurd (omega (arith, lt))
+alone (h ∷ []) zero few lt = refl
+alone (h ∷ []) (suc place) few lt = absurd (omega (arith, lt))
+alone (h ∷ g ∷ hs) place few lt = absurd (omega (arith, few))
 
 -- the slice from behind a place on is what is left
 pub behind_is : {H : Type 0} (chain : List H) (place : ℕ) → take (length chain - (place + 1)) (drop (place + 1) chain) ≡ drop (suc place) chain

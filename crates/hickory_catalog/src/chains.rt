@@ -11,6 +11,7 @@ use hickory_base::server::{Request, RequestInfo};
 use hickory_base::zone_store::{AuthLookup, LookupControlFlow, LookupOptions, ZoneHandler};
 use hickory_wire::TSigResponseContext;
 use std::alloc::Global;
+use std::mem;
 
 /// What the handlers of a chain answer.
 #[derive(Drop)]
@@ -47,6 +48,7 @@ pub(crate) fn options_of(request: &Request) -> LookupOptions
 }
 
 /// Asks the handlers of a chain from left to right. A `Skip` goes on with the rest and drops its context.
+#[inline(never)]
 fn ask<H: ZoneHandler>(chain: &[H], alloc: Global, request: &Request) -> ChainAnswer
     ensures asked { Asked H.ZoneHandler request.now (options_of request.now) chain.now result.place result.given.0 result.given.1 }
     ensures place { IsAnswer result.given.0 → result.place < length chain.now }
@@ -99,27 +101,26 @@ fn consult<H: ZoneHandler>(
     (last, context)
 }
 
-/// Consults each handler but the one at the place about its answer. It stands apart, so that where nobody is consulted no
-/// room is made for what they would answer.
+/// Consults each handler but the one that was asked about its answer, and puts what they answer in its place. It stands
+/// apart, so that where nobody is consulted no room is made for what they would answer.
 #[inline(never)]
 fn consult_others<H: ZoneHandler>(
     chain: &[H],
     alloc: Global,
     info: &RequestInfo<'_>,
     options: LookupOptions,
-    asked: ChainAnswer,
-) -> ChainAnswer
-    requires { asked.place < length chain.now }
-    ensures place { result.place ≡ asked.place }
-    ensures consulted { Consulted H.ZoneHandler (information_of info.now) options (remove chain.now asked.place) asked.given.0 asked.given.1 result.given.0 result.given.1 }
+    asked: &mut ChainAnswer,
+)
+    requires { asked.old.place < length chain.now }
+    ensures place { asked.new.place ≡ asked.old.place }
+    ensures consulted { Consulted H.ZoneHandler (information_of info.now) options (remove chain.now asked.old.place) asked.old.given.0 asked.old.given.1 asked.new.given.0 asked.new.given.1 }
 {
     let place = asked.place;
     let before = &chain[..place];
     let behind = &chain[place + 1..];
-    let (answer, context) = asked.given;
+    let (answer, context) = mem::replace(&mut asked.given, (LookupControlFlow::Skip, None));
     let (answer, context) = consult(before, alloc, info, options, answer, context);
-    let given = consult(behind, alloc, info, options, answer, context);
-    ChainAnswer { place, given }
+    asked.given = consult(behind, alloc, info, options, answer, context);
 }
 
 /// What a chain of handlers answers: one is asked, and after its `Continue` each other one is consulted.
@@ -133,13 +134,10 @@ pub(crate) fn chain_answer<H: ZoneHandler>(
     ensures answers { ChainAnswers H.ZoneHandler request.now (information_of info.now) options chain.now result.place result.given.0 result.given.1 }
     ensures place { IsSome (result_of result.given.0) → result.place < length chain.now }
 {
-    let asked = ask(chain, alloc, request);
-    if !asked.given.0.is_continue() {
-        return asked;
+    let mut asked = ask(chain, alloc, request);
+    // Mostly there is nobody else to consult.
+    if asked.given.0.is_continue() && chain.len() > 1 {
+        consult_others(chain, alloc, info, options, &mut asked);
     }
-    // Mostly there is nobody else to consult, and the answer stays where it is.
-    if chain.len() == 1 {
-        return asked;
-    }
-    consult_others(chain, alloc, info, options, asked)
+    asked
 }
