@@ -1,6 +1,7 @@
 -- Consulting handlers from a place on, and the answer of a chain.
-use Rattle.std.proofs.Common.{◌≡◌, ℕ, suc, ◌+◌, ◌-◌, ◌<◌, ◌≤◌, true, false, List, [], ◌∷◌, ◌++◌, length, drop, take, get_or, Option, None, Some, refl, ap, subst, ◌∙◌, arith}
+use Rattle.std.proofs.Common.{◌≡◌, ℕ, zero, suc, ◌+◌, ◌-◌, ◌<◌, ◌≤◌, true, false, List, [], ◌∷◌, ◌++◌, length, drop, take, get_or, Option, None, Some, refl, ap, subst, ◌∙◌, arith}
 use Rattle.std.proofs.lemmas.List.{drop_all, length-drop, take_all}
+use Rattle.std.specs.List.{remove}
 use Rattle.std.specs.Option.{option_or, IsSome}
 use Rattle.hickory_wire.specs.rr.domain.NameOrder.{lower_name}
 use Rattle.hickory_wire.specs.declared.rr.tsig.TSigResponseContext.{TSigResponseContext}
@@ -62,6 +63,13 @@ module _ {H : Type 0} {handler : Ghosts H} {info : RequestInformation} {options 
   continued (Continue _) is c = c
   continued (Break _) is c = absurd cc
   continued Skip is c = absurd cc
+
+-- beside one handler alone nobody stands
+pub alone : {H : Type 0} (chain : List H) (place : ℕ) → length chain ≤ 1 → place < length chain → remove chain place ≡ []
+alone [] place few lt = absurd (omega (arith, lt))
+alone (h ∷ []) zero few lt = refl
+alone (h ∷ []) (suc place) few lt = absurd (omega (arith, lt))
+alone (h ∷ g ∷ hs) place few lt = absurd (omega (arith, few))
 
 -- the slice from behind a place on is what is left
 pub behind_is : {H : Type 0} (chain : List H) (place : ℕ) → take (length chain - (place + 1)) (drop (place + 1) chain) ≡ drop (suc place) chain

@@ -69,18 +69,24 @@ fn is_referral(query_type: RecordType, records: &[Record]) -> bool
     }
 }
 
-/// The records that were found, and those of the additional section.
-fn records_found(alloc: Global, found: AuthLookup) -> (Items<Record>, Items<Record>)
-    ensures answers { result.0 ≡ answers_of found }
-    ensures additionals { result.1 ≡ additional_section found }
+/// Takes out the records that were found, and those of the additional section.
+fn take_records(alloc: Global, found: &mut AuthLookup) -> (Items<Record>, Items<Record>)
+    ensures answers { result.0 ≡ answers_of found.old }
+    ensures additionals { result.1 ≡ additional_section found.old }
 {
     match found {
         AuthLookup::Empty => (Items::new(alloc), Items::new(alloc)),
-        AuthLookup::Resolved(found) => (found.answers, Items::new(alloc)),
+        AuthLookup::Resolved(found) => {
+            let answers = mem::replace(&mut found.answers, Items::new(alloc));
+            (answers, Items::new(alloc))
+        }
         AuthLookup::Records {
             answers,
             additionals,
-        } => (answers, additionals),
+        } => {
+            let answers = mem::replace(answers, Items::new(alloc));
+            (answers, mem::replace(additionals, Items::new(alloc)))
+        }
     }
 }
 
@@ -94,7 +100,10 @@ fn records_given(
 {
     match answer.map_result() {
         None => Ok(Items::new(alloc)),
-        Some(Ok(found)) => Ok(records_found(alloc, found).0),
+        Some(Ok(found)) => {
+            let mut found = found;
+            Ok(take_records(alloc, &mut found).0)
+        }
         Some(Err(e)) => {
             if is_memory(&e) {
                 Err(CatalogError::Memory)
@@ -105,17 +114,17 @@ fn records_given(
     }
 }
 
-/// What a reply says with records that were found, and with what the handler gave beside them.
+/// What a reply says with records that were found, which are taken out, and with what the handler gave beside them.
 fn positive_contents(
     alloc: Global,
     request: &Metadata,
     query_type: RecordType,
-    found: AuthLookup,
+    found: &mut AuthLookup,
     beside: Items<Record>,
 ) -> ReplyContents
-    ensures { (given : Flow) → records_given given ≡ beside → contents_of result ≡ positive_contents request.now query_type found given }
+    ensures { (given : Flow) → records_given given ≡ beside → contents_of result ≡ positive_contents request.now query_type found.old given }
 {
-    let (answers, additionals) = records_found(alloc, found);
+    let (answers, additionals) = take_records(alloc, found);
     let mut contents = ReplyContents::bare(
         alloc,
         authoritative_metadata(request, ResponseCode::NO_ERROR),
@@ -147,6 +156,26 @@ fn beside_answer<H: ZoneHandler>(
     }
 }
 
+/// What else a handler gives for the authority section of a positive reply, as records. Want of memory ends the call.
+fn records_beside<H: ZoneHandler>(
+    handler: &H,
+    alloc: Global,
+    query: &LowerQuery,
+    found: &AuthLookup,
+    options: LookupOptions,
+) -> Result<Items<Record>, CatalogError>
+    ensures given { IfOk result (λ records. (beside : Flow) × BesideAnswer H.ZoneHandler handler.now query.now options found.now beside × (records ≡ records_given beside) × (wants_memory beside ≡ false)) }
+    ensures refused { IfErr result (λ e. e ≡ CatalogError.Memory) }
+{
+    let is_soa = query.query_type().value() == RecordType::SOA.value();
+    let is_nothing_denied = handler.nx_proof_kind().is_none();
+    // Mostly nothing more is asked, and no room is made for what would be answered.
+    if !is_soa && is_nothing_denied {
+        return Ok(Items::new(alloc));
+    }
+    records_given(alloc, beside_answer(handler, alloc, query, found, options))
+}
+
 /// What a handler replies with records that were found, which may be taken out.
 fn found_contents<H: ZoneHandler>(
     handler: &H,
@@ -158,9 +187,7 @@ fn found_contents<H: ZoneHandler>(
     ensures replied { IfOk result (λ contents. AuthoritativeReply H.ZoneHandler handler.now request.now query.now (contents_of contents) (Ok found.old)) }
     ensures refused { IfErr result (λ e. e ≡ CatalogError.Memory) }
 {
-    let beside = beside_answer(handler, alloc, query, found, options_of(request));
-    let beside = records_given(alloc, beside)?;
-    let found = mem::replace(found, AuthLookup::Empty);
+    let beside = records_beside(handler, alloc, query, found, options_of(request))?;
     let query_type = query.query_type();
     Ok(positive_contents(alloc, request.metadata(), query_type, found, beside))
 }

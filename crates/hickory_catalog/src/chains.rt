@@ -1,6 +1,7 @@
 //! Asking and consulting the handlers of a zone.
 
 ghost use Rattle.std.specs.Prelude.{◌≡◌, ◌<◌, length, IsSome};
+ghost use Rattle.std.specs.List.{remove};
 ghost use Rattle.hickory_base.specs.zone_store.Lookups.{result_of};
 ghost use Rattle.hickory_base.specs.requests.Requests.{information_of};
 ghost use Rattle.hickory_catalog.specs.Transcripts.{Asked, ChainAnswers, Consulted, IsAnswer, is_memory, options_of, wants_memory};
@@ -10,16 +11,15 @@ use hickory_base::server::{Request, RequestInfo};
 use hickory_base::zone_store::{AuthLookup, LookupControlFlow, LookupOptions, ZoneHandler};
 use hickory_wire::TSigResponseContext;
 use std::alloc::Global;
+use std::mem;
 
 /// What the handlers of a chain answer.
 #[derive(Drop)]
 pub(crate) struct ChainAnswer {
     /// The place of the handler that was asked, or how many there are where all skip.
     pub place: usize,
-    /// The answer.
-    pub answer: LookupControlFlow<AuthLookup>,
-    /// What a signer of the reply has to know.
-    pub context: Option<TSigResponseContext>,
+    /// The answer, and what a signer of the reply has to know, kept as handlers give them.
+    pub given: (LookupControlFlow<AuthLookup>, Option<TSigResponseContext>),
 }
 
 /// Whether memory was refused.
@@ -48,28 +48,22 @@ pub(crate) fn options_of(request: &Request) -> LookupOptions
 }
 
 /// Asks the handlers of a chain from left to right. A `Skip` goes on with the rest and drops its context.
+#[inline(never)]
 fn ask<H: ZoneHandler>(chain: &[H], alloc: Global, request: &Request) -> ChainAnswer
-    ensures asked { Asked H.ZoneHandler request.now (options_of request.now) chain.now result.place result.answer result.context }
-    ensures place { IsAnswer result.answer → result.place < length chain.now }
+    ensures asked { Asked H.ZoneHandler request.now (options_of request.now) chain.now result.place result.given.0 result.given.1 }
+    ensures place { IsAnswer result.given.0 → result.place < length chain.now }
 {
     let options = options_of(request);
     for place in 0..chain.len() {
-        let (answer, context) = chain[place].search(alloc, request, options);
-        match answer {
+        let given = chain[place].search(alloc, request, options);
+        match &given.0 {
             LookupControlFlow::Skip => {}
-            _ => {
-                return ChainAnswer {
-                    place,
-                    answer,
-                    context,
-                };
-            }
+            _ => return ChainAnswer { place, given },
         }
     }
     ChainAnswer {
         place: chain.len(),
-        answer: LookupControlFlow::Skip,
-        context: None,
+        given: (LookupControlFlow::Skip, None),
     }
 }
 
@@ -107,6 +101,28 @@ fn consult<H: ZoneHandler>(
     (last, context)
 }
 
+/// Consults each handler but the one that was asked about its answer, and puts what they answer in its place. It stands
+/// apart, so that where nobody is consulted no room is made for what they would answer.
+#[inline(never)]
+fn consult_others<H: ZoneHandler>(
+    chain: &[H],
+    alloc: Global,
+    info: &RequestInfo<'_>,
+    options: LookupOptions,
+    asked: &mut ChainAnswer,
+)
+    requires { asked.old.place < length chain.now }
+    ensures place { asked.new.place ≡ asked.old.place }
+    ensures consulted { Consulted H.ZoneHandler (information_of info.now) options (remove chain.now asked.old.place) asked.old.given.0 asked.old.given.1 asked.new.given.0 asked.new.given.1 }
+{
+    let place = asked.place;
+    let before = &chain[..place];
+    let behind = &chain[place + 1..];
+    let (answer, context) = mem::replace(&mut asked.given, (LookupControlFlow::Skip, None));
+    let (answer, context) = consult(before, alloc, info, options, answer, context);
+    asked.given = consult(behind, alloc, info, options, answer, context);
+}
+
 /// What a chain of handlers answers: one is asked, and after its `Continue` each other one is consulted.
 pub(crate) fn chain_answer<H: ZoneHandler>(
     chain: &[H],
@@ -115,21 +131,13 @@ pub(crate) fn chain_answer<H: ZoneHandler>(
     info: &RequestInfo<'_>,
     options: LookupOptions,
 ) -> ChainAnswer
-    ensures answers { ChainAnswers H.ZoneHandler request.now (information_of info.now) options chain.now result.place result.answer result.context }
-    ensures place { IsSome (result_of result.answer) → result.place < length chain.now }
+    ensures answers { ChainAnswers H.ZoneHandler request.now (information_of info.now) options chain.now result.place result.given.0 result.given.1 }
+    ensures place { IsSome (result_of result.given.0) → result.place < length chain.now }
 {
-    let asked = ask(chain, alloc, request);
-    if !asked.answer.is_continue() {
-        return asked;
+    let mut asked = ask(chain, alloc, request);
+    // Mostly there is nobody else to consult.
+    if asked.given.0.is_continue() && chain.len() > 1 {
+        consult_others(chain, alloc, info, options, &mut asked);
     }
-    let place = asked.place;
-    let before = &chain[..place];
-    let behind = &chain[place + 1..];
-    let (answer, context) = consult(before, alloc, info, options, asked.answer, asked.context);
-    let (answer, context) = consult(behind, alloc, info, options, answer, context);
-    ChainAnswer {
-        place,
-        answer,
-        context,
-    }
+    asked
 }

@@ -1,18 +1,22 @@
 //! From a query to its replies.
 
-ghost use Rattle.std.specs.Prelude.{◌≡◌, ◌==◌, true, false, List, IfOk, IfErr};
+ghost use Rattle.std.specs.Prelude.{◌≡◌, ◌==◌, ◌<◌, true, false, List, IfOk, IfErr, IsSome, Some, length, slice_get};
 ghost use Rattle.hickory_wire.specs.serialize.writing.Reply.{Reply};
+ghost use Rattle.hickory_base.specs.zone_store.Lookups.{result_of};
+ghost use Rattle.hickory_base.specs.requests.Requests.{information};
 ghost use Rattle.hickory_base.specs.responses.Responses.{header_of};
-ghost use Rattle.hickory_catalog.specs.Queries.{GivenReplies, HandlerReply, QueryReplies, ZoneReplies, ZoneReply, is_out_of_memory};
+ghost use Rattle.hickory_catalog.specs.Forwarded.{forwarded_contents};
+ghost use Rattle.hickory_catalog.specs.Queries.{GivenReplies, HandlerReply, QueryReplies, ZoneReplies, ZoneReply, consult_options, is_out_of_memory};
 ghost use Rattle.hickory_catalog.specs.Replies.{Contents, contents_of};
 ghost use Rattle.hickory_catalog.specs.Sending.{IsUntouched, Sends, SendsInOrder};
 ghost use Rattle.hickory_catalog.specs.Server.{server_of};
 ghost use Rattle.hickory_catalog.specs.Signing.{SignedReply};
+ghost use Rattle.hickory_catalog.specs.Transcripts.{ChainAnswers};
 ghost use Rattle.hickory_catalog.specs.Transfers.{transfer_contents};
 
 use crate::authoritative::authoritative_contents;
 use crate::catalog::Catalog;
-use crate::chains::{chain_answer, is_memory};
+use crate::chains::{ChainAnswer, chain_answer, is_memory};
 use crate::contents::ReplyContents;
 use crate::forwarded::forwarded_contents;
 use crate::sending::send_error;
@@ -22,7 +26,9 @@ use crate::transfer_replies::send_transfer;
 use crate::transfers::{ask_for_transfer, split_records, transfer_contents};
 use hickory_base::errors::{CatalogError, LookupError};
 use hickory_base::server::{Request, RequestInfo, ResponseHandler, ResponseInfo};
-use hickory_base::zone_store::{AuthLookup, LookupOptions, ZoneHandler, ZoneTransfer, ZoneType};
+use hickory_base::zone_store::{
+    AuthLookup, LookupControlFlow, LookupOptions, ZoneHandler, ZoneTransfer, ZoneType,
+};
 use hickory_wire::{Edns, LowerQuery, RecordType, ResponseCode, TSigResponseContext};
 use std::alloc::Global;
 use std::mem;
@@ -53,6 +59,21 @@ fn is_out_of_memory<T>(outcome: &Result<T, LookupError>) -> bool
     }
 }
 
+/// What a handler that asks elsewhere replies to what the chain answered in the end, which is taken out.
+fn external_contents<H: ZoneHandler>(
+    handler: &H,
+    alloc: Global,
+    request: &Request,
+    query: &LowerQuery,
+    outcome: &mut Result<AuthLookup, LookupError>,
+) -> ReplyContents
+    ensures { contents_of result ≡ forwarded_contents request.now.message query.now (H.validates_dnssec handler.now) outcome.old }
+{
+    let validates = handler.can_validate_dnssec();
+    let outcome = mem::replace(outcome, Ok(AuthLookup::Empty));
+    forwarded_contents(alloc, request.message(), query, validates, outcome)
+}
+
 /// What the handler that was asked replies to what the chain answered in the end, whose records may be taken out.
 fn handler_contents<H: ZoneHandler>(
     handler: &H,
@@ -72,29 +93,28 @@ fn handler_contents<H: ZoneHandler>(
         ZoneType::Primary | ZoneType::Secondary => {
             authoritative_contents(handler, alloc, request, query, outcome)
         }
-        ZoneType::External => {
-            let validates = handler.can_validate_dnssec();
-            let outcome = mem::replace(outcome, Ok(AuthLookup::Empty));
-            Ok(forwarded_contents(alloc, request.message(), query, validates, outcome))
-        }
+        ZoneType::External => { Ok(external_contents(handler, alloc, request, query, outcome)) }
     }
 }
 
-/// Answers to what a chain answered in the end, whose records may be taken out, where this handler was asked.
+/// Answers to what a chain answered in the end, whose records may be taken out, where the handler at this place was asked.
 fn answer_outcome<S: ReplySigner, H: ZoneHandler, R: ResponseHandler>(
     asked: &ZoneQuery<'_, S, H>,
-    handler: &H,
+    place: usize,
     outcome: &mut Result<AuthLookup, LookupError>,
     context: &Option<TSigResponseContext>,
     edns: &mut Option<Edns>,
     sink: &mut R,
 ) -> Result<ResponseInfo, CatalogError>
-    ensures replied { IfOk result (λ info. (contents : Contents) × (reply : Reply) × (is_out_of_memory outcome.old ≡ false) ×
-        HandlerReply H.ZoneHandler handler.now (H.zone_type_of handler.now) asked.now.request.now asked.now.query.now outcome.old contents ×
+    requires { place < length asked.now.chain.now }
+    ensures replied { IfOk result (λ info. (handler : H) × (contents : Contents) × (reply : Reply) ×
+        (slice_get asked.now.chain.now place ≡ Some handler) × (is_out_of_memory outcome.old ≡ false) ×
+        HandlerReply H.ZoneHandler handler (H.zone_type_of handler) asked.now.request.now asked.now.query.now outcome.old contents ×
         SignedReply (S.signature_for asked.now.catalog.now.signer) asked.now.request.now.message edns.old contents context.now reply ×
         Sends R.ResponseHandler asked.now.request.now.message.metadata sink.old sink.new reply (header_of info)) }
     ensures refused { IfErr result (λ e. (e ≡ CatalogError.Memory) × IsUntouched R.ResponseHandler sink.old sink.new) }
 {
+    let handler = &asked.chain[place];
     let contents = handler_contents(handler, asked.alloc, asked.request, asked.query, outcome)?;
     let told = send_signed(
         &asked.catalog.signer,
@@ -192,6 +212,39 @@ fn answer_transfer<S: ReplySigner, H: ZoneHandler, R: ResponseHandler>(
     }
 }
 
+/// Answers to what the chain of a zone answered, whose records may be taken out, and hands the reply over, with this EDNS.
+fn answer_chained<S: ReplySigner, H: ZoneHandler, R: ResponseHandler>(
+    asked: &ZoneQuery<'_, S, H>,
+    answered: &mut ChainAnswer,
+    edns: &mut Option<Edns>,
+    sink: &mut R,
+) -> Result<ResponseInfo, CatalogError>
+    requires lookup { (asked.now.query.now.query_type == 252) ≡ false }
+    requires answers { ChainAnswers H.ZoneHandler asked.now.request.now (information asked.now.request.now asked.now.query.now) (consult_options edns.old) asked.now.chain.now answered.old.place answered.old.given.0 answered.old.given.1 }
+    requires place { IsSome (result_of answered.old.given.0) → answered.old.place < length asked.now.chain.now }
+    ensures replied { IfOk result (λ info. (reply : Reply) ×
+        ZoneReply (server_of H.ZoneHandler S.signature_for asked.now.catalog.now) asked.now.chain.now asked.now.request.now edns.old asked.now.moment asked.now.query.now reply ×
+        Sends R.ResponseHandler asked.now.request.now.message.metadata sink.old sink.new reply (header_of info)) }
+    ensures refused { IfErr result (λ e. (e ≡ CatalogError.Memory) × IsUntouched R.ResponseHandler sink.old sink.new) }
+{
+    let place = answered.place;
+    match &mut answered.given.0 {
+        LookupControlFlow::Skip => Ok(send_error(
+            sink,
+            asked.alloc,
+            asked.request.message(),
+            edns,
+            ResponseCode::SERV_FAIL,
+        )),
+        LookupControlFlow::Continue(outcome) => {
+            answer_outcome(asked, place, outcome, &answered.given.1, edns, sink)
+        }
+        LookupControlFlow::Break(outcome) => {
+            answer_outcome(asked, place, outcome, &answered.given.1, edns, sink)
+        }
+    }
+}
+
 /// Answers a query of a zone, but for a transfer, by its handlers, and hands the reply over, with this EDNS.
 fn answer_lookup<S: ReplySigner, H: ZoneHandler, R: ResponseHandler>(
     asked: &ZoneQuery<'_, S, H>,
@@ -213,25 +266,10 @@ fn answer_lookup<S: ReplySigner, H: ZoneHandler, R: ResponseHandler>(
         asked.query,
     );
     let options = LookupOptions::from_edns(edns.as_ref());
-    let answer = chain_answer(asked.chain, alloc, request, &info, options);
-    match answer.answer.map_result() {
-        None => Ok(send_error(
-            sink,
-            alloc,
-            request.message(),
-            edns,
-            ResponseCode::SERV_FAIL,
-        )),
-        Some(outcome) => {
-            let handler = &asked.chain[answer.place];
-            let context = answer.context;
-            let mut rest = outcome;
-            let told = answer_outcome(asked, handler, &mut rest, &context, edns, sink);
-            drop(rest);
-            drop(context);
-            told
-        }
-    }
+    let mut answered = chain_answer(asked.chain, alloc, request, &info, options);
+    let told = answer_chained(asked, &mut answered, edns, sink);
+    drop(answered);
+    told
 }
 
 /// Answers a query, and hands the replies over, with this EDNS.

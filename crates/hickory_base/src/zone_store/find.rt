@@ -142,7 +142,7 @@ fn find_set(
 {
     match set_under(sets, &key) {
         Some(records) => {
-            let mut copies = Vec::new(alloc);
+            let mut copies = Vec::with_capacity(alloc, records.len())?;
             append_copies(&mut copies, records)?;
             Ok(found(alloc, copies))
         }

@@ -88,13 +88,14 @@ impl ZoneHandler for InMemoryZoneHandler {
         request: &Request,
         options: LookupOptions,
     ) -> (LookupControlFlow<AuthLookup>, Option<TSigResponseContext>) {
-        match request.message().queries.try_as_query() {
-            Ok(query) => (
-                self.lookup(alloc, query.name(), query.query_type(), None, options),
-                None,
-            ),
-            Err(e) => (LookupControlFlow::Break(Err(e)), None),
-        }
+        let query = match request.message().queries.try_as_query() {
+            Ok(query) => query,
+            Err(e) => return (LookupControlFlow::Break(Err(e)), None),
+        };
+        (
+            self.lookup(alloc, query.name(), query.query_type(), None, options),
+            None,
+        )
     }
 
     fn consult(

@@ -1,0 +1,7 @@
+use Rattle.hickory_catalog.proofs.Consulting.{behind_is, joined}
+use Rattle.hickory_catalog.proofs.chains.consult_others.Goals as goal
+
+pub returns-clause-consulted : goal.returns-clause-consulted
+returns-clause-consulted g c =
+    let replaced = c.replace-answer.ensures.value in
+    joined (rw replaced at c.consult-answer.ensures) (rw (behind_is c.args.chain.now c.args.asked.now.place) at c.consult.ensures)
