@@ -70,7 +70,8 @@ class Copy:
 
     def prove(self, batch, is_whole):
         """Checks the whole crate with these edits, or what judges them and what that calls."""
-        asked = sorted({path for edit in batch for path in edit.judges if not path.startswith("proofs/")})
+        # (The proof of a cycle of calls belongs to no one function: the functions of the edits bring it along.)
+        asked = sorted({path for edit in batch for path in edit.judges if not path.startswith("proofs/") and "+" not in path})
         self.tell(f"-- {self.name}: {len(batch)} tried together{'' if is_whole else f', by {len(asked)} functions'}")
         return self.check(batch, [] if is_whole else [word for path in asked for word in ("--only", path)])
 

@@ -1,5 +1,5 @@
 -- Each side of a node has fewer networks than the node.
-use Rattle.std.specs.Prelude.{◌≡◌, ℕ, ◌+◌, ◌≤◌, ◌<◌, ◌⊎◌, max, Bool, true, false, cond, List, [], ◌∷◌, ◌++◌, Option, Some, None, length, IsTrue, Box}
+use Rattle.std.specs.Prelude.{◌+◌, ◌≤◌, ◌<◌, ◌⊎◌, max, Bool, true, false, cond, List, [], ◌∷◌, ◌++◌, Option, Some, None, length, IsTrue, Box}
 use Rattle.std.proofs.Common.{arith, length-append, inl, inr}
 use Rattle.std.specs.declared.alloc.Global.{Global}
 use Rattle.hickory_base.specs.Access.{Network}

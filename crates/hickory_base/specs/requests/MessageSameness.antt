@@ -1,6 +1,6 @@
 -- When two messages of requests are the same: in each field, records as records compare, by neither TTL nor proof, names in any letter case, and the
 -- bytes of the questions as bytes.
-use Rattle.std.specs.Prelude.{◌≡◌, ℕ, List, Option, Some, None}
+use Rattle.std.specs.Prelude.{◌≡◌, Option, Some, None}
 use Rattle.std.specs.List.{AllZip}
 use Rattle.hickory_wire.specs.op.QuestionSameness.{SameQuestion}
 use Rattle.hickory_wire.specs.rr.RecordSameness.{SameRecord}

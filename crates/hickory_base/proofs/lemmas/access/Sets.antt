@@ -1,12 +1,12 @@
 -- A set of networks as two tries, one for each family, and an insert of many networks one by one.
-use Rattle.std.proofs.Common.{◌≡◌, ℕ, zero, ◌+◌, ◌<◌, ◌≤◌, ◌⊎◌, ◌↔◌, Bool, true, false, not, IsTrue, OnOk, OnErr, Result, Ok, Err, List, [], ◌∷◌, ◌++◌, length, take, get_or, Option, Some, None, Any, All, Contains, inl, inr, refl, sym, ap, ◌∙◌, subst, arith}
+use Rattle.std.proofs.Common.{◌≡◌, ℕ, ◌+◌, ◌<◌, ◌≤◌, ◌↔◌, Bool, true, false, not, IsTrue, OnOk, OnErr, Result, Ok, Err, List, [], ◌∷◌, ◌++◌, length, take, get_or, Option, Some, None, Any, All, Contains, inl, inr, refl, sym, ap, ◌∙◌, subst, arith}
 use Rattle.std.proofs.lemmas.List.{take_more, take_all}
 use Rattle.std.proofs.lemmas.List.Elements.{Contains-get_or, Contains-append_left, Contains-append_right, Contains-append_cases, All-contains, All-append, All-weaker}
 use Rattle.hickory_base.specs.declared.access.Address.{Address}
 use Rattle.hickory_base.specs.declared.access.Family.{Family}
 use Rattle.hickory_base.specs.Access.{Network, Matches, IsLongestMatch, HasFamily, Inserts, InsertsFirst}
 use Rattle.hickory_base.specs.Prefixes.{IsOfFamily}
-use Rattle.hickory_base.proofs.lemmas.access.Tries.{one_in_single, in_single}
+use Rattle.hickory_base.proofs.lemmas.access.Tries.{one_in_single}
 
 any_at : (P : Network → Type 0) (xs : List Network) (x : Network) → Contains xs x → P x → Any P xs
 any_at P xs x h p = (h.0, x, h.1, h.2, p)

@@ -1,5 +1,4 @@
 use Rattle.std.proofs.Common.{rules, refl, ap}
-use Rattle.std.specs.Prelude.{is_some}
 use Rattle.hickory_base.specs.zone_store.Lookups.{result_of}
 use Rattle.hickory_catalog.specs.Queries.{lookup, unanswered}
 use Rattle.hickory_catalog.specs.Replies.{error_reply}

@@ -1,4 +1,4 @@
-use Rattle.std.proofs.Common.{◌≡◌, ◌<◌, ◌≤◌, ◌^◌, ◌∙◌, ap, sym, subst, arith}
+use Rattle.std.proofs.Common.{◌<◌, ◌≤◌, ◌^◌, ◌∙◌, ap, sym, subst, arith}
 use Rattle.hickory_base.specs.Access.{Network, width}
 use Rattle.hickory_base.proofs.lemmas.access.NetworkText.{first_bits_fit}
 use Rattle.hickory_base.proofs.lemmas.access.Prefixes.{Fits, apart_somewhere, parts_behind, common_found}

@@ -1,4 +1,4 @@
-use Rattle.std.proofs.Common.{◌≡◌, ◌∙◌, All, ap, subst, arith}
+use Rattle.std.proofs.Common.{◌≡◌, ◌∙◌, All, ap, subst}
 use Rattle.hickory_base.specs.Access.{Network}
 use Rattle.hickory_base.specs.Prefixes.{LiesIn}
 use Rattle.hickory_base.specs.declared.access.trie.Node.{Node}

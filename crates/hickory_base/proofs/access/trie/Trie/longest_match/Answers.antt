@@ -1,4 +1,4 @@
-use Rattle.std.proofs.Common.{◌≡◌, ◌++◌, List, IsTrue, subst, sym}
+use Rattle.std.proofs.Common.{◌++◌, List, subst}
 use Rattle.hickory_base.specs.Access.{Network}
 use Rattle.hickory_base.specs.Tries.{networks_of}
 use Rattle.hickory_base.proofs.lemmas.access.Tries.{IsWalked, at_Some, no_match_here, no_end_here, notes, passes, to_one, to_zero}

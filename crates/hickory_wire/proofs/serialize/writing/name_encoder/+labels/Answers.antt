@@ -1,4 +1,4 @@
-use Rattle.std.proofs.Common.{rules, arith, ◌≡◌, ◌≢◌, ◌∙◌, ℕ, List, ◌+◌, ◌<◌, ◌≤◌, ◌++◌, [], length, None, Some, sym, ap, subst, take, drop, get_or, length-append, length-take}
+use Rattle.std.proofs.Common.{rules, arith, ◌≡◌, ◌∙◌, ℕ, List, ◌+◌, ◌≤◌, ◌++◌, length, None, Some, sym, ap, subst, take, drop, get_or, length-append, length-take}
 use Rattle.hickory_wire.specs.rr.domain.DomainName.{IsWire}
 use Rattle.hickory_wire.specs.serialize.writing.Noted.{Notes, first_place, WritesLabels, Compresses}
 use Rattle.hickory_wire.proofs.lemmas.serialize.writing.NameSteps.{Rest, rest_of, writes_pointer, writes_label, writes_noted, still_fresh, compresses_pointer, compresses_noted}

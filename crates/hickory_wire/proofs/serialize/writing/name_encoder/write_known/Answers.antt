@@ -1,5 +1,4 @@
-use Rattle.std.proofs.Common.{rules, ◌≡◌, ◌≢◌, ◌∙◌, [], Some, sym}
-use Rattle.hickory_wire.specs.serialize.writing.Noted.{first_place}
+use Rattle.std.proofs.Common.{◌∙◌, sym}
 use Rattle.hickory_wire.proofs.lemmas.serialize.writing.NameSteps.{empty_list, writes_end, writes_pointer, compresses_root, compresses_pointer}
 use Rattle.hickory_wire.proofs.serialize.writing.name_encoder.write_known.Goals as goal
 

@@ -1,4 +1,4 @@
-use Rattle.std.proofs.Common.{rules, ◌≡◌, ◌∙◌, Some, sym, ap}
+use Rattle.std.proofs.Common.{rules, ◌≡◌, Some}
 use Rattle.hickory_wire.specs.serialize.writing.NameTable.{pairs}
 use Rattle.hickory_wire.specs.serialize.writing.Noted.{first_place}
 use Rattle.hickory_wire.proofs.lemmas.serialize.writing.FirstPlaces.{place_in_range}

@@ -1,9 +1,7 @@
-use Rattle.std.proofs.Common.{rules, ◌≡◌, arith, ◌++◌, ◌∷◌, [], length, drop, None, sym, subst, ap, ◌∙◌}
-use Rattle.std.proofs.lemmas.List.{map-append, nil_from_length}
+use Rattle.std.proofs.Common.{◌≡◌, arith, length, drop, None, sym, subst, ap, ◌∙◌}
 use Rattle.hickory_wire.specs.serialize.writing.Noted.{first_place}
 use Rattle.hickory_wire.specs.serialize.writing.NameTable.{pairs, IsTable}
-use Rattle.hickory_wire.specs.declared.serialize.writing.compression_table.Note.{Note}
-use Rattle.hickory_wire.proofs.lemmas.serialize.writing.FirstPlaces.{pair, IsTable-push}
+use Rattle.hickory_wire.proofs.lemmas.serialize.writing.FirstPlaces.{IsTable-push}
 use Rattle.hickory_wire.proofs.lemmas.serialize.writing.LinkedNotes.{front_whole}
 use Rattle.hickory_wire.proofs.serialize.writing.compression_table.CompressionTable.note.Goals as goal
 
