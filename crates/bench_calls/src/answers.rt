@@ -3,14 +3,14 @@
 ghost use Rattle.std.specs.Prelude.{None};
 
 use crate::WRONG;
-use crate::messages::request;
+use crate::messages::source;
 use crate::reply_sizes::ReplySizes;
 use crate::zone::{updatable_zone, zone};
-use hickory_base::server::RequestHandler;
+use hickory_base::server::{Request, RequestHandler};
 use hickory_base::zone_store::ZoneHandler;
 use hickory_catalog::catalog::Catalog;
 use hickory_catalog::signer::{ReplySigner, SignError};
-use hickory_wire::{Boxed, LowerName, Record, TSIG, TSigResponseContext};
+use hickory_wire::{Boxed, LowerName, Protocol, Record, TSIG, TSigResponseContext};
 use std::alloc::Global;
 
 /// A signer without a key.
@@ -51,9 +51,14 @@ fn measured_answer_request<H: ZoneHandler>(
     bytes: &[u8],
     rounds: u64,
 ) -> Option<()> {
+    let source = source();
     for _ in 0..rounds {
-        let request = request(alloc, bytes)?;
-        catalog.handle_request(alloc, &request, 0, sizes).ok()?;
+        let copy = Vec::from_slice(alloc, bytes).ok()?;
+        // Matched where it is: an `Option` of it would be one more copy of the request.
+        match Request::from_bytes(alloc, copy, source, Protocol::Tcp) {
+            Ok(request) => catalog.handle_request(alloc, &request, 0, sizes).ok()?,
+            Err(_) => return None,
+        };
     }
     Some(())
 }

@@ -9,7 +9,7 @@ use std::iter;
 use std::net::{IpAddr, Ipv4Addr, SocketAddr};
 
 /// Where requests come from.
-fn source() -> SocketAddr {
+pub(crate) fn source() -> SocketAddr {
     SocketAddr::new(IpAddr::V4(Ipv4Addr::LOCALHOST), 53)
 }
 
@@ -27,7 +27,7 @@ fn measured_read_request(alloc: Global, bytes: &[u8], rounds: u64) -> u64 {
         let Ok(copy) = Vec::from_slice(alloc, bytes) else {
             return WRONG;
         };
-        // Matched where it is: an `Option` of it would be one more copy of the request, which no server makes.
+        // Matched where it is: an `Option` of it would be one more copy of the request.
         match Request::from_bytes(alloc, copy, source, Protocol::Tcp) {
             Ok(_) => read = read.wrapping_add(1),
             Err(_) => return WRONG,

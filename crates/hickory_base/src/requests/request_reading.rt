@@ -278,9 +278,7 @@ impl Request {
     {
         let message = MessageRequest::empty(alloc)?;
         let mut request = Request::new(message, Octets::from_vec(bytes), src, protocol);
-        match request.read_in_place(alloc) {
-            Ok(()) => Ok(request),
-            Err(e) => Err(e),
-        }
+        request.read_in_place(alloc)?;
+        Ok(request)
     }
 }

@@ -1,15 +1,18 @@
 use Rattle.std.proofs.Common.{◌≡◌, List, ℕ, ap, sym, subst, ◌∙◌}
+use Rattle.std.proofs.lemmas.Result.{err_from_is_err_and}
 use Rattle.hickory_wire.specs.serialize.reading.MessageReading.{Reads}
 use Rattle.hickory_base.specs.requests.RequestReading.{IsFaultOf}
 use Rattle.hickory_base.specs.requests.Requests.{ReceivedRequest}
 use Rattle.hickory_base.proofs.server.Request.from_bytes.Goals as goal
 
-pub returns-in-Err-clause-only : goal.returns-in-Err-clause-only
-returns-in-Err-clause-only c = λ m reads.
+pub returns-in_err-read_in_place-clause-only : goal.returns-in_err-read_in_place-clause-only
+returns-in_err-read_in_place-clause-only c = λ m reads.
+    let p = err_from_is_err_and c.from_residual-in_err-read_in_place.result c.from_residual-in_err-read_in_place.ensures.1 in
     let same : c.new-request.result.bytes ≡ c.args.bytes.items = ap (λ (r : ReceivedRequest). r.bytes) c.new-request.ensures ∙ c.from_vec.ensures in
-    c.in-Err.ensures.only m (subst (λ (bytes : List ℕ). Reads bytes m) (sym same) reads)
+    rw (p.1, p.2) (c.in_err-read_in_place.ensures.only m (subst (λ (bytes : List ℕ). Reads bytes m) (sym same) reads))
 
-pub returns-in-Err-clause-fault : goal.returns-in-Err-clause-fault
-returns-in-Err-clause-fault c = λ no_want.
+pub returns-in_err-read_in_place-clause-fault : goal.returns-in_err-read_in_place-clause-fault
+returns-in_err-read_in_place-clause-fault c =
+    let p = err_from_is_err_and c.from_residual-in_err-read_in_place.result c.from_residual-in_err-read_in_place.ensures.1 in
     let same : c.new-request.result.bytes ≡ c.args.bytes.items = ap (λ (r : ReceivedRequest). r.bytes) c.new-request.ensures ∙ c.from_vec.ensures in
-    subst (λ (bytes : List ℕ). IsFaultOf bytes c.in-Err.e) same (c.in-Err.ensures.fault no_want)
+    rw (p.1, p.2) (λ no_want. subst (λ (bytes : List ℕ). IsFaultOf bytes c.in_err-read_in_place.field-0.0) same (c.in_err-read_in_place.ensures.fault no_want))
