@@ -1,5 +1,5 @@
 -- What becomes of messages that come one after the other.
-use Rattle.std.specs.Prelude.{◌≡◌, ◌⊎◌, ◌++◌, ◌∷◌, [], ℕ, List, Option, Some, None}
+use Rattle.std.specs.Prelude.{◌≡◌, ◌⊎◌, ◌++◌, ◌∷◌, [], ℕ, List}
 use Rattle.std.specs.Net.Socket.{socket_ip}
 use Rattle.std.specs.List.{AllZip}
 use Rattle.hickory_wire.specs.rr.domain.DomainName.{DomainName}
@@ -26,11 +26,6 @@ pub record IsRequestOf (message : Incoming) (request : ReceivedRequest) : Type 0
   pub raw : request.bytes ≡ message.bytes.items
   pub source_is : request.source ≡ message.src
   pub protocol_is : request.protocol ≡ message.protocol
-
--- what a message is read as, if it is a request
-abbrev pub IsReadAs : Incoming → Option ReceivedRequest → Type 0
-IsReadAs message (Some request) = IsRequestOf message request
-IsReadAs message None = (e : ProtoError) × IsFaultOf message.bytes.items e
 
 -- What becomes of a message, and the zones after it, where these addresses may use the server. Only an update changes a zone.
 pub data Step {H : Type 0} (access : AccessSets) (server : Server H) (message : Incoming) (outcome : Outcome) (zones : List (DomainName × List H)) : Type 0 where

@@ -123,7 +123,7 @@ pub fn framed(alloc: Global, message: &[u8]) -> Result<Vec<u8>, StreamFault>
     ) else {
         return Err(StreamFault::TooLong);
     };
-    let mut framed = Vec::new(alloc);
+    let mut framed = Vec::with_capacity(alloc, 2 + message.len())?;
     framed.push(high)?;
     framed.push(low)?;
     framed.extend_from_slice(message)?;

@@ -7,8 +7,7 @@ ghost use Rattle.hickory_base.specs.responses.EncodingSinks.{IsEncodingOf};
 ghost use Rattle.hickory_catalog.specs.Requests.{RequestAnswered};
 ghost use Rattle.hickory_catalog.specs.Server.{server_of};
 ghost use Rattle.hickory_server.specs.Isolation.{BesideIsARun, EachRunIsBeside, EachRunIsIsolated, ZonesAreIsolated};
-ghost use Rattle.hickory_server.specs.Serving.{IsReadAs, LeavesRequest, LeavesUnserved, Run, RunFailed, Step};
-ghost use Rattle.hickory_server.specs.declared.server.serve.ServeError.TheVariants as serve_error;
+ghost use Rattle.hickory_server.specs.Serving.{LeavesRequest, LeavesUnserved, Run, RunFailed, Step};
 
 use hickory_base::access::AccessControl;
 pub use hickory_base::encoding_sink::EncodingSink;
@@ -58,24 +57,6 @@ pub enum ServeError {
     MemoryAfterHandling,
 }
 
-/// The request that a message is read as, or `None` where its bytes begin with none.
-fn request_of(alloc: Global, message: Incoming) -> Result<Option<Request>, ServeError>
-    ensures ok { IfOk result (λ request. IsReadAs message request) }
-    ensures err { IfErr result (λ e. e ≡ serve_error.Memory) }
-{
-    let Incoming {
-        bytes,
-        src,
-        protocol,
-        ..
-    } = message;
-    match Request::from_bytes(alloc, bytes, src, protocol) {
-        Ok(request) => Ok(Some(request)),
-        Err(ProtoError::Memory) => Err(ServeError::Memory),
-        Err(_) => Ok(None),
-    }
-}
-
 /// The bytes of the replies to a request, in their order.
 fn replies_to<S: ReplySigner, H: ZoneHandler>(
     alloc: Global,
@@ -120,11 +101,24 @@ pub fn serve<S: ReplySigner, H: ZoneHandler>(
     if !access.allow(message.src.ip()) {
         return Ok(Outcome::Denied);
     }
-    let now = message.now;
-    match request_of(alloc, message)? {
-        None => Ok(Outcome::Unreadable),
-        Some(request) => Ok(Outcome::Replies(replies_to(alloc, catalog, &request, now)?)),
-    }
+    let Incoming {
+        bytes,
+        src,
+        protocol,
+        now,
+    } = message;
+    // It is lent where it was read: a request is too large to be handed on.
+    let read = Request::from_bytes(alloc, bytes, src, protocol);
+    let outcome = match &read {
+        Ok(request) => match replies_to(alloc, catalog, request, now) {
+            Ok(replies) => Ok(Outcome::Replies(replies)),
+            Err(e) => Err(e),
+        },
+        Err(ProtoError::Memory) => Err(ServeError::Memory),
+        Err(_) => Ok(Outcome::Unreadable),
+    };
+    drop(read);
+    outcome
 }
 
 /// Serves messages, one after the other, each over the catalog as those before it left it: what becomes of each.

@@ -1,18 +1,57 @@
-use Rattle.std.proofs.Common.{rules, refl}
+use Rattle.std.proofs.Common.{◌≡◌, ℕ, List, Result, Ok, IfOk, rules, refl}
 use Rattle.std.specs.Net.Socket.{socket_ip}
-use Rattle.hickory_base.specs.Access.{IsAllowed}
-use Rattle.hickory_server.specs.Serving.{handled, unreadable}
+use Rattle.hickory_wire.specs.rr.domain.DomainName.{DomainName}
+use Rattle.hickory_wire.specs.serialize.reading.MessageReading.{Reads}
+use Rattle.hickory_wire.specs.declared.error.ProtoError.{ProtoError}
+use Rattle.hickory_base.specs.Access.{AccessSets, IsAllowed}
+use Rattle.hickory_base.specs.requests.RequestReading.{IsQuestionSection, message_of}
+use Rattle.hickory_base.specs.requests.Requests.{ReceivedRequest}
+use Rattle.hickory_catalog.specs.Server.{Server}
+use Rattle.hickory_server.specs.Serving.{IsRequestOf, LeavesRequest, LeavesUnserved, handled, unreadable}
+use Rattle.hickory_server.specs.declared.server.serve.Incoming.{Incoming}
+use Rattle.hickory_server.specs.declared.server.serve.ServeError.{ServeError}
+use Rattle.hickory_server.specs.declared.server.serve.ServeError.TheVariants.{Memory, MemoryAfterHandling}
+use Rattle.hickory_server.proofs.server.serve.serve.Goals.{in-Ok+in-Ok-replies_to, in-Ok+in-Err-replies_to, in-Err-Memory, in-Err}
 use Rattle.hickory_server.proofs.server.serve.serve.Goals as goal
 
-pub returns-in-None-clause-ok : goal.returns-in-None-clause-ok
-returns-in-None-clause-ok g c =
-    let allowed : IsAllowed c.args.access.now.deny c.args.access.now.allow (socket_ip c.args.message.src) = search rules in
-    let read = rw c.in-None.is at c.in_ok-request_of.ensures.ok in
-    unreadable allowed read.1 refl refl
+-- the request that its message was read as
+read_as : (message : Incoming) (request : ReceivedRequest) {result : Result ReceivedRequest ProtoError} → result ≡ Ok request
+    → IfOk result (λ r. Reads message.bytes.items (message_of r.message)) → IfOk result (λ r. IsQuestionSection message.bytes.items r.message.queries)
+    → IfOk result (λ r. r.bytes ≡ message.bytes.items) → IfOk result (λ r. (r.source ≡ message.src) × (r.protocol ≡ message.protocol)) → IsRequestOf message request
+read_as message request is found questions raw source =
+    record { reads = rw is at found; questions = rw is at questions; raw = rw is at raw; source_is = (rw is at source).0; protocol_is = (rw is at source).1 }
 
-pub returns-in_ok-replies_to-in-Some-clause-ok : goal.returns-in_ok-replies_to-in-Some-clause-ok
-returns-in_ok-replies_to-in-Some-clause-ok g c =
+-- what a request leaves is what its message leaves
+unserved : {H : Type 0} (access : AccessSets) (server : Server H) (message : Incoming) (request : ReceivedRequest) (e : ServeError) (zones : List (DomainName × List H))
+    → IsAllowed access.deny access.allow (socket_ip message.src) → IsRequestOf message request → LeavesRequest server request message.now e zones → LeavesUnserved access server message e zones
+unserved access server message request Memory zones allowed read left = left
+unserved access server message request MemoryAfterHandling zones allowed read left = (allowed, request, read, left)
+
+pub returns-clause-ok : goal.returns-clause-ok
+returns-clause-ok g c =
     let allowed : IsAllowed c.args.access.now.deny c.args.access.now.allow (socket_ip c.args.message.src) = search rules in
-    let read = rw c.in-Some.is at c.in_ok-request_of.ensures.ok in
-    let w = c.in_ok-replies_to-in-Some.ensures.ok in
-    handled allowed read w.1 (rw read.protocol_is at w.2) refl
+    elim c.match-read.branch [
+      | in-Ok+in-Ok-replies_to w ↦
+          let it = c.from_bytes-read.ensures in
+          let read = read_as c.args.message w.in-Ok.request w.in-Ok.is it.found it.questions it.raw it.source in
+          let r = w.in-Ok-replies_to.ensures.ok in
+          rw (w.outcome-is, w.catalog-is) (handled allowed read r.1 (rw read.protocol_is at r.2) refl)
+      | in-Ok+in-Err-replies_to w ↦ rw w.outcome-is tt
+      | in-Err-Memory w ↦ rw w.outcome-is tt
+      | in-Err w ↦
+          let fault = rw w.in-Err.is at c.from_bytes-read.ensures.fault in
+          rw (w.outcome-is, w.catalog-is) (unreadable allowed (fault (search rules)) refl refl)
+    ]
+
+pub returns-clause-err : goal.returns-clause-err
+returns-clause-err g c =
+    let allowed : IsAllowed c.args.access.now.deny c.args.access.now.allow (socket_ip c.args.message.src) = search rules in
+    elim c.match-read.branch [
+      | in-Ok+in-Ok-replies_to w ↦ rw w.outcome-is tt
+      | in-Ok+in-Err-replies_to w ↦
+          let it = c.from_bytes-read.ensures in
+          let read = read_as c.args.message w.in-Ok.request w.in-Ok.is it.found it.questions it.raw it.source in
+          rw (w.outcome-is, w.catalog-is) (unserved _ _ c.args.message w.in-Ok.request _ _ allowed read w.in-Err-replies_to.ensures.err)
+      | in-Err-Memory w ↦ rw (w.outcome-is, w.catalog-is) refl
+      | in-Err w ↦ rw w.outcome-is tt
+    ]
