@@ -13,5 +13,7 @@ mod record_set;
 pub use handler::{AxfrPolicy, Nsec3QueryInfo, NxProofKind, ZoneHandler, ZoneType};
 pub use in_memory::InMemoryZoneHandler;
 pub use key_sameness::key_comparisons;
-pub use lookup::{AuthLookup, Lookup, LookupControlFlow, LookupOptions, ZoneTransfer};
+pub use lookup::{
+    AuthLookup, Lookup, LookupControlFlow, LookupOptions, StoredAnswer, ZoneTransfer,
+};
 pub use record_set::{RecordSet, RrKey};

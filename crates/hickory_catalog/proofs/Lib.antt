@@ -17,6 +17,7 @@ pub mod RepliesFit
 pub mod Runs
 pub mod SentInOrder
 pub mod SentReplies
+pub mod StoredReplies
 pub mod TransferReplies
 pub mod Transferring
 pub mod Updating

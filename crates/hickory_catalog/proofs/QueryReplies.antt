@@ -1,7 +1,7 @@
 -- From what the steps of a query say to what its reply is.
 use Rattle.std.proofs.Common.{◌≡◌, ◌<◌, ℕ, zero, suc, List, [], ◌∷◌, length, get_or, Option, Some, None, Result, Ok, Err, subst, sym, ap, arith}
 use Rattle.std.specs.Option.{option_map}
-use Rattle.std.specs.Prelude.{IfOk, IfErr, slice_get}
+use Rattle.std.specs.Prelude.{IfOk, IfErr, IfSome, slice_get}
 use Rattle.hickory_wire.specs.rr.domain.DomainName.{DomainName}
 use Rattle.hickory_catalog.specs.Find.{Finds}
 
@@ -14,6 +14,15 @@ if_ok_map (Err e) P Q h f = h
 pub if_err_map : {T E : Type 0} (r : Result T E) (P Q : E → Type 0) → IfErr r P → ((e : E) → P e → Q e) → IfErr r Q
 if_err_map (Ok t) P Q h f = h
 if_err_map (Err e) P Q h f = f e h
+
+-- what follows from what is so of a `Some`
+pub if_some_map : {T : Type 0} (o : Option T) (P Q : T → Type 0) → IfSome o P → ((t : T) → P t → Q t) → IfSome o Q
+if_some_map (Some t) P Q h f = f t h
+if_some_map None P Q h f = h
+
+pub if_some_and : {T : Type 0} (o : Option T) (P Q R : T → Type 0) → IfSome o P → IfSome o Q → ((t : T) → P t → Q t → R t) → IfSome o R
+if_some_and (Some t) P Q R h k f = f t h k
+if_some_and None P Q R h k f = h
 
 module _ {H : Type 0} (zones : List (DomainName × List H)) {X : Type 0} (items : X → List H) where
   pub finds_none : (name named : DomainName) (found : Option X) → Finds zones name (option_map items found) → found ≡ None → name ≡ named → Finds zones named None

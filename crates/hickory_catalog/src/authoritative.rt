@@ -56,7 +56,7 @@ pub(crate) fn negative_code(e: &LookupError) -> ResponseCode
 }
 
 /// Whether records are a referral to the servers of a zone below (RFC 1034 section 4.3.2, step 3b).
-fn is_referral(query_type: RecordType, records: &[Record]) -> bool
+pub(crate) fn is_referral(query_type: RecordType, records: &[Record]) -> bool
     ensures { result ≡ is_referral query_type records.now }
 {
     let asked = query_type.value();

@@ -108,33 +108,47 @@ pub(crate) fn response<'q>(
     )
 }
 
-/// A reply whose answers are lent, and which has no other records.
-type AnswersResponse<'q> = MessageResponse<
+/// What a reply says whose records lie elsewhere, in a zone.
+///
+/// Contracts speak of it as `lent_contents`.
+#[derive(Clone, Copy)]
+pub(crate) struct LentContents<'z> {
+    /// The header but for its counts.
+    pub metadata: Metadata,
+    /// The answer section.
+    pub answers: &'z [Record],
+    /// The authority section.
+    pub authorities: &'z [Record],
+}
+
+/// A reply whose answers and authorities are lent, and which has no other records.
+type LentResponse<'q> = MessageResponse<
     'q,
     'q,
     Iter<'q, Record>,
-    EmptySection<'q>,
+    Iter<'q, Record>,
     EmptySection<'q>,
     EmptySection<'q>,
 >;
 
-/// The reply to a request of this metadata and these answers, with this EDNS, and without a signature.
-pub(crate) fn answers_response<'q>(
+/// The reply to a request of this metadata and these records, with this EDNS, and without a signature.
+pub(crate) fn lent_response<'q>(
     request: &'q MessageRequest,
     edns: Option<&'q Edns>,
     metadata: Metadata,
     answers: &'q [Record],
-) -> AnswersResponse<'q>
+    authorities: &'q [Record],
+) -> LentResponse<'q>
     ensures parts { IsBuilt (record { questions = request.now.queries; edns = option_copied edns.entry }) metadata result }
     ensures answers { iter_rest result.answers ≡ answers.now }
-    ensures authorities { once_item result.authorities ≡ None }
+    ensures authorities { iter_rest result.authorities ≡ authorities.now }
     ensures soa { once_item result.soa ≡ None }
     ensures additionals { once_item result.additionals ≡ None }
 {
     MessageResponseBuilder::new(&request.queries, edns).build(
         metadata,
         answers.iter(),
-        iter::empty::<&Record>(),
+        authorities.iter(),
         iter::empty::<&Record>(),
         iter::empty::<&Record>(),
     )

@@ -14,6 +14,7 @@ mod requests;
 mod sending;
 pub mod signer;
 mod signing;
+mod stored;
 mod transfer_replies;
 mod transfers;
 mod updates;

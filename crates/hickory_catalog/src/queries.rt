@@ -1,13 +1,14 @@
 //! From a query to its replies.
 
-ghost use Rattle.std.specs.Prelude.{◌≡◌, ◌==◌, ◌<◌, true, false, List, IfOk, IfErr, IsSome, Some, length, slice_get};
+ghost use Rattle.std.specs.Prelude.{◌≡◌, ◌==◌, ◌<◌, true, false, List, Option, IfOk, IfErr, IfSome, IsSome, Some, length, slice_get};
+ghost use Rattle.hickory_wire.specs.op.EdnsFields.{EdnsFields};
 ghost use Rattle.hickory_wire.specs.serialize.writing.Reply.{Reply};
 ghost use Rattle.hickory_base.specs.zone_store.Lookups.{result_of};
 ghost use Rattle.hickory_base.specs.requests.Requests.{information};
 ghost use Rattle.hickory_base.specs.responses.Responses.{header_of};
 ghost use Rattle.hickory_catalog.specs.Forwarded.{forwarded_contents};
 ghost use Rattle.hickory_catalog.specs.Queries.{GivenReplies, HandlerReply, QueryReplies, ZoneReplies, ZoneReply, consult_options, is_out_of_memory};
-ghost use Rattle.hickory_catalog.specs.Replies.{Contents, contents_of};
+ghost use Rattle.hickory_catalog.specs.Replies.{Contents, contents_of, lent_contents, unsigned_reply};
 ghost use Rattle.hickory_catalog.specs.Sending.{IsUntouched, Sends, SendsInOrder};
 ghost use Rattle.hickory_catalog.specs.Server.{server_of};
 ghost use Rattle.hickory_catalog.specs.Signing.{SignedReply};
@@ -17,11 +18,12 @@ ghost use Rattle.hickory_catalog.specs.Transfers.{transfer_contents};
 use crate::authoritative::authoritative_contents;
 use crate::catalog::Catalog;
 use crate::chains::{ChainAnswer, chain_answer, is_memory};
-use crate::contents::ReplyContents;
+use crate::contents::{LentContents, ReplyContents};
 use crate::forwarded::forwarded_contents;
-use crate::sending::send_error;
+use crate::sending::{send_error, send_lent};
 use crate::signer::ReplySigner;
 use crate::signing::send_signed;
+use crate::stored::stored_contents;
 use crate::transfer_replies::send_transfer;
 use crate::transfers::{ask_for_transfer, split_records, transfer_contents};
 use hickory_base::errors::{CatalogError, LookupError};
@@ -245,6 +247,20 @@ fn answer_chained<S: ReplySigner, H: ZoneHandler, R: ResponseHandler>(
     }
 }
 
+/// What the one handler of a zone replies with what lies in it, where it keeps its answers. Nobody else is there to be consulted.
+fn stored_in_chain<'q, S: ReplySigner, H: ZoneHandler>(
+    asked: &ZoneQuery<'q, S, H>,
+) -> Option<LentContents<'q>>
+    ensures { (asked.now.query.now.query_type == 252) ≡ false → IfSome result (λ contents. (edns : Option EdnsFields) →
+        ZoneReply (server_of H.ZoneHandler S.signature_for asked.now.catalog.now) asked.now.chain.now asked.now.request.now edns asked.now.moment asked.now.query.now
+        (unsigned_reply asked.now.request.now.message edns (lent_contents contents))) }
+{
+    match asked.chain {
+        [handler] => stored_contents(handler, asked.request, asked.query),
+        _ => None,
+    }
+}
+
 /// Answers a query of a zone, but for a transfer, by its handlers, and hands the reply over, with this EDNS.
 fn answer_lookup<S: ReplySigner, H: ZoneHandler, R: ResponseHandler>(
     asked: &ZoneQuery<'_, S, H>,
@@ -259,6 +275,22 @@ fn answer_lookup<S: ReplySigner, H: ZoneHandler, R: ResponseHandler>(
 {
     let alloc = asked.alloc;
     let request = asked.request;
+    if let Some(contents) = stored_in_chain(asked) {
+        let LentContents {
+            metadata,
+            answers,
+            authorities,
+        } = contents;
+        return Ok(send_lent(
+            sink,
+            alloc,
+            request.message(),
+            edns,
+            metadata,
+            answers,
+            authorities,
+        ));
+    }
     let info = RequestInfo::new(
         request.src(),
         request.protocol(),

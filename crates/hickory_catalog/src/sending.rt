@@ -1,16 +1,16 @@
 //! Handing replies to a sink.
 
-ghost use Rattle.std.specs.Prelude.{◌≡◌, IfOk, IfErr};
+ghost use Rattle.std.specs.Prelude.{◌≡◌, [], IfOk, IfErr};
 ghost use Rattle.std.specs.Iterator.{IsFinite};
 ghost use Rattle.std.specs.Option.{option_copied};
 ghost use Rattle.hickory_wire.specs.serialize.writing.Reply.{Reply};
 ghost use Rattle.hickory_base.specs.responses.Responses.{IsReplyBy, header_of};
-ghost use Rattle.hickory_catalog.specs.Replies.{contents_of, error_reply, plain_reply};
+ghost use Rattle.hickory_catalog.specs.Replies.{contents_of, error_reply, plain_reply, unsigned_reply};
 ghost use Rattle.hickory_catalog.specs.Sending.{Fails, Sends, Takes, failure_header};
 ghost use Rattle.hickory_catalog.specs.Transfers.{message_of_transfer};
 
 use crate::authoritative::authoritative_metadata;
-use crate::contents::{ReplyContents, answers_response, response};
+use crate::contents::{ReplyContents, lent_response, response};
 use crate::edns::set_high_code;
 use hickory_base::message_request::MessageRequest;
 use hickory_base::message_response::MessageResponse;
@@ -111,8 +111,26 @@ pub(crate) fn send_records<R: ResponseHandler>(
     ensures failed { IfErr result (λ info. Fails R.ResponseHandler request.now.metadata sink.old sink.new (message_of_transfer request.now (option_copied edns.entry) records.now) (header_of info)) }
 {
     let metadata = authoritative_metadata(&request.metadata, ResponseCode::NO_ERROR);
-    let response = answers_response(request, edns, metadata, records);
+    let response = lent_response(request, edns, metadata, records, &[]);
     send_once(sink, alloc, &request.metadata, response)
+}
+
+/// Hands a reply over that has this metadata and these records, with this EDNS, and is not signed.
+pub(crate) fn send_lent<R: ResponseHandler>(
+    sink: &mut R,
+    alloc: Global,
+    request: &MessageRequest,
+    edns: &mut Option<Edns>,
+    metadata: Metadata,
+    answers: &[Record],
+    authorities: &[Record],
+) -> ResponseInfo
+    ensures { Sends R.ResponseHandler request.now.metadata sink.old sink.new
+        (unsigned_reply request.now edns.old (record { metadata = metadata; answers = answers.now; authorities = authorities.now; additionals = [] })) (header_of result) }
+{
+    set_high_code(metadata.response_code, edns);
+    let response = lent_response(request, edns.as_ref(), metadata, answers, authorities);
+    told(send_once(sink, alloc, &request.metadata, response))
 }
 
 /// Hands an error reply over, with this EDNS: a response code, and no records.

@@ -5,8 +5,10 @@ ghost use Rattle.std.specs.Prelude.{◌≡◌};
 use crate::errors::{LookupError, UpdateFault};
 use crate::server::{Request, RequestInfo};
 use crate::zone_store::handler::{AxfrPolicy, Nsec3QueryInfo, NxProofKind, ZoneHandler, ZoneType};
-use crate::zone_store::lookup::{AuthLookup, LookupControlFlow, LookupOptions, ZoneTransfer};
-use hickory_wire::{LowerName, RecordType, TSigResponseContext};
+use crate::zone_store::lookup::{
+    AuthLookup, LookupControlFlow, LookupOptions, StoredAnswer, ZoneTransfer,
+};
+use hickory_wire::{LowerName, Record, RecordType, TSigResponseContext};
 use std::alloc::Global;
 
 impl ZoneHandler for Box<dyn ZoneHandler> {
@@ -72,6 +74,14 @@ impl ZoneHandler for Box<dyn ZoneHandler> {
         options: LookupOptions,
     ) -> (LookupControlFlow<AuthLookup>, Option<TSigResponseContext>) {
         (**self).search(alloc, request, options)
+    }
+
+    fn stored_answer(&self, request: &Request, options: LookupOptions) -> Option<StoredAnswer<'_>> {
+        (**self).stored_answer(request, options)
+    }
+
+    fn stored_soa(&self, options: LookupOptions) -> Option<&[Record]> {
+        (**self).stored_soa(options)
     }
 
     fn consult(

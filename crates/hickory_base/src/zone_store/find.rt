@@ -1,14 +1,15 @@
 //! How the sets of a zone are found.
 
-ghost use Rattle.std.specs.Prelude.{◌≡◌, ◌++◌, IfOk, OnOk};
+ghost use Rattle.std.specs.Prelude.{◌≡◌, ◌++◌, IfOk, OnOk, IfSome};
 ghost use Rattle.std.specs.Option.{option_copied};
 ghost use Rattle.std.specs.Map.{lookup};
+ghost use Rattle.hickory_base.specs.zone_store.Lookups.{stored_result};
 ghost use Rattle.hickory_base.specs.zone_store.ZoneAnswers.{OrMemory, any_answer, first_record, found, set_answer, set_or_denial, zone_answer, is_in_use, records_at};
 ghost use Rattle.hickory_base.specs.zone_store.ZoneSets.{is_key, keys_at, sets_of};
 
 use crate::errors::{DnsError, LookupError};
 use crate::zone_store::copies::append_copies;
-use crate::zone_store::lookup::AuthLookup;
+use crate::zone_store::lookup::{AuthLookup, StoredAnswer};
 use crate::zone_store::record_set::{RecordSet, RrKey};
 use hickory_wire::{Items, LowerName, Record, RecordType, ResponseCode};
 use std::alloc::{AllocError, Global};
@@ -150,6 +151,38 @@ fn find_set(
             let first = RrKey::new(key.name, RecordType::new(0));
             Err(denial(alloc, sets, &first))
         }
+    }
+}
+
+/// What the sets hold under a key, where it lies.
+fn stored_set(sets: &BTreeMap<RrKey, Rc<RecordSet>>, key: RrKey) -> StoredAnswer<'_>
+    ensures { stored_result result ≡ set_answer (sets_of sets.now) key.name key.record_type }
+{
+    if let Some(records) = set_under(sets, &key) {
+        return StoredAnswer::Records(records);
+    }
+    let first = RrKey::new(key.name, RecordType::new(0));
+    if is_in_use(sets, &first) {
+        StoredAnswer::NoData
+    } else {
+        StoredAnswer::NoName
+    }
+}
+
+/// The same for a name and type, where that is one set and the key takes no memory that is refused.
+pub(crate) fn find_stored<'m>(
+    sets: &'m BTreeMap<RrKey, Rc<RecordSet>>,
+    name: &LowerName,
+    record_type: RecordType,
+) -> Option<StoredAnswer<'m>>
+    ensures { IfSome result (λ answer. stored_result answer ≡ zone_answer (sets_of sets.now) name.now record_type) }
+{
+    if record_type.value() == RecordType::ANY.value() {
+        return None;
+    }
+    match name.clone() {
+        Ok(name) => Some(stored_set(sets, RrKey::new(name, record_type))),
+        Err(_) => None,
     }
 }
 

@@ -4,8 +4,10 @@ ghost use Rattle.std.specs.Prelude.{◌≡◌};
 
 use crate::errors::{LookupError, UpdateFault};
 use crate::server::{Request, RequestInfo};
-use crate::zone_store::lookup::{AuthLookup, LookupControlFlow, LookupOptions, ZoneTransfer};
-use hickory_wire::{LowerName, Octets, RecordType, TSigResponseContext};
+use crate::zone_store::lookup::{
+    AuthLookup, LookupControlFlow, LookupOptions, StoredAnswer, ZoneTransfer,
+};
+use hickory_wire::{LowerName, Octets, Record, RecordType, TSigResponseContext};
 use std::alloc::Global;
 
 /// What a server is to a zone.
@@ -71,18 +73,20 @@ pub struct Nsec3QueryInfo<'q> {
 /// state and the arguments of a call with the answer. Want of memory is `LookupError::Memory` or
 /// `UpdateFault::Memory` within the answer.
 pub trait ZoneHandler: Drop {
-    ghost use Rattle.std.specs.Prelude.{◌≡◌, ℕ, Bool, Option, Result, OnErr};
+    ghost use Rattle.std.specs.Prelude.{◌≡◌, ℕ, Bool, Option, None, Result, Ok, [], OnErr, IfSome};
     ghost use Rattle.std.specs.Option.{option_copied, option_map};
     ghost use Rattle.hickory_wire.specs.rr.domain.DomainName.{DomainName};
     ghost use Rattle.hickory_wire.specs.declared.rr.tsig.TSigResponseContext.{TSigResponseContext};
     ghost use Rattle.hickory_base.specs.zone_store.Denials.{Nsec3Question, nsec3_question};
-    ghost use Rattle.hickory_base.specs.zone_store.Lookups.{Flow};
+    ghost use Rattle.hickory_base.specs.zone_store.Lookups.{Flow, stored_result};
     ghost use Rattle.hickory_base.specs.requests.Requests.{ReceivedRequest, RequestInformation, information_of};
     ghost use Rattle.hickory_base.specs.declared.errors.LookupError.{LookupError};
     ghost use Rattle.hickory_base.specs.declared.errors.UpdateFault.{UpdateFault};
     ghost use Rattle.hickory_base.specs.declared.zone_store.handler.AxfrPolicy.{AxfrPolicy};
     ghost use Rattle.hickory_base.specs.declared.zone_store.handler.NxProofKind.{NxProofKind};
     ghost use Rattle.hickory_base.specs.declared.zone_store.handler.ZoneType.{ZoneType};
+    ghost use Rattle.hickory_base.specs.declared.zone_store.lookup.AuthLookup.TheVariants.{Records};
+    ghost use Rattle.hickory_base.specs.declared.zone_store.lookup.LookupControlFlow.TheVariants.{Continue};
     ghost use Rattle.hickory_base.specs.declared.zone_store.lookup.LookupOptions.{LookupOptions};
     ghost use Rattle.hickory_base.specs.declared.zone_store.lookup.ZoneTransfer.{ZoneTransfer};
 
@@ -149,6 +153,22 @@ pub trait ZoneHandler: Drop {
         options: LookupOptions,
     ) -> (LookupControlFlow<AuthLookup>, Option<TSigResponseContext>)
         ensures { search_gives self.now request.now options result.0 result.1 };
+
+    /// What `search` may answer this request with, as a `Continue` without a context, where it lies in the handler and takes no
+    /// memory. `None` says that `search` has to be asked, as it always does of a handler that keeps no answers.
+    fn stored_answer(&self, request: &Request, options: LookupOptions) -> Option<StoredAnswer<'_>>
+        ensures { IfSome result (λ answer. search_gives self.now request.now options (Continue (stored_result answer)) None) }
+    {
+        None
+    }
+
+    /// The records that `lookup` may find for the SOA of the zone, as a `Continue`, where they lie in the handler. `None` says
+    /// that `lookup` has to be asked.
+    fn stored_soa(&self, options: LookupOptions) -> Option<&[Record]>
+        ensures { IfSome result (λ records. lookup_gives self.now (origin_of self.now) 6 None options (Continue (Ok (Records records.now [])))) }
+    {
+        None
+    }
 
     /// Looks at what another handler of the chain answered, and answers in its place or gives it back.
     fn consult(

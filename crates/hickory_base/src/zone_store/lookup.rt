@@ -137,6 +137,19 @@ impl AuthLookup {
     }
 }
 
+/// What a zone has for a question, where it lies: an answer that takes no memory.
+///
+/// Contracts speak of the answer that it stands for as `stored_result`.
+#[derive(Clone, Copy)]
+pub enum StoredAnswer<'z> {
+    /// The records that are asked for.
+    Records(&'z [Record]),
+    /// The name has no records at all (RFC 2308 section 2.1).
+    NoName,
+    /// The name has records of other types alone (RFC 2308 section 2.2).
+    NoData,
+}
+
 /// The records of a zone transfer, in the order in which they are sent (RFC 5936 section 2.2).
 #[derive(Debug, Drop)]
 pub struct ZoneTransfer {

@@ -7,11 +7,13 @@ ghost use Rattle.hickory_base.specs.declared.zone_store.lookup.LookupControlFlow
 
 use crate::errors::{LookupError, UpdateFault};
 use crate::server::{Request, RequestInfo};
-use crate::zone_store::find::find;
+use crate::zone_store::find::{find, find_stored, set_under};
 use crate::zone_store::handler::{AxfrPolicy, Nsec3QueryInfo, NxProofKind, ZoneHandler, ZoneType};
 use crate::zone_store::in_memory::InMemoryZoneHandler;
-use crate::zone_store::lookup::{AuthLookup, LookupControlFlow, LookupOptions, ZoneTransfer};
-use hickory_wire::{LowerName, RecordType, ResponseCode, TSigResponseContext};
+use crate::zone_store::lookup::{
+    AuthLookup, LookupControlFlow, LookupOptions, StoredAnswer, ZoneTransfer,
+};
+use hickory_wire::{LowerName, Record, RecordType, ResponseCode, TSigResponseContext};
 use std::alloc::Global;
 
 impl InMemoryZoneHandler {
@@ -96,6 +98,21 @@ impl ZoneHandler for InMemoryZoneHandler {
             self.lookup(alloc, query.name(), query.query_type(), None, options),
             None,
         )
+    }
+
+    fn stored_answer(
+        &self,
+        request: &Request,
+        _options: LookupOptions,
+    ) -> Option<StoredAnswer<'_>> {
+        match request.message().queries.try_as_query() {
+            Ok(query) => find_stored(&self.records, query.name(), query.query_type()),
+            Err(_) => None,
+        }
+    }
+
+    fn stored_soa(&self, _options: LookupOptions) -> Option<&[Record]> {
+        set_under(&self.records, &self.apex)
     }
 
     fn consult(
