@@ -261,8 +261,10 @@ fn stored_in_chain<'q, S: ReplySigner, H: ZoneHandler>(
     }
 }
 
-/// Answers a query of a zone, but for a transfer, by its handlers, and hands the reply over, with this EDNS.
-fn answer_lookup<S: ReplySigner, H: ZoneHandler, R: ResponseHandler>(
+/// Answers a query of a zone, but for a transfer, by what its handlers say, and hands the reply over, with this EDNS. It stands apart, so that no room is made for an
+/// answer where the zone keeps one.
+#[inline(never)]
+fn answer_by_chain<S: ReplySigner, H: ZoneHandler, R: ResponseHandler>(
     asked: &ZoneQuery<'_, S, H>,
     edns: &mut Option<Edns>,
     sink: &mut R,
@@ -275,22 +277,6 @@ fn answer_lookup<S: ReplySigner, H: ZoneHandler, R: ResponseHandler>(
 {
     let alloc = asked.alloc;
     let request = asked.request;
-    if let Some(contents) = stored_in_chain(asked) {
-        let LentContents {
-            metadata,
-            answers,
-            authorities,
-        } = contents;
-        return Ok(send_lent(
-            sink,
-            alloc,
-            request.message(),
-            edns,
-            metadata,
-            answers,
-            authorities,
-        ));
-    }
     let info = RequestInfo::new(
         request.src(),
         request.protocol(),
@@ -302,6 +288,39 @@ fn answer_lookup<S: ReplySigner, H: ZoneHandler, R: ResponseHandler>(
     let told = answer_chained(asked, &mut answered, edns, sink);
     drop(answered);
     told
+}
+
+/// Answers a query of a zone, but for a transfer, by its handlers, and hands the reply over, with this EDNS.
+fn answer_lookup<S: ReplySigner, H: ZoneHandler, R: ResponseHandler>(
+    asked: &ZoneQuery<'_, S, H>,
+    edns: &mut Option<Edns>,
+    sink: &mut R,
+) -> Result<ResponseInfo, CatalogError>
+    requires { (asked.now.query.now.query_type == 252) ≡ false }
+    ensures replied { IfOk result (λ info. (reply : Reply) ×
+        ZoneReply (server_of H.ZoneHandler S.signature_for asked.now.catalog.now) asked.now.chain.now asked.now.request.now edns.old asked.now.moment asked.now.query.now reply ×
+        Sends R.ResponseHandler asked.now.request.now.message.metadata sink.old sink.new reply (header_of info)) }
+    ensures refused { IfErr result (λ e. (e ≡ CatalogError.Memory) × IsUntouched R.ResponseHandler sink.old sink.new) }
+{
+    if let Some(contents) = stored_in_chain(asked) {
+        let LentContents {
+            metadata,
+            answers,
+            authorities,
+        } = contents;
+        let message = asked.request.message();
+        let told = send_lent(
+            sink,
+            asked.alloc,
+            message,
+            edns,
+            metadata,
+            answers,
+            authorities,
+        );
+        return Ok(told);
+    }
+    answer_by_chain(asked, edns, sink)
 }
 
 /// Answers a query, and hands the replies over, with this EDNS.
