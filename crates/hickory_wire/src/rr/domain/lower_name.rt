@@ -12,6 +12,7 @@ ghost use Rattle.hickory_wire.specs.rr.domain.NameHash.{name_hash_input, name_ha
 use crate::rr::domain::name::Name;
 use crate::rr::domain::order_key::{escaped_len, make_order_key, shared_len, wire_len};
 use crate::rr::domain::wire::Wire;
+use crate::serialize::writing::same_bytes::are_same;
 use std::alloc::{AllocError, Global};
 use std::cmp::Ordering;
 use std::hash::{Hash, Hasher};
@@ -64,7 +65,12 @@ impl LowerName {
     pub fn zone_of(&self, other: &LowerName) -> bool
         ensures { IsTrue result ↔ Encloses self.now.labels other.now.labels }
     {
-        other.key.as_slice().starts_with(self.key.as_slice())
+        let own = self.key.as_slice();
+        let all = other.key.as_slice();
+        if own.len() > all.len() {
+            return false;
+        }
+        are_same(&all[..own.len()], own)
     }
 
     /// Takes the first label off, so that the name above is left. A name without labels stays. It takes no memory.

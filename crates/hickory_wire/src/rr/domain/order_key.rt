@@ -1,6 +1,6 @@
 //! Names in a form that is compared byte by byte.
 
-ghost use Rattle.std.specs.Prelude.{◌≡◌, ℕ, ◌+◌, ◌*◌, ◌<◌, ◌≤◌, List, ◌∷◌, ◌++◌, length, take, drop, IfOk};
+ghost use Rattle.std.specs.Prelude.{◌≡◌, ℕ, ◌+◌, ◌*◌, ◌<◌, ◌≤◌, List, ◌∷◌, ◌++◌, length, take, drop, IfOk, IfSome, IsTrue};
 ghost use Rattle.std.specs.Ordering.{nat_cmp};
 ghost use Rattle.std.specs.Cmp.Lexicographic.{slice_cmp};
 ghost use Rattle.std.specs.Slice.Scan.{big_endian};
@@ -8,19 +8,13 @@ ghost use Rattle.hickory_wire.specs.rr.domain.DomainName.{IsWire, cut, wire_form
 ghost use Rattle.hickory_wire.specs.rr.domain.NameBytes.{wire_bytes};
 ghost use Rattle.hickory_wire.specs.rr.domain.OrderKey.{IsSharedFront, escaped, order_key};
 
-use crate::rr::domain::wire::Wire;
+use crate::rr::domain::wire::{SHORT_LEN, ShortBytes, Wire};
 use crate::values::words::{WORD_LEN, word_at};
 use std::alloc::{AllocError, Global};
 use std::cmp::Ordering;
 
 /// At least as many bytes as the key of any name has: each byte of a label takes two at most, and each label one more.
 const KEY_ROOM: usize = 512;
-
-/// Names of so few bytes in wire form, as most are, take a room for their keys that costs less to make.
-const SHORT_NAME: usize = 32;
-
-/// At least as many bytes as the key of such a name has.
-const SHORT_ROOM: usize = 64;
 
 /// Puts a label, and the byte that ends it, in front of what stands in the room from a place on. Returns where it begins.
 fn put_label(room: &mut [u8], end: usize, label: &[u8]) -> usize
@@ -111,13 +105,58 @@ fn make_key_in(room: &mut [u8], alloc: Global, wire: &[u8]) -> Result<Wire, Allo
     Wire::from_slice(alloc, &room[start..])
 }
 
+/// The same for a label without a byte below 2, as nearly all are. For any other it returns nothing.
+fn put_plain(room: &mut [u8], end: usize, label: &[u8]) -> Option<usize>
+    requires enough { length label.now < end }
+    requires within { end ≤ length room.old }
+    ensures { IfSome result (λ start. (start + length label.now + 1 ≡ end) × (drop start room.new ≡ escaped label.now ++ 0 ∷ drop end room.old)) }
+{
+    room[end - 1] = 0;
+    let mut start = end - 1;
+    let mut left = label.len();
+    while left > 0 {
+        left -= 1;
+        let plain = label[left];
+        if plain < 2 {
+            return None;
+        }
+        start -= 1;
+        room[start] = plain;
+    }
+    Some(start)
+}
+
+/// Makes the key in a room of as many bytes as the labels take, where none of theirs is below 2. Returns whether none is.
+fn fill_plain_key(room: &mut [u8], wire: &[u8]) -> bool
+    requires wire { IsWire wire.now }
+    requires exact { length room.old ≡ length wire.now }
+    ensures { IsTrue result → room.new ≡ order_key (cut wire.now) }
+{
+    let mut start = room.len();
+    let mut place = 0;
+    while place < wire.len() {
+        let first = place + 1;
+        let next = first + usize::from(wire[place]);
+        let Some(before) = put_plain(room, start, &wire[first..next]) else {
+            return false;
+        };
+        start = before;
+        place = next;
+    }
+    true
+}
+
 /// The key of the name whose labels these are. Keys compare as the labels of the names do, from the last one on.
 pub(crate) fn make_order_key(alloc: Global, wire: &[u8]) -> Result<Wire, AllocError>
     requires { IsWire wire.now }
     ensures { IfOk result (λ key. wire_bytes key ≡ order_key (cut wire.now)) }
 {
-    if wire.len() <= SHORT_NAME {
-        return make_key_in(&mut [0; SHORT_ROOM], alloc, wire);
+    // Most names are short, and have a key as long as they are, which is made where it stays.
+    if wire.len() <= SHORT_LEN {
+        let mut room = [0; SHORT_LEN];
+        if fill_plain_key(&mut room[..wire.len()], wire) {
+            return Ok(Wire::Short(ShortBytes::from_array(room, wire.len())));
+        }
     }
     make_key_in(&mut [0; KEY_ROOM], alloc, wire)
 }

@@ -1,6 +1,6 @@
 //! Where bytes are kept that are mostly few, as those of a name.
 
-ghost use Rattle.std.specs.Prelude.{◌≡◌, ◌≤◌, [], length, take, drop, map, IfOk};
+ghost use Rattle.std.specs.Prelude.{◌≡◌, ◌≤◌, [], ◌-◌, length, take, drop, map, replicate, IfOk};
 ghost use Rattle.std.specs.Char.{to_ascii_lowercase};
 ghost use Rattle.std.specs.Cmp.Lexicographic.{slice_cmp};
 ghost use Rattle.std.specs.Ordering.{nat_cmp};
@@ -13,7 +13,7 @@ use std::cmp::Ordering;
 use std::marker::Model;
 
 /// So many bytes take no memory of their own. Most names and most question sections are no longer.
-const SHORT_LEN: usize = 30;
+pub(crate) const SHORT_LEN: usize = 30;
 
 /// A few bytes in an array. Behind them it is zero, so that they can be compared without a look at how many they are.
 #[derive(Drop)]
@@ -60,6 +60,19 @@ impl ShortBytes {
         ShortBytes {
             bytes: [0; SHORT_LEN],
             len: 0,
+        }
+    }
+
+    /// The first bytes of an array that is zero behind them.
+    #[inline(always)]
+    pub(crate) fn from_array(bytes: [u8; SHORT_LEN], len: usize) -> ShortBytes
+        requires fits { len ≤ 30 }
+        requires behind { drop len bytes ≡ replicate (30 - len) 0 }
+        ensures { result ≡ take len bytes }
+    {
+        ShortBytes {
+            bytes,
+            len: len as u8,
         }
     }
 

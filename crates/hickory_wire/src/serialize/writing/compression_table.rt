@@ -86,13 +86,13 @@ fn known_bucket(in_bucket: Option<usize>, suffix: &[u8]) -> usize
     }
 }
 
-// The first place of the suffix among the notes. Slices of other lengths are told apart by them.
+// The first place of the suffix among the notes. Those of other lengths, or with other first bytes, cost no call.
 #[inline(never)]
 fn find_in(notes: &[Note<'_>], suffix: &[u8]) -> Option<u16>
     ensures { result ≡ first_place suffix.now (pairs notes.now) }
 {
     for note in notes {
-        if note.suffix == suffix {
+        if are_same(note.suffix, suffix) {
             return Some(note.place);
         }
     }

@@ -1,12 +1,10 @@
 -- Order keys compare as the labels that they are made of.
-use Rattle.std.proofs.Common.{◌≡◌, ◌↔◌, ℕ, Bool, true, zero, suc, ◌+◌, ◌-◌, ◌*◌, ◌<◌, ◌≤◌, List, [], ◌∷◌, ◌++◌, length, map, take, drop, get_or, reverse, append_assoc, length-append, refl, sym, ap, ◌∙◌, arith}
+use Rattle.std.proofs.Common.{◌≡◌, ◌↔◌, ℕ, Bool, zero, suc, ◌+◌, ◌-◌, ◌*◌, ◌<◌, ◌≤◌, List, [], ◌∷◌, ◌++◌, length, map, take, drop, get_or, reverse, append_assoc, length-append, refl, sym, ap, ◌∙◌, arith}
 use Rattle.std.specs.declared.cmp.Ordering.{Ordering}
 use Rattle.std.specs.declared.cmp.Ordering.TheVariants.{Less, Equal, Greater}
 use Rattle.std.specs.Ordering.{nat_cmp, ordering_then}
 use Rattle.std.specs.Bool.{IsTrue}
-use Rattle.std.specs.Prelude.{nat_eq}
-use Rattle.std.specs.List.{starts_with}
-use Rattle.std.specs.Cmp.Lexicographic.{slice_cmp, nat_list_cmp_total, pointwise, bytes_decides}
+use Rattle.std.specs.Cmp.Lexicographic.{slice_cmp, nat_list_cmp_total}
 use Rattle.std.proofs.lemmas.Map.Lookups.{exact_bytes}
 use Rattle.std.proofs.lemmas.List.{reverse-append, reverse-reverse, take-append-le, take-append-drop}
 use Rattle.std.proofs.Math.Seq.{take-length}
@@ -160,12 +158,6 @@ key_starts (x ∷ xs) (y ∷ ys) rest e =
     let more = key_starts xs ys rest split.1 in
     (more.0, ap (λ l. l ∷ ys) split.0 ∙ ap (λ ls. x ∷ ls) more.1)
 
-starts_exactly : (xs ys : List ℕ) → pointwise nat_eq xs (take (length xs) ys) ≡ true → ys ≡ xs ++ drop (length xs) ys
-starts_exactly xs ys h = sym (take-append-drop (length xs) ys) ∙ ap (λ zs. zs ++ drop (length xs) ys) (sym ((bytes_decides xs (take (length xs) ys)).0 h))
-
-starts_with_front : (xs more : List ℕ) → pointwise nat_eq xs (take (length xs) (xs ++ more)) ≡ true
-starts_with_front xs more = (bytes_decides xs (take (length xs) (xs ++ more))).1 (sym (take-append-le (length xs) xs more (omega arith) ∙ take-length xs))
-
 -- a name encloses another whose key starts with its own
 pub encloses_by_key : (own other : List (List ℕ)) (rest : List ℕ) → lower_labels own ≡ own → lower_labels other ≡ other → order_key other ≡ order_key own ++ rest → Encloses own other
 encloses_by_key own other rest p q e =
@@ -180,13 +172,13 @@ pub key_of_enclosed : (own other : List (List ℕ)) → lower_labels own ≡ own
 key_of_enclosed own other p q h = ap order_key (sym q ∙ h.ends ∙ ap (λ ls. h.front ++ ls) p) ∙ key_split h.front own
 
 -- so whether one encloses the other is told by their keys
-pub key_encloses : (own other : List (List ℕ)) (key all : List ℕ) (b : Bool) → lower_labels own ≡ own → lower_labels other ≡ other → key ≡ order_key own → all ≡ order_key other → b ≡ starts_with nat_eq all key
+pub key_encloses : (own other : List (List ℕ)) (key all : List ℕ) (b : Bool) → lower_labels own ≡ own → lower_labels other ≡ other → key ≡ order_key own → all ≡ order_key other → IsTrue b ↔ (take (length key) all ≡ key)
     → IsTrue b ↔ Encloses own other
 key_encloses own other key all b p q k a e = (
   λ (h : IsTrue b).
-      let is : all ≡ key ++ drop (length key) all = starts_exactly key all (sym e ∙ h) in
+      let is : all ≡ key ++ drop (length key) all = sym (take-append-drop (length key) all) ∙ ap (λ zs. zs ++ drop (length key) all) (e.0 h) in
       encloses_by_key own other (drop (length key) all) p q (sym a ∙ is ∙ ap (λ xs. xs ++ drop (length key) all) k),
   λ (h : Encloses own other).
       let is : all ≡ key ++ order_key h.front = a ∙ key_of_enclosed own other p q h ∙ ap (λ xs. xs ++ order_key h.front) (sym k) in
-      e ∙ ap (λ xs. starts_with nat_eq xs key) is ∙ starts_with_front key (order_key h.front),
+      e.1 (ap (take (length key)) is ∙ take-append-le (length key) key (order_key h.front) (omega arith) ∙ take-length key),
 )
