@@ -1,30 +1,33 @@
 //! Bytes of replies whose records are given by references of any kind, as a sink is handed them.
 
-ghost use Rattle.std.specs.Prelude.{◌≡◌, IfOk, OnErr, map};
+ghost use Rattle.std.specs.Prelude.{◌≡◌, IfOk, OnOk, OnErr, map};
 ghost use Rattle.std.specs.Iterator.{IsFinite};
 ghost use Rattle.hickory_wire.specs.serialize.writing.Reply.{Reply, size_limit};
 ghost use Rattle.hickory_wire.specs.serialize.writing.ReplyParts.{RecordLists, ReplyEncoded, reply_of};
+ghost use Rattle.hickory_base.specs.responses.LenderLists.{CanLend, lender_list};
 ghost use Rattle.hickory_base.specs.responses.Responses.{GivesBy, IsReplyBy, header_of};
 
+use crate::responses::lenders::Lenders;
 use crate::responses::message_response::{MessageResponse, ResponseInfo, borrowed, size_limit};
 use crate::responses::response_handler::RecordRef;
 use hickory_wire::{Header, ProtoError, Protocol, ReplyParts, encode_message_parts};
 use std::alloc::{AllocError, Global};
 
-/// The items of an iterator, which lend its records.
-fn lenders<I>(alloc: Global, records: I) -> Result<Vec<I::Item>, AllocError>
+/// Keeps the items of an iterator, which lend its records.
+fn gather<I>(lenders: &mut Lenders<I::Item>, alloc: Global, records: I) -> Result<(), AllocError>
 where
     I: Iterator + Drop,
     I::Item: RecordRef,
+    requires none { lenders.old ≡ Lenders.Empty }
     requires can { I.can_next records }
     requires ends { IsFinite (I.remaining records) }
-    ensures { IfOk result (λ lenders. GivesBy I.next_gives I.Item.record_of records (map I.Item.record_of lenders.items)) }
+    ensures gives { OnOk result (GivesBy I.next_gives I.Item.record_of records (map I.Item.record_of (lender_list lenders.new))) }
+    ensures lend { OnOk result (CanLend I.Item.row lenders.new) }
 {
-    let mut lenders = Vec::new(alloc);
     'records: for item in records {
-        lenders.push(item)?;
+        lenders.push(alloc, item)?;
     }
-    Ok(lenders)
+    Ok(())
 }
 
 /// The bytes of a reply whose records are lent by these items, and its header.
@@ -75,10 +78,14 @@ where
         ReplyEncoded limit (reply_of parts.entry lists) made.1.items made.0) }
     ensures err { OnErr result (result ≡ Err ProtoError.Memory) }
 {
-    let answers = lenders(alloc, parts.answers)?;
-    let authorities = lenders(alloc, parts.authorities)?;
-    let soa = lenders(alloc, parts.soa)?;
-    let additionals = lenders(alloc, parts.additionals)?;
+    let mut answers = Lenders::Empty;
+    gather(&mut answers, alloc, parts.answers)?;
+    let mut authorities = Lenders::Empty;
+    gather(&mut authorities, alloc, parts.authorities)?;
+    let mut soa = Lenders::Empty;
+    gather(&mut soa, alloc, parts.soa)?;
+    let mut additionals = Lenders::Empty;
+    gather(&mut additionals, alloc, parts.additionals)?;
     let lent = ReplyParts {
         metadata: parts.metadata,
         question: parts.question,
