@@ -8,6 +8,7 @@ pub mod header_encoder;
 pub mod list_encoder;
 pub mod message_encoder;
 pub mod name_encoder;
+pub mod note_list;
 pub mod question_notes;
 pub mod record_encoder;
 pub mod record_room;

@@ -17,6 +17,7 @@ pub mod ReadingBack
 pub mod RecordLists
 pub mod RepliesEncoded
 pub mod SameBytes
+pub mod StoredNotes
 pub mod WholeLists
 pub mod WritingFaults
 pub mod WrittenAdditionals

@@ -35,6 +35,12 @@ pub record AreLinked (notes : List Note) (lasts : List ℕ) : Type 0 where
   pub last : (b : ℕ) → b < 1024 → IsLast b (buckets notes) (slice_index lasts b)
   pub before : (i : ℕ) → i < length notes → IsLast (slice_index (buckets notes) i) (take i (buckets notes)) (slice_index (befores notes) i)
 
+-- The notes lie in the table itself until they are linked, and in memory from then on.
+pub record IsStored (first linked : List Note) (lasts : List ℕ) : Type 0 where
+  pub short : length first ≤ 16
+  pub here : lasts ≡ [] → linked ≡ []
+  pub behind : lasts ≢ [] → first ≡ []
+
 -- A name that is kept was noted at its place.
 abbrev pub IsKept : List Note → Option KeptName → Type 0
 IsKept notes kept = IfSome kept (λ name. IsNotedAt (pairs notes) name.wire.now name.place)

@@ -4,6 +4,7 @@ ghost use Rattle.std.specs.Prelude.{◌≡◌, ℕ, ◌<◌, ◌++◌, ◌∷◌
 ghost use Rattle.hickory_wire.specs.serialize.writing.Noted.{Notes, IsPlace, first_place, IsNotedAt};
 ghost use Rattle.hickory_wire.specs.serialize.writing.NameTable.{pairs, bucket, AreApart, AreLinked};
 
+use crate::serialize::writing::note_list::{LIST_LEN, NoteList};
 use crate::serialize::writing::same_bytes::are_same;
 use std::alloc::{AllocError, Global};
 use std::hash::{FoldHasher, Hasher};
@@ -11,11 +12,11 @@ use std::marker::Model;
 
 // The last labels of a name in wire form, without the end byte, and the place in the message where they stand.
 #[derive(Clone, Copy)]
-struct Note<'n> {
-    suffix: &'n [u8],
-    place: u16,
+pub(crate) struct Note<'n> {
+    pub(crate) suffix: &'n [u8],
+    pub(crate) place: u16,
     // Where the notes are linked, how many of them end with the one before it in its bucket, or 0 where it is the first there.
-    before: u16,
+    pub(crate) before: u16,
 }
 
 // A name in wire form, without the end byte, and the place where it was noted.
@@ -25,12 +26,6 @@ struct KeptName<'n> {
     place: u16,
 }
 
-// Room for the notes of a small reply at once.
-const FIRST_CAPACITY: usize = 16;
-
-// Up to so many notes are searched one by one, which is cheaper there than to link them.
-const LIST_LEN: usize = 16;
-
 // The notes that are linked lie in so many buckets.
 const BUCKETS: usize = 1024;
 
@@ -39,6 +34,9 @@ const BUCKETS: usize = 1024;
 /// Contracts speak of it as the list of the notes in the order of noting.
 #[derive(Drop)]
 pub(crate) struct CompressionTable<'n> {
+    // The notes while they are searched one by one. They lie in the table itself, so that a small reply takes no memory for them.
+    first: NoteList<'n>,
+    // The notes once they are linked, in memory.
     notes: Vec<Note<'n>>,
     // For each bucket, how many notes end with its last one, or 0 where it has none. Empty while the notes are searched one by one.
     lasts: Vec<u16>,
@@ -53,14 +51,17 @@ pub(crate) struct CompressionTable<'n> {
 
 impl<'n> Model for CompressionTable<'n> {
     ghost use Rattle.hickory_wire.specs.serialize.writing.Noted.{Notes};
+    ghost use Rattle.std.specs.Prelude.{◌++◌};
 
     ghost Value = { Notes };
 
-    ghost use Rattle.hickory_wire.specs.serialize.writing.NameTable.{pairs, IsTable};
+    ghost use Rattle.hickory_wire.specs.serialize.writing.NameTable.{pairs, IsTable, IsStored};
 
-    ghost view = { λ table. pairs table.notes.items };
+    ghost view = { λ table. pairs (table.first ++ table.notes.items) };
 
-    ghost invariant = { λ table. IsTable table.notes.items table.last_owner table.last_target table.lasts.items };
+    ghost invariant = { λ table.
+        IsTable (table.first ++ table.notes.items) table.last_owner table.last_target table.lasts.items
+        × IsStored table.first table.notes.items table.lasts.items };
 }
 
 // The bucket of a suffix.
@@ -194,6 +195,7 @@ impl<'n> CompressionTable<'n> {
         ensures { result ≡ [] }
     {
         CompressionTable {
+            first: NoteList::new(),
             notes: Vec::new(alloc),
             lasts: Vec::new(alloc),
             last_owner: None,
@@ -215,7 +217,11 @@ impl<'n> CompressionTable<'n> {
     pub(crate) fn mark(&self) -> usize
         ensures { result ≡ length self.now }
     {
-        self.notes.len()
+        if self.lasts.is_empty() {
+            self.first.as_slice().len()
+        } else {
+            self.notes.len()
+        }
     }
 
     /// The bucket of a suffix, for `find` and `note`, where the table has come to use buckets.
@@ -237,7 +243,7 @@ impl<'n> CompressionTable<'n> {
         ensures in_range { IfSome result (λ place. IsPlace place) }
     {
         if self.lasts.is_empty() {
-            find_in(&self.notes, suffix)
+            find_in(self.first.as_slice(), suffix)
         } else {
             let in_bucket = known_bucket(in_bucket, suffix);
             find_linked(&self.notes, &self.lasts, in_bucket, suffix)
@@ -276,23 +282,9 @@ impl<'n> CompressionTable<'n> {
         }
     }
 
-    // Takes the memory of the first notes, and links them once they are too many to be searched one by one.
-    fn make_room(&mut self) -> Result<(), AllocError>
-        ensures { self.new ≡ self.old }
-    {
-        if self.notes.is_empty() {
-            return self.notes.reserve(FIRST_CAPACITY);
-        }
-        if self.lasts.is_empty() && self.notes.len() >= LIST_LEN {
-            let mut lasts = vec![in self.alloc; 0u16; BUCKETS]?;
-            self.notes = link(self.alloc, self.expected, &self.notes, &mut lasts)?;
-            self.lasts = lasts;
-        }
-        Ok(())
-    }
-
-    // Notes a suffix where the notes are searched one by one, and so they may be linked first.
-    fn note_in_list(
+    // Notes a suffix among linked notes. They are linked first where they are not.
+    #[inline(never)]
+    fn note_linked(
         &mut self,
         in_bucket: Option<usize>,
         suffix: &'n [u8],
@@ -304,17 +296,17 @@ impl<'n> CompressionTable<'n> {
         ensures ok { OnOk result (self.new ≡ self.old ++ (suffix.now, place) ∷ []) }
         ensures err { OnErr result (self.new ≡ self.old) }
     {
-        self.make_room()?;
-        if self.lasts.is_empty() {
-            self.notes.push(Note {
-                suffix,
-                place,
-                before: 0,
-            })?;
+        let in_bucket = known_bucket(in_bucket, suffix);
+        if !self.lasts.is_empty() {
+            push_linked(&mut self.notes, &mut self.lasts, in_bucket, suffix, place)?;
             return Ok(());
         }
-        let in_bucket = known_bucket(in_bucket, suffix);
-        push_linked(&mut self.notes, &mut self.lasts, in_bucket, suffix, place)?;
+        let mut lasts = vec![in self.alloc; 0u16; BUCKETS]?;
+        let mut notes = link(self.alloc, self.expected, self.first.as_slice(), &mut lasts)?;
+        push_linked(&mut notes, &mut lasts, in_bucket, suffix, place)?;
+        self.first.truncate(0);
+        self.notes = notes;
+        self.lasts = lasts;
         Ok(())
     }
 
@@ -332,11 +324,19 @@ impl<'n> CompressionTable<'n> {
         ensures ok { OnOk result (self.new ≡ self.old ++ (suffix.now, place) ∷ []) }
         ensures err { OnErr result (self.new ≡ self.old) }
     {
-        if self.lasts.is_empty() {
-            return self.note_in_list(in_bucket, suffix, place);
+        if !self.lasts.is_empty() {
+            let in_bucket = known_bucket(in_bucket, suffix);
+            push_linked(&mut self.notes, &mut self.lasts, in_bucket, suffix, place)?;
+            return Ok(());
         }
-        let in_bucket = known_bucket(in_bucket, suffix);
-        push_linked(&mut self.notes, &mut self.lasts, in_bucket, suffix, place)?;
+        if self.first.is_full() {
+            return self.note_linked(in_bucket, suffix, place);
+        }
+        self.first.push(Note {
+            suffix,
+            place,
+            before: 0,
+        });
         Ok(())
     }
 
@@ -347,7 +347,7 @@ impl<'n> CompressionTable<'n> {
         self.last_owner = None;
         self.last_target = None;
         if self.lasts.is_empty() {
-            self.notes.truncate(mark);
+            self.first.truncate(mark);
         } else {
             unlink(&mut self.notes, &mut self.lasts, mark);
         }

@@ -1,4 +1,4 @@
-use Rattle.std.proofs.Common.{rules, ◌≡◌, Some}
+use Rattle.std.proofs.Common.{rules, ◌≡◌, ◌++◌, Some}
 use Rattle.hickory_wire.specs.serialize.writing.NameTable.{pairs}
 use Rattle.hickory_wire.specs.serialize.writing.Noted.{first_place}
 use Rattle.hickory_wire.proofs.lemmas.serialize.writing.FirstPlaces.{place_in_range}
@@ -7,11 +7,11 @@ use Rattle.hickory_wire.proofs.serialize.writing.compression_table.CompressionTa
 pub returns-then-are_same-clause-in_range : goal.returns-then-are_same-clause-in_range
 returns-then-are_same-clause-in_range c =
     let e : c.in-Some.owner.wire.now ≡ c.args.wire.now = search rules in
-    let f : first_place c.args.wire.now (pairs c.self.inside.notes.items) ≡ Some c.in-Some.owner.place = search rules in
-    place_in_range c.args.wire.now c.in-Some.owner.place (pairs c.self.inside.notes.items) c.self.invariant.in_range f
+    let f : first_place c.args.wire.now (pairs (c.self.inside.first ++ c.self.inside.notes.items)) ≡ Some c.in-Some.owner.place = search rules in
+    place_in_range c.args.wire.now c.in-Some.owner.place (pairs (c.self.inside.first ++ c.self.inside.notes.items)) c.self.invariant.0.in_range f
 
 pub returns-then-are_same-2-clause-in_range : goal.returns-then-are_same-2-clause-in_range
 returns-then-are_same-2-clause-in_range c =
     let e : c.in-Some-last_target.target.wire.now ≡ c.args.wire.now = search rules in
-    let f : first_place c.args.wire.now (pairs c.self.inside.notes.items) ≡ Some c.in-Some-last_target.target.place = search rules in
-    place_in_range c.args.wire.now c.in-Some-last_target.target.place (pairs c.self.inside.notes.items) c.self.invariant.in_range f
+    let f : first_place c.args.wire.now (pairs (c.self.inside.first ++ c.self.inside.notes.items)) ≡ Some c.in-Some-last_target.target.place = search rules in
+    place_in_range c.args.wire.now c.in-Some-last_target.target.place (pairs (c.self.inside.first ++ c.self.inside.notes.items)) c.self.invariant.0.in_range f
