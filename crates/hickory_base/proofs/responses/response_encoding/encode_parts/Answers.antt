@@ -4,18 +4,6 @@ use Rattle.hickory_base.specs.responses.LenderLists.{lender_list}
 use Rattle.hickory_base.proofs.lemmas.ResultMaps.{if_ok_map}
 use Rattle.hickory_base.proofs.responses.response_encoding.encode_parts.Goals as goal
 
-pub as_slice-requires : goal.as_slice-requires
-as_slice-requires g c = c.in_ok-gather.ensures.lend
-
-pub as_slice-requires-2 : goal.as_slice-requires-2
-as_slice-requires-2 g c = c.in_ok-gather-2.ensures.lend
-
-pub as_slice-requires-3 : goal.as_slice-requires-3
-as_slice-requires-3 g c = c.in_ok-gather-3.ensures.lend
-
-pub as_slice-requires-4 : goal.as_slice-requires-4
-as_slice-requires-4 g c = c.in_ok-gather-4.ensures.lend
-
 pub returns-clause-encoded : goal.returns-clause-encoded
 returns-clause-encoded g c =
     let lists : RecordLists = record {
