@@ -4,7 +4,7 @@ use crate::asked::{Asked, note};
 use crate::part::{Call, Part};
 use crate::verifier::ScriptedVerifier;
 use hickory_server::proto::{
-    LowerName, Name, RecordType, ResponseCode, TSigResponseContext, TSigResponseKind,
+    LowerName, Name, Record, RecordType, ResponseCode, TSigResponseContext, TSigResponseKind,
 };
 use hickory_server::server::{Request, RequestInfo};
 use hickory_server::store::blocklist::BlocklistZoneHandler;
@@ -12,7 +12,7 @@ use hickory_server::store::in_memory::InMemoryZoneHandler;
 use hickory_server::store::sqlite::SqliteZoneHandler;
 use hickory_server::zone_handler::{
     AuthLookup, AxfrPolicy, LookupControlFlow, LookupError, LookupOptions, Nsec3QueryInfo,
-    NxProofKind, UpdateFault, ZoneHandler, ZoneTransfer, ZoneType,
+    NxProofKind, StoredAnswer, UpdateFault, ZoneHandler, ZoneTransfer, ZoneType,
 };
 use std::alloc::Global;
 
@@ -224,6 +224,22 @@ impl ZoneHandler for Handler {
                 let answer = search_part(part, alloc, request, options);
                 (answer, context_of(part, request.metadata().id))
             }
+        }
+    }
+
+    fn stored_answer(&self, request: &Request, options: LookupOptions) -> Option<StoredAnswer<'_>> {
+        match &self.source {
+            Source::Zone(zone) => zone.stored_answer(request, options),
+            Source::Updatable(zone) => zone.stored_answer(request, options),
+            Source::Part(_) | Source::Blocklist(_) => None,
+        }
+    }
+
+    fn stored_soa(&self, options: LookupOptions) -> Option<&[Record]> {
+        match &self.source {
+            Source::Zone(zone) => zone.stored_soa(options),
+            Source::Updatable(zone) => zone.stored_soa(options),
+            Source::Part(_) | Source::Blocklist(_) => None,
         }
     }
 

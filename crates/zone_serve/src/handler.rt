@@ -4,13 +4,13 @@ ghost use Rattle.std.specs.Prelude.{None, false};
 ghost use Rattle.zone_serve.specs.Handlers.{zone_type_of, axfr_policy_of, origin_of};
 
 use crate::keys::NoKeys;
-use hickory_server::proto::{LowerName, RecordType, ResponseCode, TSigResponseContext};
+use hickory_server::proto::{LowerName, Record, RecordType, ResponseCode, TSigResponseContext};
 use hickory_server::server::{Request, RequestInfo};
 use hickory_server::store::blocklist::BlocklistZoneHandler;
 use hickory_server::store::sqlite::SqliteZoneHandler;
 use hickory_server::zone_handler::{
     AuthLookup, AxfrPolicy, LookupControlFlow, LookupError, LookupOptions, Nsec3QueryInfo,
-    NxProofKind, UpdateFault, ZoneHandler, ZoneTransfer, ZoneType,
+    NxProofKind, StoredAnswer, UpdateFault, ZoneHandler, ZoneTransfer, ZoneType,
 };
 use std::alloc::Global;
 use std::rc::Rc;
@@ -107,6 +107,20 @@ impl ZoneHandler for Handler {
         match self {
             Handler::Zone(zone) => zone.search(alloc, request, options),
             Handler::Blocklist(list) => list.search(alloc, request, options),
+        }
+    }
+
+    fn stored_answer(&self, request: &Request, options: LookupOptions) -> Option<StoredAnswer<'_>> {
+        match self {
+            Handler::Zone(zone) => zone.stored_answer(request, options),
+            Handler::Blocklist(_) => None,
+        }
+    }
+
+    fn stored_soa(&self, options: LookupOptions) -> Option<&[Record]> {
+        match self {
+            Handler::Zone(zone) => zone.stored_soa(options),
+            Handler::Blocklist(_) => None,
         }
     }
 

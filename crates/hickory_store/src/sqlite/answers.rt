@@ -15,9 +15,9 @@ use hickory_base::errors::{DnsError, LookupError, UpdateFault};
 use hickory_base::server::{Request, RequestInfo};
 use hickory_base::zone_store::{
     AuthLookup, AxfrPolicy, InMemoryZoneHandler, LookupControlFlow, LookupOptions, Nsec3QueryInfo,
-    NxProofKind, ZoneHandler, ZoneTransfer, ZoneType,
+    NxProofKind, StoredAnswer, ZoneHandler, ZoneTransfer, ZoneType,
 };
-use hickory_wire::{LowerName, RecordType, TSigResponseContext};
+use hickory_wire::{LowerName, Record, RecordType, TSigResponseContext};
 use std::alloc::Global;
 
 /// Why a transfer is not given, where the permission to it is refused.
@@ -125,6 +125,17 @@ impl<V: Verifier> ZoneHandler for SqliteZoneHandler<V> {
             return (LookupControlFlow::Break(failed), None);
         }
         self.in_memory.search(alloc, request, options)
+    }
+
+    fn stored_answer(&self, request: &Request, options: LookupOptions) -> Option<StoredAnswer<'_>> {
+        if asks_for_transfer(request) {
+            return None;
+        }
+        self.in_memory.stored_answer(request, options)
+    }
+
+    fn stored_soa(&self, options: LookupOptions) -> Option<&[Record]> {
+        self.in_memory.stored_soa(options)
     }
 
     fn consult(

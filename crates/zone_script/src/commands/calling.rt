@@ -9,11 +9,11 @@ use crate::question::message;
 use crate::script::Script;
 use crate::text::lower_name;
 use crate::words::octets;
-use hickory_server::proto::{LowerName, RecordType, TSigResponseContext};
+use hickory_server::proto::{LowerName, Record, RecordType, TSigResponseContext};
 use hickory_server::server::Request;
 use hickory_server::zone_handler::{
     AuthLookup, DnsError, LookupControlFlow, LookupError, LookupOptions, Nsec3QueryInfo,
-    ZoneHandler, ZoneTransfer,
+    StoredAnswer, ZoneHandler, ZoneTransfer,
 };
 use std::alloc::{AllocError, Global};
 use std::fmt::Write;
@@ -145,6 +145,22 @@ fn print_transfer(
     }
 }
 
+/// Puts records that lie in a handler behind a text.
+fn print_lent_records(out: &mut String, records: &[Record]) -> Result<(), AllocError> {
+    out.push_str("lent: found\n")?;
+    print_records(out, records)
+}
+
+/// Puts an answer that lies in a handler behind a text, or that there is none and a search has to be asked.
+fn print_lent(out: &mut String, answer: Option<StoredAnswer<'_>>) -> Result<(), AllocError> {
+    match answer {
+        None => out.push_str("nothing lent\n"),
+        Some(StoredAnswer::Records(records)) => print_lent_records(out, records),
+        Some(StoredAnswer::NoName) => out.push_str("lent: no such name\n"),
+        Some(StoredAnswer::NoData) => out.push_str("lent: no records of the type\n"),
+    }
+}
+
 /// What the word `do`, or no word, asks for.
 fn options(words: &[&str]) -> Result<LookupOptions, Fault> {
     match words {
@@ -155,7 +171,7 @@ fn options(words: &[&str]) -> Result<LookupOptions, Fault> {
 }
 
 const CALL_USAGE: &str =
-    "call search HEX|NAME TYPE, call lookup|consult NAME TYPE [do], call transfer NAME|request HEX, call nsec NAME [do], call nsec3 NAME TYPE [do]";
+    "call search|stored HEX|NAME TYPE, call stored soa, call lookup|consult NAME TYPE [do], call transfer NAME|request HEX, call nsec NAME [do], call nsec3 NAME TYPE [do]";
 
 /// Calls `search` with a request.
 fn search_for(
@@ -180,6 +196,32 @@ fn search(
     let called = search_for(handler, alloc, &request, out);
     drop(request);
     called
+}
+
+/// Calls `stored_answer` with a request.
+fn stored_for(handler: &Handler, request: &Request, out: &mut String) -> Result<(), Fault> {
+    let options = LookupOptions::from_edns(request.message().edns.as_ref());
+    print_lent(out, handler.stored_answer(request, options)).map_err(Fault::from)
+}
+
+/// Calls `stored_answer`.
+fn stored(
+    script: &Script,
+    alloc: Global,
+    handler: &Handler,
+    words: &[&str],
+    out: &mut String,
+) -> Result<(), Fault> {
+    let request = received(script, alloc, message(alloc, words)?)?;
+    let called = stored_for(handler, &request, out);
+    drop(request);
+    called
+}
+
+/// Calls `stored_soa`.
+fn stored_soa(handler: &Handler, out: &mut String) -> Result<(), Fault> {
+    let soa = handler.stored_soa(LookupOptions { dnssec_ok: false });
+    print_lent(out, soa.map(StoredAnswer::Records)).map_err(Fault::from)
 }
 
 /// Calls `zone_transfer` with a request.
@@ -314,6 +356,8 @@ fn make_call(
 ) -> Result<(), Fault> {
     match words {
         ["search", words @ ..] => search(script, alloc, handler, words, out),
+        ["stored", "soa"] => stored_soa(handler, out),
+        ["stored", words @ ..] => stored(script, alloc, handler, words, out),
         ["transfer", name] => transfer(script, alloc, handler, name, out),
         ["transfer", "request", digits @ ..] => transfer_of(script, alloc, handler, digits, out),
         ["lookup", name, kind, words @ ..] => look_up(handler, alloc, name, kind, words, out),
