@@ -1,4 +1,4 @@
-use Rattle.std.proofs.Common.{◌≡◌, ℕ, List, Result, Ok, IfOk, rules, refl}
+use Rattle.std.proofs.Common.{◌≡◌, List, Result, Ok, IfOk, rules, refl}
 use Rattle.std.specs.Net.Socket.{socket_ip}
 use Rattle.hickory_wire.specs.rr.domain.DomainName.{DomainName}
 use Rattle.hickory_wire.specs.serialize.reading.MessageReading.{Reads}
