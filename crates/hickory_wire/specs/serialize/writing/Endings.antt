@@ -1,5 +1,5 @@
 -- What the answers of the functions that write records and lists of records say.
-use Rattle.std.specs.Prelude.{◌≡◌, ℕ, ◌+◌, ◌<◌, List, [], ◌∷◌, ◌++◌, length, map, true, false, Option, Some, None}
+use Rattle.std.specs.Prelude.{◌≡◌, ℕ, ◌+◌, ◌<◌, List, [], ◌∷◌, ◌++◌, length, map, Bool, true, false, ◌||◌, Option, Some, None}
 use Rattle.std.specs.Borrow.{Bor}
 use Rattle.std.specs.Iterator.{Drains}
 use Rattle.hickory_wire.specs.rr.domain.DomainName.{wire_form}
@@ -8,8 +8,7 @@ use Rattle.hickory_wire.specs.serialize.writing.RecordSize.{full_size, unwritabl
 use Rattle.hickory_wire.specs.serialize.writing.Writing as writing
 use Rattle.hickory_wire.specs.serialize.writing.Writing.{Puts, ListWritten, ListFront, ListsWritten}
 use Rattle.hickory_wire.specs.declared.error.ProtoError.{ProtoError}
-use Rattle.hickory_wire.specs.declared.serialize.writing.list_encoder.Front.{Front}
-use Rattle.hickory_wire.specs.declared.serialize.writing.list_encoder.Run.{Run}
+use Rattle.hickory_wire.specs.declared.serialize.writing.list_encoder.Stops.{Stops}
 use Rattle.hickory_wire.specs.declared.rr.rdata.RData.{RData}
 use Rattle.hickory_wire.specs.declared.rr.record.Record.{Record}
 use Rattle.hickory_wire.specs.declared.serialize.writing.record_encoder.Ending.{Ending}
@@ -54,16 +53,31 @@ count_of_one Whole = 1
 count_of_one Cut = 0
 count_of_one (Stuck e) = 0
 
-abbrev pub front_of_ending : ℕ → Ending → Front
-front_of_ending count Whole = record { count = count; is_cut = false; fault = None }
-front_of_ending count Cut = record { count = count; is_cut = true; fault = None }
-front_of_ending count (Stuck e) = record { count = count; is_cut = false; fault = Some e }
+abbrev pub is_cut_by : Ending → Bool
+is_cut_by Whole = false
+is_cut_by Cut = true
+is_cut_by (Stuck e) = false
+
+abbrev pub fault_of : Ending → Option ProtoError
+fault_of Whole = None
+fault_of Cut = None
+fault_of (Stuck e) = Some e
+
+-- what was written of a list, and why it, or a list before it, could not be written on
+pub record Front : Type 0 where
+  pub count : ℕ
+  pub is_cut : Bool
+  pub fault : Option ProtoError
 
 -- what a run has of a list, where no list before it was stuck
-abbrev pub front_of_run : Run → Front
-front_of_run run = front_of_ending run.count run.ending
+abbrev pub front_of_ending : ℕ → Ending → Front
+front_of_ending count ending = record { count = count; is_cut = is_cut_by ending; fault = fault_of ending }
 
 -- A list is written behind others, of which one may have been stuck; if so, nothing is written any more.
 abbrev pub ListFollows : ℕ → Option ProtoError → List ℕ → List (Record RData) → List ℕ → Front → Type 0
 ListFollows limit fault old records new front = (lists : List (List (Record RData))) (start : List ℕ) (fronts : List ListFront) → ListsWritten limit lists start old fronts fault
     → (all : List ListFront) × ListsWritten limit (lists ++ records ∷ []) start new all front.fault × (front.fault ≡ None → (fault ≡ None) × (all ≡ fronts ++ record { count = front.count; is_cut = front.is_cut } ∷ []))
+
+-- So many records of a list are written behind others, and how the lists ended is remembered.
+abbrev pub ListAdds : ℕ → Stops → Stops → List ℕ → List (Record RData) → List ℕ → ℕ → Bool → Type 0
+ListAdds limit stops stops' old records new count is_cut = ListFollows limit stops.fault old records new (record { count = count; is_cut = is_cut; fault = stops'.fault }) × (stops'.is_cut ≡ (stops.is_cut || is_cut))

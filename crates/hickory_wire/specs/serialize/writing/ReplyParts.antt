@@ -1,17 +1,17 @@
 -- A reply whose records iterators give.
-use Rattle.std.specs.Prelude.{◌≡◌, ℕ, ◌+◌, ◌<◌, List, length, Option, None}
+use Rattle.std.specs.Prelude.{◌≡◌, ℕ, ◌+◌, ◌<◌, ◌||◌, List, length, Option, None}
 use Rattle.std.specs.Borrow.{Bor}
 use Rattle.std.specs.Option.{option_copied}
 use Rattle.hickory_wire.specs.serialize.writing.Decoding.{IsDecodable, decoded_message}
-use Rattle.hickory_wire.specs.serialize.writing.Endings.{GivesRecords}
+use Rattle.hickory_wire.specs.serialize.writing.Endings.{Front, GivesRecords}
 use Rattle.hickory_wire.specs.serialize.layout.MessageLayout.{MessageAt}
 use Rattle.hickory_wire.specs.serialize.reading.MessageReading.{Reads}
 use Rattle.hickory_wire.specs.serialize.writing.Reply.{Reply, reply_lists}
-use Rattle.hickory_wire.specs.serialize.writing.Writing.{ListFront, ListsWritten, OwnersRepeat, Fronts, fronts_list, Written, GetsStuck, Encoded, written_header}
+use Rattle.hickory_wire.specs.serialize.writing.Writing.{ListFront, ListsWritten, OwnersRepeat, Fronts, fronts_list, is_any_cut, Written, GetsStuck, Encoded, written_header}
 use Rattle.hickory_wire.specs.declared.error.ProtoError.{ProtoError}
 use Rattle.hickory_wire.specs.declared.error.ProtoError.TheVariants.{MaxSizeExceeded}
 use Rattle.hickory_wire.specs.declared.op.header.Header.{Header}
-use Rattle.hickory_wire.specs.declared.serialize.writing.list_encoder.Front.{Front}
+use Rattle.hickory_wire.specs.declared.op.header.Metadata.{Metadata}
 use Rattle.hickory_wire.specs.declared.serialize.writing.message_encoder.ReplyParts.{ReplyParts}
 use Rattle.hickory_wire.specs.declared.serialize.writing.message_encoder.Sections.{Sections}
 use Rattle.hickory_wire.specs.declared.op.query.Query.{Query}
@@ -49,20 +49,28 @@ pub record GivesLists {A N S D : Type 0} (answers : A → Option (Bor (Record RD
 abbrev pub seen_front : Front → ListFront
 seen_front front = record { count = front.count; is_cut = front.is_cut }
 
--- what was written of the five lists, where no fault was met
-abbrev pub fronts_of : Sections → Fronts
-fronts_of s = record {
-  answers = seen_front s.answers;
-  authorities = seen_front s.authorities;
-  additionals = seen_front s.additionals;
-  opt = seen_front s.opt;
-  signature = seen_front s.signature;
+-- What is told of the sections sums up what was written of the five lists.
+pub record SumsUp (s : Sections) (fronts : Fronts) : Type 0 where
+  pub answers : s.answers ≡ fronts.answers.count
+  pub authorities : s.authorities ≡ fronts.authorities.count
+  pub additionals : s.additionals ≡ fronts.additionals.count + fronts.opt.count + fronts.signature.count
+  pub is_cut : s.stops.is_cut ≡ is_any_cut fronts
+
+-- the header of what is told of the sections
+abbrev pub header_by : Metadata → ℕ → Sections → Header
+header_by metadata question_count s = record {
+  metadata = record metadata { truncation = metadata.truncation || s.stops.is_cut };
+  counts = record { queries = question_count; answers = s.answers; authorities = s.authorities; additionals = s.additionals };
 }
 
--- The lists of the reply are put behind old, and owner names that repeat are pointers. The last of them tells the fault, if one was met.
-abbrev pub WritesLists : ℕ → List ℕ → Reply → List ℕ → Sections → Type 0
-WritesLists limit old reply new s = (all : List ListFront) × ListsWritten limit (reply_lists reply) old new all s.signature.fault × (s.signature.fault ≡ None → all ≡ fronts_list (fronts_of s))
-    × OwnersRepeat limit old reply (fronts_of s) new
+-- The lists of the reply are put behind old, and owner names that repeat are pointers. It is told what was written, and the fault, if one was met.
+pub record WritesLists (limit : ℕ) (old : List ℕ) (reply : Reply) (new : List ℕ) (s : Sections) : Type 0 where
+  pub fronts : Fronts
+  pub all : List ListFront
+  pub lists : ListsWritten limit (reply_lists reply) old new all s.stops.fault
+  pub unstuck : s.stops.fault ≡ None → all ≡ fronts_list fronts
+  pub owners : OwnersRepeat limit old reply fronts new
+  pub sums : SumsUp s fronts
 
 -- The bytes are the reply, this is their header, and what was written stands in them as a message and reads back.
 pub record ReplyWritten (limit : ℕ) (reply : Reply) (bytes : List ℕ) (header : Header) : Type 0 where

@@ -1,9 +1,9 @@
 //! Lists of records in bytes, each cut by itself.
 
-ghost use Rattle.std.specs.Prelude.{◌≡◌, ℕ, ◌+◌, ◌<◌, ◌≤◌, length, take, List, OnOk, IfOk, None, false, option_to_list, option_map};
+ghost use Rattle.std.specs.Prelude.{◌≡◌, ℕ, ◌+◌, ◌<◌, ◌≤◌, ◌∷◌, ◌||◌, [], length, take, List, Bool, OnOk, IfOk, None, option_to_list, option_map};
 ghost use Rattle.std.specs.Iterator.{IsFinite};
 ghost use Rattle.std.specs.Option.{option_copied};
-ghost use Rattle.hickory_wire.specs.serialize.writing.Endings.{GivesRecords, ListFollows, NotedRun, seen_ending, count_of_one, front_of_run};
+ghost use Rattle.hickory_wire.specs.serialize.writing.Endings.{GivesRecords, ListAdds, NotedRun, seen_ending, count_of_one, fault_of, is_cut_by};
 ghost use Rattle.hickory_wire.specs.serialize.layout.MessageLayout.{tsig_record};
 ghost use Rattle.hickory_wire.specs.serialize.writing.Reply.{opt_record};
 ghost use Rattle.hickory_wire.specs.serialize.writing.Noted.{AreNotes};
@@ -33,14 +33,12 @@ const USUAL_NAMES: usize = 2;
 // So many records mostly fit into the memory that a reply begins with.
 const FEW_RECORDS: usize = 16;
 
-/// What was written of a list, and why it, or a list before it, could not be written on.
+/// How the lists that were written so far ended.
 #[derive(Clone, Copy)]
-pub(crate) struct Front {
-    /// How many records.
-    pub(crate) count: u16,
-    /// Whether the next record was left out for its size.
+pub(crate) struct Stops {
+    /// Whether one of them was cut: its next record was left out for its size.
     pub(crate) is_cut: bool,
-    /// Why a record has no form in bytes.
+    /// Why a record of one of them has no form in bytes. Behind it nothing is written.
     pub(crate) fault: Option<ProtoError>,
 }
 
@@ -114,128 +112,153 @@ fn write_records<'n, 'a: 'n, I: Iterator<Item = &'a Record> + Drop>(
     Ok(Run { count, ending })
 }
 
-// What a run has of a list, where no list before it was stuck.
-fn front_of(run: Run) -> Front
-    ensures { result ≡ front_of_run run }
-{
-    match run.ending {
-        Ending::Whole => Front {
-            count: run.count,
-            is_cut: false,
-            fault: None,
-        },
-        Ending::Cut => Front {
-            count: run.count,
-            is_cut: true,
-            fault: None,
-        },
-        Ending::Stuck(e) => Front {
-            count: run.count,
-            is_cut: false,
-            fault: Some(e),
-        },
-    }
-}
-
-// What is written of a list behind one that was stuck.
-fn nothing(fault: Option<ProtoError>) -> Front
-    ensures { result ≡ record { count = 0; is_cut = false; fault = fault } }
-{
-    Front {
-        count: 0,
-        is_cut: false,
-        fault,
-    }
-}
-
-fn run_of_one(ending: Ending) -> Run
-    ensures { result ≡ record { count = count_of_one ending; ending = ending } }
+// Remembers how a list ended, where none before it was stuck.
+#[inline(always)]
+fn close(stops: &mut Stops, ending: Ending)
+    requires { stops.old.fault ≡ None }
+    ensures cut { stops.new.is_cut ≡ (stops.old.is_cut || is_cut_by ending) }
+    ensures fault { stops.new.fault ≡ fault_of ending }
 {
     match ending {
-        Ending::Whole => Run { count: 1, ending },
-        Ending::Cut | Ending::Stuck(_) => Run { count: 0, ending },
+        Ending::Whole => {}
+        Ending::Cut => stops.is_cut = true,
+        Ending::Stuck(e) => stops.fault = Some(e),
     }
 }
 
-/// Writes a list of a section behind others, of which one may have been stuck; if so, the list is only taken.
+// The same for a list of one record. Answers how many records of it were written.
+#[inline(always)]
+fn close_one(stops: &mut Stops, ending: Ending) -> u16
+    requires { stops.old.fault ≡ None }
+    ensures count { result ≡ count_of_one ending }
+    ensures cut { stops.new.is_cut ≡ (stops.old.is_cut || is_cut_by ending) }
+    ensures fault { stops.new.fault ≡ fault_of ending }
+{
+    close(stops, ending);
+    match ending {
+        Ending::Whole => 1,
+        Ending::Cut | Ending::Stuck(_) => 0,
+    }
+}
+
+/// Writes a list of a section behind others, of which one may have been stuck; if so, the list is only taken. Answers how many records were written.
 pub(crate) fn write_list<'n, 'a: 'n, I: Iterator<Item = &'a Record> + Drop>(
     bytes: &mut Vec<u8>,
     table: &mut CompressionTable<'n>,
     limit: u16,
     records: I,
-    fault: Option<ProtoError>,
-) -> Result<Front, AllocError>
+    stops: &mut Stops,
+) -> Result<u16, AllocError>
     requires can { I.can_next records }
     requires ends { IsFinite (I.remaining records) }
     requires header { 12 ≤ length bytes.old.items }
     requires fits { length bytes.old.items ≤ limit }
     requires noted { AreNotes bytes.old.items (length bytes.old.items) table.old }
-    ensures written { IfOk result (λ front. (all : List (Record RData)) ×
-        GivesRecords I.next_gives records all × ListFollows limit fault bytes.old.items all bytes.new.items front ×
-        NotedRun limit bytes.old.items table.old (take front.count all) bytes.new.items table.new) }
+    ensures written { IfOk result (λ count. (all : List (Record RData)) × (is_cut : Bool) ×
+        GivesRecords I.next_gives records all × ListAdds limit stops.old stops.new bytes.old.items all bytes.new.items count is_cut ×
+        NotedRun limit bytes.old.items table.old (take count all) bytes.new.items table.new) }
     ensures header { OnOk result (12 ≤ length bytes.new.items) }
     ensures fits { OnOk result (length bytes.new.items ≤ limit) }
-    ensures counted { IfOk result (λ front. length bytes.old.items + front.count ≤ length bytes.new.items) }
+    ensures counted { IfOk result (λ count. length bytes.old.items + count ≤ length bytes.new.items) }
     ensures noted { OnOk result (AreNotes bytes.new.items (length bytes.new.items) table.new) }
 {
-    if fault.is_some() {
+    if stops.fault.is_some() {
         drain(records);
-        return Ok(nothing(fault));
+        return Ok(0);
     }
     let run = write_records(bytes, table, limit, records)?;
-    Ok(front_of(run))
+    close(stops, run.ending);
+    Ok(run.count)
 }
 
-/// The same for the OPT record, where there is one. Its owner name is the root.
+// The same for the OPT record. Its owner name is the root.
+fn write_one_edns(
+    bytes: &mut Vec<u8>,
+    limit: u16,
+    edns: &Edns,
+    stops: &mut Stops,
+) -> Result<u16, AllocError>
+    requires header { 12 ≤ length bytes.old.items }
+    requires fits { length bytes.old.items ≤ limit }
+    ensures written { IfOk result (λ count. (is_cut : Bool) ×
+        ListAdds limit stops.old stops.new bytes.old.items (opt_record edns.now ∷ []) bytes.new.items count is_cut ×
+        PutsAll limit bytes.old.items (take count (opt_record edns.now ∷ [])) bytes.new.items) }
+    ensures header { OnOk result (12 ≤ length bytes.new.items) }
+    ensures fits { OnOk result (length bytes.new.items ≤ limit) }
+    ensures counted { IfOk result (λ count. length bytes.old.items + count ≤ length bytes.new.items) }
+{
+    if stops.fault.is_some() {
+        return Ok(0);
+    }
+    let ending = write_edns(bytes, limit, edns)?;
+    Ok(close_one(stops, ending))
+}
+
+/// The same where there may be one. Where there is none, it costs no call.
+#[inline(always)]
 pub(crate) fn write_optional_edns(
     bytes: &mut Vec<u8>,
     limit: u16,
     edns: Option<&Edns>,
-    fault: Option<ProtoError>,
-) -> Result<Front, AllocError>
+    stops: &mut Stops,
+) -> Result<u16, AllocError>
     requires header { 12 ≤ length bytes.old.items }
     requires fits { length bytes.old.items ≤ limit }
-    ensures written { IfOk result (λ front.
-        ListFollows limit fault bytes.old.items (option_to_list (option_map opt_record (option_copied edns.entry))) bytes.new.items front) }
-    ensures put { IfOk result (λ front.
-        PutsAll limit bytes.old.items (take front.count (option_to_list (option_map opt_record (option_copied edns.entry)))) bytes.new.items) }
+    ensures written { IfOk result (λ count. (is_cut : Bool) ×
+        ListAdds limit stops.old stops.new bytes.old.items (option_to_list (option_map opt_record (option_copied edns.entry))) bytes.new.items count is_cut ×
+        PutsAll limit bytes.old.items (take count (option_to_list (option_map opt_record (option_copied edns.entry)))) bytes.new.items) }
     ensures header { OnOk result (12 ≤ length bytes.new.items) }
     ensures fits { OnOk result (length bytes.new.items ≤ limit) }
-    ensures counted { IfOk result (λ front. length bytes.old.items + front.count ≤ length bytes.new.items) }
+    ensures counted { IfOk result (λ count. length bytes.old.items + count ≤ length bytes.new.items) }
 {
-    if fault.is_some() {
-        return Ok(nothing(fault));
+    match edns {
+        Some(edns) => write_one_edns(bytes, limit, edns, stops),
+        None => Ok(0),
     }
-    let Some(edns) = edns else {
-        return Ok(nothing(None));
-    };
-    let ending = write_edns(bytes, limit, edns)?;
-    Ok(front_of(run_of_one(ending)))
 }
 
-/// The same for the TSIG record, where there is one. Its names are written in full.
+// The same for the TSIG record. Its names are written in full.
+fn write_one_signature(
+    bytes: &mut Vec<u8>,
+    limit: u16,
+    signature: &Record<TSIG>,
+    stops: &mut Stops,
+) -> Result<u16, AllocError>
+    requires header { 12 ≤ length bytes.old.items }
+    requires fits { length bytes.old.items ≤ limit }
+    ensures written { IfOk result (λ count. (is_cut : Bool) ×
+        ListAdds limit stops.old stops.new bytes.old.items (tsig_record signature.now ∷ []) bytes.new.items count is_cut ×
+        PutsAll limit bytes.old.items (take count (tsig_record signature.now ∷ [])) bytes.new.items) }
+    ensures header { OnOk result (12 ≤ length bytes.new.items) }
+    ensures fits { OnOk result (length bytes.new.items ≤ limit) }
+    ensures counted { IfOk result (λ count. length bytes.old.items + count ≤ length bytes.new.items) }
+{
+    if stops.fault.is_some() {
+        return Ok(0);
+    }
+    let ending = write_signature(bytes, limit, signature)?;
+    Ok(close_one(stops, ending))
+}
+
+/// The same where there may be one.
+#[inline(always)]
 pub(crate) fn write_optional_signature(
     bytes: &mut Vec<u8>,
     limit: u16,
     signature: Option<&Record<TSIG>>,
-    fault: Option<ProtoError>,
-) -> Result<Front, AllocError>
+    stops: &mut Stops,
+) -> Result<u16, AllocError>
     requires header { 12 ≤ length bytes.old.items }
     requires fits { length bytes.old.items ≤ limit }
-    ensures written { IfOk result (λ front.
-        ListFollows limit fault bytes.old.items (option_to_list (option_map tsig_record (option_copied signature.entry))) bytes.new.items front) }
-    ensures put { IfOk result (λ front.
-        PutsAll limit bytes.old.items (take front.count (option_to_list (option_map tsig_record (option_copied signature.entry)))) bytes.new.items) }
+    ensures written { IfOk result (λ count. (is_cut : Bool) ×
+        ListAdds limit stops.old stops.new bytes.old.items (option_to_list (option_map tsig_record (option_copied signature.entry))) bytes.new.items count is_cut ×
+        PutsAll limit bytes.old.items (take count (option_to_list (option_map tsig_record (option_copied signature.entry)))) bytes.new.items) }
     ensures header { OnOk result (12 ≤ length bytes.new.items) }
     ensures fits { OnOk result (length bytes.new.items ≤ limit) }
-    ensures counted { IfOk result (λ front. length bytes.old.items + front.count ≤ length bytes.new.items) }
+    ensures counted { IfOk result (λ count. length bytes.old.items + count ≤ length bytes.new.items) }
 {
-    if fault.is_some() {
-        return Ok(nothing(fault));
+    match signature {
+        Some(signature) => write_one_signature(bytes, limit, signature, stops),
+        None => Ok(0),
     }
-    let Some(signature) = signature else {
-        return Ok(nothing(None));
-    };
-    let ending = write_signature(bytes, limit, signature)?;
-    Ok(front_of(run_of_one(ending)))
 }

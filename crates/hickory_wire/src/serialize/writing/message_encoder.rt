@@ -5,8 +5,8 @@ ghost use Rattle.std.specs.Iterator.{IsFinite};
 ghost use Rattle.hickory_wire.specs.serialize.layout.Bytes.{AreBytes};
 ghost use Rattle.hickory_wire.specs.serialize.writing.Encoder.{written_bytes, max_size, IsSameVector};
 ghost use Rattle.hickory_wire.specs.serialize.layout.HeaderLayout.{header_octets};
-ghost use Rattle.hickory_wire.specs.serialize.writing.Writing.{fallback_header, header_with};
-ghost use Rattle.hickory_wire.specs.serialize.writing.ReplyParts.{GivesLists, RecordLists, CannotBeWritten, ReplyEncoded, ReplyWritten, WritesLists, fronts_of, reply_of};
+ghost use Rattle.hickory_wire.specs.serialize.writing.Writing.{fallback_header};
+ghost use Rattle.hickory_wire.specs.serialize.writing.ReplyParts.{GivesLists, RecordLists, CannotBeWritten, ReplyEncoded, ReplyWritten, WritesLists, header_by, reply_of};
 
 use crate::error::ProtoError;
 use crate::op::edns::Edns;
@@ -19,7 +19,7 @@ use crate::serialize::writing::compression_table::CompressionTable;
 use crate::serialize::writing::encoder::BinEncoder;
 use crate::serialize::writing::header_encoder::{header_bytes, put_header};
 use crate::serialize::writing::list_encoder::{
-    Front, drain, write_list, write_optional_edns, write_optional_signature,
+    Stops, drain, write_list, write_optional_edns, write_optional_signature,
 };
 use crate::serialize::writing::question_notes::note_question;
 use std::alloc::{AllocError, Global};
@@ -50,14 +50,13 @@ pub struct ReplyParts<'q, A, N, S, D> {
     pub signature: Option<&'q Record<TSIG>>,
 }
 
-// What was written of each list, and why the writing stopped, if it did.
+// How many records of each section were written, and how the lists ended.
 #[derive(Clone, Copy)]
 struct Sections {
-    answers: Front,
-    authorities: Front,
-    additionals: Front,
-    opt: Front,
-    signature: Front,
+    answers: u16,
+    authorities: u16,
+    additionals: u16,
+    stops: Stops,
 }
 
 // Whether header and questions fit the limit.
@@ -135,8 +134,6 @@ where
         GivesLists A.next_gives N.next_gives S.next_gives D.next_gives parts.entry lists ×
         WritesLists limit bytes.old.items (reply_of parts.entry lists) bytes.new.items sections) }
     ensures header { OnOk result (12 ≤ length bytes.new.items) }
-    ensures counted { IfOk result (λ sections.
-        sections.additionals.count + sections.opt.count + sections.signature.count ≤ 65535) }
 {
     let has_records = may_have_records(&parts);
     let ReplyParts {
@@ -154,45 +151,42 @@ where
     if has_records {
         note_question(&mut table, question)?;
     }
-    let answers = write_list(bytes, &mut table, limit, answers, None)?;
+    let mut stops = Stops {
+        is_cut: false,
+        fault: None,
+    };
+    let answers = write_list(bytes, &mut table, limit, answers, &mut stops)?;
     let authorities = write_list(
         bytes,
         &mut table,
         limit,
         authorities.chain(soa),
-        answers.fault,
+        &mut stops,
     )?;
-    let additionals = write_list(bytes, &mut table, limit, additionals, authorities.fault)?;
-    let opt = write_optional_edns(bytes, limit, edns, additionals.fault)?;
-    let signature = write_optional_signature(bytes, limit, signature, opt.fault)?;
+    let additionals = write_list(bytes, &mut table, limit, additionals, &mut stops)?;
+    let opts = write_optional_edns(bytes, limit, edns, &mut stops)?;
+    let signatures = write_optional_signature(bytes, limit, signature, &mut stops)?;
     Ok(Sections {
         answers,
         authorities,
-        additionals,
-        opt,
-        signature,
+        additionals: additionals + opts + signatures,
+        stops,
     })
 }
 
 // The header of what was written.
 fn header_of(metadata: Metadata, question_count: u16, sections: Sections) -> Header
-    requires { sections.additionals.count + sections.opt.count + sections.signature.count ≤ 65535 }
-    ensures { result ≡ header_with metadata question_count (fronts_of sections) }
+    ensures { result ≡ header_by metadata question_count sections }
 {
-    let is_any_cut = sections.answers.is_cut
-        || sections.authorities.is_cut
-        || sections.additionals.is_cut
-        || sections.opt.is_cut
-        || sections.signature.is_cut;
     let mut metadata = metadata;
-    metadata.truncation = metadata.truncation || is_any_cut;
+    metadata.truncation = metadata.truncation || sections.stops.is_cut;
     Header {
         metadata,
         counts: HeaderCounts {
             queries: question_count,
-            answers: sections.answers.count,
-            authorities: sections.authorities.count,
-            additionals: sections.additionals.count + sections.opt.count + sections.signature.count,
+            answers: sections.answers,
+            authorities: sections.authorities,
+            additionals: sections.additionals,
         },
     }
 }
@@ -231,7 +225,7 @@ where
     bytes.extend_from_slice(&[0; 12])?;
     bytes.extend_from_slice(parts.question)?;
     let sections = write_lists(bytes, limit, parts)?;
-    if let Some(e) = sections.signature.fault {
+    if let Some(e) = sections.stops.fault {
         return Err(e);
     }
     let header = header_of(metadata, question_count, sections);

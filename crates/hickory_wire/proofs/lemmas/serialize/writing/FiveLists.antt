@@ -1,15 +1,15 @@
 -- The five lists of a reply, written one behind the other.
-use Rattle.std.proofs.Common.{◌≡◌, ℕ, List, [], ◌∷◌, ◌++◌, map, Option, None, refl, sym, ap, ◌∙◌}
+use Rattle.std.proofs.Common.{◌≡◌, ℕ, List, [], ◌∷◌, ◌++◌, map, Bool, false, Option, None, refl, sym, ap, ◌∙◌}
 use Rattle.std.proofs.lemmas.List.{map-append}
+use Rattle.std.specs.Prelude.{◌||◌}
 use Rattle.std.specs.Borrow.{Bor}
 use Rattle.std.specs.Iterator.Runs.{SomeRun, EachRunFrom, IsChainRun}
 use Rattle.std.specs.Iterator.Adapters.{chain_steps}
 use Rattle.std.specs.declared.iter.Chain.{Chain}
-use Rattle.hickory_wire.specs.serialize.writing.Endings.{GivesRecords, ListFollows}
+use Rattle.hickory_wire.specs.serialize.writing.Endings.{Front, GivesRecords, ListFollows}
 use Rattle.hickory_wire.specs.serialize.writing.ReplyParts.{seen_front}
 use Rattle.hickory_wire.specs.serialize.writing.Writing.{ListFront, ListsWritten}
 use Rattle.hickory_wire.specs.serialize.writing.Writing.ListsWritten.{none_left}
-use Rattle.hickory_wire.specs.declared.serialize.writing.list_encoder.Front.{Front}
 use Rattle.hickory_wire.specs.declared.rr.rdata.RData.{RData}
 use Rattle.hickory_wire.specs.declared.rr.record.Record.{Record}
 use Rattle.hickory_wire.proofs.lemmas.serialize.writing.Chained.{chained}
@@ -37,6 +37,10 @@ five_lists limit b0 b1 b2 b3 b4 b5 l1 l2 l3 l4 l5 f1 f2 f3 f4 f5 w1 w2 w3 w4 w5 
           let a4 : s4.0 ≡ seen_front f1 ∷ seen_front f2 ∷ seen_front f3 ∷ seen_front f4 ∷ [] = t4.1 ∙ ap (λ fs. fs ++ seen_front f4 ∷ []) a3 in
           t5.1 ∙ ap (λ fs. fs ++ seen_front f5 ∷ []) a4,
     )
+
+-- what is remembered of five lists, one behind the other
+pub five_cuts : (a b c d e s1 s2 s3 s4 s5 : Bool) → s1 ≡ (false || a) → s2 ≡ (s1 || b) → s3 ≡ (s2 || c) → s4 ≡ (s3 || d) → s5 ≡ (s4 || e) → s5 ≡ (a || b || c || d || e)
+five_cuts a b c d e s1 s2 s3 s4 s5 e1 e2 e3 e4 e5 = e5 ∙ ap (λ s. s || e) (e4 ∙ ap (λ s. s || d) (e3 ∙ ap (λ s. s || c) (e2 ∙ ap (λ s. s || b) e1)))
 
 module _ {S T : Type 0} (steps : S → Option (Bor (Record RData)) → S → Type 0) (others : T → Option (Bor (Record RData)) → T → Type 0) where
   -- chained iterators give the lists of both

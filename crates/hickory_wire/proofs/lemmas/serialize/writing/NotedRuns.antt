@@ -6,11 +6,8 @@ use Rattle.std.proofs.lemmas.List.Elements.{Contains-push_cases}
 use Rattle.hickory_wire.specs.serialize.writing.Noted.{Notes, HasNote}
 use Rattle.hickory_wire.specs.rr.domain.DomainName.{wire_form}
 use Rattle.hickory_wire.specs.serialize.writing.OwnerNames.{OwnerPlace}
-use Rattle.hickory_wire.specs.serialize.writing.Endings.{OwnerNoted, NotedRun, front_of_ending}
+use Rattle.hickory_wire.specs.serialize.writing.Endings.{OwnerNoted, NotedRun}
 use Rattle.hickory_wire.specs.serialize.writing.Writing.{Puts, PutsAll, PutsRepeating}
-use Rattle.hickory_wire.specs.declared.serialize.writing.list_encoder.Front.{Front}
-use Rattle.hickory_wire.specs.declared.serialize.writing.record_encoder.Ending.{Ending}
-use Rattle.hickory_wire.specs.declared.serialize.writing.record_encoder.Ending.TheVariants.{Whole, Cut, Stuck}
 use Rattle.hickory_wire.specs.declared.rr.rdata.RData.{RData}
 use Rattle.hickory_wire.specs.declared.rr.record.Record.{Record}
 use Rattle.hickory_wire.proofs.lemmas.serialize.writing.NameSteps.{HasNote-more}
@@ -72,18 +69,6 @@ remembers_nothing notes place labels among lt ne = absurd (omega (arith, among.1
 -- A run from no notes repeats owner names by pointers.
 pub repeats : (limit : ℕ) (rs : List (Record RData)) (old new : List ℕ) (notes notes' : Notes) → NotedRun limit old notes rs new notes' → PutsRepeating limit [] old rs new
 repeats limit rs old new notes notes' run = repeats_from limit rs old new notes notes' [] (remembers_nothing notes) run
-
-front_count : (n : ℕ) (ending : Ending) → (front_of_ending n ending).count ≡ n
-front_count n Whole = refl
-front_count n Cut = refl
-front_count n (Stuck e) = refl
-
--- what was put of a list, by the front that tells of it
-pub run_front : (limit : ℕ) (records : List (Record RData)) (old new : List ℕ) (notes notes' : Notes) (count : ℕ) (ending : Ending) (front : Front) → front ≡ front_of_ending count ending → NotedRun limit old notes (take count records) new notes' → NotedRun limit old notes (take front.count records) new notes'
-run_front limit records old new notes notes' count ending front e run = subst (λ (n : ℕ). NotedRun limit old notes (take n records) new notes') (sym (ap (λ (f : Front). f.count) e ∙ front_count count ending)) run
-
-pub run_none : (limit : ℕ) (records : List (Record RData)) (old : List ℕ) (notes : Notes) (front : Front) → front.count ≡ 0 → NotedRun limit old notes (take front.count records) old notes
-run_none limit records old notes front e = subst (λ (n : ℕ). NotedRun limit old notes (take n records) old notes) (sym e) (refl, refl)
 
 -- records put one behind the other, and others behind them
 pub puts_both : (limit : ℕ) (rs qs : List (Record RData)) (old mid new : List ℕ) → PutsAll limit old rs mid → PutsAll limit mid qs new → PutsAll limit old (rs ++ qs) new

@@ -1,15 +1,16 @@
 -- Lists of records that are written record by record.
-use Rattle.std.proofs.Common.{◌≡◌, ◌≢◌, ℕ, ◌+◌, ◌<◌, ◌≤◌, List, [], ◌∷◌, ◌++◌, length, map, take, drop, true, false, Option, Some, None, refl, sym, ap, ◌∙◌, subst, arith, length-append}
-use Rattle.std.specs.Prelude.{is_some}
+use Rattle.std.proofs.Common.{◌≡◌, ◌≢◌, ℕ, ◌+◌, ◌<◌, ◌≤◌, List, [], ◌∷◌, ◌++◌, length, map, take, drop, Bool, true, false, Option, Some, None, refl, sym, ap, ◌∙◌, subst, arith, length-append}
+use Rattle.std.specs.Prelude.{is_some, ◌||◌}
 use Rattle.std.proofs.lemmas.List.{take_all, take-append-le, drop-append-le, drop_at, map-append}
 use Rattle.std.specs.Borrow.{Bor}
-use Rattle.hickory_wire.specs.serialize.writing.Endings.{RecordEnds, seen_ending, count_of_one, front_of_ending, ListFollows}
+use Rattle.hickory_wire.specs.serialize.writing.Endings.{RecordEnds, seen_ending, count_of_one, fault_of, is_cut_by, front_of_ending, ListAdds, ListFollows}
 use Rattle.hickory_wire.specs.serialize.writing.Writing as writing
 use Rattle.hickory_wire.specs.serialize.writing.Writing.{Puts, PutsAll, IsCut, IsStuck, Ends, ListWritten, ListFront, ListsWritten, ending_of}
 use Rattle.hickory_wire.specs.serialize.writing.Writing.ListsWritten.{none_left, next_list, stuck_list}
 use Rattle.hickory_wire.specs.declared.error.ProtoError.{ProtoError}
 use Rattle.hickory_wire.specs.declared.rr.rdata.RData.{RData}
 use Rattle.hickory_wire.specs.declared.rr.record.Record.{Record}
+use Rattle.hickory_wire.specs.declared.serialize.writing.list_encoder.Stops.{Stops}
 use Rattle.hickory_wire.specs.declared.serialize.writing.record_encoder.Ending.{Ending}
 use Rattle.hickory_wire.specs.declared.serialize.writing.record_encoder.Ending.TheVariants.{Whole, Cut, Stuck}
 use Rattle.hickory_wire.proofs.lemmas.serialize.layout.FormKeeps.{LabelsAt-longer}
@@ -127,13 +128,36 @@ list_one limit old new r Cut h = list_ends limit old [] r old 0 new Cut (λ e. a
 list_one limit old new r (Stuck e) h = list_ends limit old [] r old 0 new (Stuck e) (λ e. absurd cc) (list_none limit old) h
 
 -- what was put of it
-pub one_put : (limit : ℕ) (old new : List ℕ) (r : Record RData) (ending : Ending) → RecordEnds limit old r new ending → PutsAll limit old (take (front_of_ending (count_of_one ending) ending).count (r ∷ [])) new
+pub one_put : (limit : ℕ) (old new : List ℕ) (r : Record RData) (ending : Ending) → RecordEnds limit old r new ending → PutsAll limit old (take (count_of_one ending) (r ∷ [])) new
 one_put limit old new r Whole h = (new, h, refl)
 one_put limit old new r Cut h = h.0
 one_put limit old new r (Stuck e) h = h.0
 
-pub follows_one : (limit : ℕ) (old new : List ℕ) (r : Record RData) (ending : Ending) → RecordEnds limit old r new ending → ListFollows limit None old (r ∷ []) new (front_of_ending (count_of_one ending) ending)
-follows_one limit old new r ending h = follows_run limit old new (r ∷ []) (count_of_one ending) ending (list_one limit old new r ending h)
+-- the list of no record, whatever the lists before it
+nothing_follows : (limit : ℕ) (old : List ℕ) (fault : Option ProtoError) → ListFollows limit fault old [] old (record { count = 0; is_cut = false; fault = fault })
+nothing_follows limit old None = follows_none limit old
+nothing_follows limit old (Some e) = follows_stuck limit old [] e
+
+or_false : (b : Bool) → b ≡ (b || false)
+or_false true = refl
+or_false false = refl
+
+pub adds_none : (limit : ℕ) (stops : Stops) (old : List ℕ) → ListAdds limit stops stops old [] old 0 false
+adds_none limit stops old = (nothing_follows limit old stops.fault, or_false stops.is_cut)
+
+-- what is remembered of a list behind one that is stuck
+pub adds_stuck : (limit : ℕ) (stops : Stops) (old : List ℕ) (records : List (Record RData)) (e : ProtoError) → stops.fault ≡ Some e → ListAdds limit stops stops old records old 0 false
+adds_stuck limit stops old records e is = (rw is (follows_stuck limit old records e), or_false stops.is_cut)
+
+-- what is remembered of a run
+pub adds_run : (limit : ℕ) (stops stops' : Stops) (old new : List ℕ) (records : List (Record RData)) (count : ℕ) (ending : Ending) → stops.fault ≡ None → stops'.fault ≡ fault_of ending → stops'.is_cut ≡ (stops.is_cut || is_cut_by ending)
+    → ListWritten limit old records new count (seen_ending ending) → ListAdds limit stops stops' old records new count (is_cut_by ending)
+adds_run limit stops stops' old new records count ending none fault cut w = (rw (none, fault) (follows_run limit old new records count ending w), cut)
+
+-- what is remembered of the list of one record
+pub adds_one : (limit : ℕ) (stops stops' : Stops) (old new : List ℕ) (r : Record RData) (ending : Ending) → stops.fault ≡ None → stops'.fault ≡ fault_of ending → stops'.is_cut ≡ (stops.is_cut || is_cut_by ending)
+    → RecordEnds limit old r new ending → ListAdds limit stops stops' old (r ∷ []) new (count_of_one ending) (is_cut_by ending)
+adds_one limit stops stops' old new r ending none fault cut h = adds_run limit stops stops' old new (r ∷ []) (count_of_one ending) ending none fault cut (list_one limit old new r ending h)
 
 -- a record leaves the header and the limit
 pub ends_room : (limit : ℕ) (old new : List ℕ) (r : Record RData) (ending : Ending) → 12 ≤ length old → length old ≤ limit → RecordEnds limit old r new ending → (12 ≤ length new) × (length new ≤ limit)

@@ -1,16 +1,18 @@
 -- Replies that were encoded: written, or in the place of one that was refused.
-use Rattle.std.proofs.Common.{◌≡◌, inl, inr, ℕ, ◌<◌, ◌^◌, List, length, get_or, sym, subst, arith}
+use Rattle.std.proofs.Common.{◌≡◌, inl, inr, ℕ, ◌<◌, ◌^◌, List, length, get_or, refl, sym, subst, arith}
 use Rattle.std.proofs.lemmas.Bool.{cases_lt}
 use Rattle.std.proofs.lemmas.List.{get_or_past}
 use Rattle.hickory_wire.specs.serialize.layout.Bytes.{AreBytes}
 use Rattle.hickory_wire.specs.serialize.layout.HeaderLayout.{header_octets}
 use Rattle.hickory_wire.specs.serialize.writing.Reply.{Reply}
-use Rattle.hickory_wire.specs.serialize.writing.ReplyParts.{ReplyWritten, ReplyEncoded, CannotBeWritten}
+use Rattle.hickory_wire.specs.serialize.writing.ReplyParts.{ReplyWritten, ReplyEncoded, CannotBeWritten, SumsUp, header_by}
 use Rattle.hickory_wire.specs.serialize.writing.ReplyParts.CannotBeWritten.{too_large as refused_large, formless as refused_formless}
-use Rattle.hickory_wire.specs.serialize.writing.Writing.{Encoded, fallback_header}
+use Rattle.hickory_wire.specs.serialize.writing.Writing.{Encoded, Fronts, fallback_header, header_with}
 use Rattle.hickory_wire.specs.serialize.writing.Writing.Encoded.{written, too_large, formless}
 use Rattle.hickory_wire.specs.declared.error.ProtoError.{ProtoError}
 use Rattle.hickory_wire.specs.declared.op.header.Header.{Header}
+use Rattle.hickory_wire.specs.declared.op.header.Metadata.{Metadata}
+use Rattle.hickory_wire.specs.declared.serialize.writing.message_encoder.Sections.{Sections}
 use Rattle.hickory_wire.proofs.lemmas.serialize.writing.WrittenMessage.{message_stands, written_reads}
 
 pub encoded_written : (limit : ℕ) (reply : Reply) (bytes : List ℕ) (header : Header) → ReplyWritten limit reply bytes header → Encoded limit reply bytes header
@@ -25,6 +27,10 @@ encoded_fallback limit reply bytes header e h is r = subst (λ (x : Header). Enc
 
 pub reply_encoded : (limit : ℕ) (reply : Reply) (bytes : List ℕ) (header : Header) → limit < 2 ^ 16 → AreBytes bytes → Encoded limit reply bytes header → ReplyEncoded limit reply bytes header
 reply_encoded limit reply bytes header small are e = record { encoded = e; stands = λ fronts queries w d. message_stands limit reply bytes fronts queries small w d; reads = λ fronts queries w d. written_reads limit reply bytes fronts queries small w d are }
+
+-- what is told of the sections makes the header of what was written
+pub summed_header : (metadata : Metadata) (question_count : ℕ) (s : Sections) (fronts : Fronts) → SumsUp s fronts → header_by metadata question_count s ≡ header_with metadata question_count fronts
+summed_header metadata question_count s fronts sums = rw (sums.answers, sums.authorities, sums.additionals, sums.is_cut) refl
 
 -- the elements of a vector of bytes are bytes
 pub are_bytes : (bytes : List ℕ) → ((i d : ℕ) → i < length bytes → get_or bytes i d < 256) → AreBytes bytes

@@ -1,10 +1,12 @@
 use Rattle.std.proofs.Common.{◌≡◌, ◌++◌, List, length, refl, subst, take, rules}
 use Rattle.std.specs.Iterator.Adapters.{chain_second}
 use Rattle.hickory_wire.specs.serialize.writing.Noted.{AreNotes}
-use Rattle.hickory_wire.specs.serialize.writing.Endings.{GivesRecords, ListFollows, NotedRun}
+use Rattle.hickory_wire.specs.serialize.writing.Endings.{Front, GivesRecords, ListFollows, NotedRun}
+use Rattle.hickory_wire.specs.serialize.writing.ReplyParts.{seen_front}
+use Rattle.hickory_wire.specs.serialize.writing.Writing.{Fronts}
 use Rattle.hickory_wire.specs.declared.rr.rdata.RData.{RData}
 use Rattle.hickory_wire.specs.declared.rr.record.Record.{Record}
-use Rattle.hickory_wire.proofs.lemmas.serialize.writing.FiveLists.{five_lists, chain_gives}
+use Rattle.hickory_wire.proofs.lemmas.serialize.writing.FiveLists.{five_cuts, five_lists, chain_gives}
 use Rattle.hickory_wire.proofs.lemmas.serialize.writing.NotedRuns.{puts_both, repeats, run_both}
 use Rattle.hickory_wire.proofs.lemmas.serialize.writing.QuestionSteps.{no_notes, notes_behind}
 use Rattle.hickory_wire.proofs.serialize.writing.message_encoder.write_lists.Goals as goal
@@ -24,33 +26,48 @@ returns-clause-written g c =
     let one = c.in_ok-answers.ensures.written in
     let two = c.in_ok-authorities.ensures.written in
     let three = c.in_ok-additionals.ensures.written in
-    let both = chain_gives g.N.Iterator.next_gives g.S.Iterator.next_gives c.chain.result c.args.parts.authorities _ two.0 c.chain.ensures.runs two.1 in
+    let four = c.in_ok-opts.ensures.written in
+    let last = c.in_ok-signatures.ensures.written in
+    let both = chain_gives g.N.Iterator.next_gives g.S.Iterator.next_gives c.chain.result c.args.parts.authorities _ two.0 c.chain.ensures.runs two.2 in
     let all = both.0 ++ both.1 in
     let limit = c.args.limit in
     let start = c.args.bytes.now.items in
-    let run2 = subst (λ (l : List (Record RData)). NotedRun limit c.write_list.new.bytes.items c.write_list.new.table (take c.in_ok-authorities.authorities.count l) c.write_list-2.new.bytes.items c.write_list-2.new.table) both.4 two.3 in
-    let runs = run_both limit (take c.in_ok-answers.answers.count one.0 ++ take c.in_ok-authorities.authorities.count all) (take c.in_ok-additionals.additionals.count three.0) start c.write_list-2.new.bytes.items c.write_list-3.new.bytes.items c.if-has_records.table c.write_list-2.new.table c.write_list-3.new.table
-    (run_both limit (take c.in_ok-answers.answers.count one.0) (take c.in_ok-authorities.authorities.count all) start c.write_list.new.bytes.items c.write_list-2.new.bytes.items c.if-has_records.table c.write_list.new.table c.write_list-2.new.table one.3 run2) three.3 in
+    let f1 : Front = record { count = c.in_ok-answers.answers; is_cut = one.1; fault = c.write_list.new.stops.fault } in
+    let f2 : Front = record { count = c.in_ok-authorities.authorities; is_cut = two.1; fault = c.write_list-2.new.stops.fault } in
+    let f3 : Front = record { count = c.in_ok-additionals.additionals; is_cut = three.1; fault = c.write_list-3.new.stops.fault } in
+    let f4 : Front = record { count = c.in_ok-opts.opts; is_cut = four.0; fault = c.write_optional_edns.new.stops.fault } in
+    let f5 : Front = record { count = c.in_ok-signatures.signatures; is_cut = last.0; fault = c.write_optional_signature.new.stops.fault } in
+    let fronts : Fronts = record { answers = seen_front f1; authorities = seen_front f2; additionals = seen_front f3; opt = seen_front f4; signature = seen_front f5 } in
+    let run2 = subst (λ (l : List (Record RData)). NotedRun limit c.write_list.new.bytes.items c.write_list.new.table (take f2.count l) c.write_list-2.new.bytes.items c.write_list-2.new.table) both.4 two.4 in
+    let runs = run_both limit (take f1.count one.0 ++ take f2.count all) (take f3.count three.0) start c.write_list-2.new.bytes.items c.write_list-3.new.bytes.items c.if-has_records.table c.write_list-2.new.table c.write_list-3.new.table
+    (run_both limit (take f1.count one.0) (take f2.count all) start c.write_list.new.bytes.items c.write_list-2.new.bytes.items c.if-has_records.table c.write_list.new.table c.write_list-2.new.table one.4 run2) three.4 in
     let same : chain_second c.chain.result ≡ c.args.parts.soa = search rules in
-    let follows = subst (λ (l : List (Record RData)). ListFollows c.args.limit c.in_ok-answers.answers.fault c.write_list.new.bytes.items l c.write_list-2.new.bytes.items c.in_ok-authorities.authorities) both.4 two.2 in
-    let five = five_lists c.args.limit c.args.bytes.now.items c.write_list.new.bytes.items c.write_list-2.new.bytes.items c.write_list-3.new.bytes.items c.write_optional_edns.new.bytes.items c.write_optional_signature.new.bytes.items
-    one.0 (both.0 ++ both.1) three.0 _ _ c.in_ok-answers.answers c.in_ok-authorities.authorities c.in_ok-additionals.additionals c.in_ok-opt.opt c.in_ok-signature.signature
-    one.2 follows three.2 c.in_ok-opt.ensures.written c.in_ok-signature.ensures.written in (
+    let follows = subst (λ (l : List (Record RData)). ListFollows limit c.write_list.new.stops.fault c.write_list.new.bytes.items l c.write_list-2.new.bytes.items f2) both.4 two.3.0 in
+    let five = five_lists limit start c.write_list.new.bytes.items c.write_list-2.new.bytes.items c.write_list-3.new.bytes.items c.write_optional_edns.new.bytes.items c.write_optional_signature.new.bytes.items
+    one.0 all three.0 _ _ f1 f2 f3 f4 f5
+    one.3.0 follows three.3.0 four.1.0 last.1.0 in (
       record { answers = one.0; authorities = both.0; soa = both.1; additionals = three.0 },
       record {
-        answers_given = one.1;
+        answers_given = one.2;
         authorities_given = both.2;
         soa_given = subst (λ (s : g.row.S.Denot). GivesRecords g.S.Iterator.next_gives s both.1) same both.3;
-        additionals_given = three.1;
+        additionals_given = three.2;
       },
-      (
-        five.0,
-        five.1,
-        five.2,
-        record {
+      record {
+        fronts = fronts;
+        all = five.0;
+        lists = five.1;
+        unstuck = five.2;
+        owners = record {
           sections = c.write_list-3.new.bytes.items;
           repeating = repeats limit _ start c.write_list-3.new.bytes.items c.if-has_records.table c.write_list-3.new.table runs;
-          last = puts_both limit _ _ c.write_list-3.new.bytes.items c.write_optional_edns.new.bytes.items c.write_optional_signature.new.bytes.items c.in_ok-opt.ensures.put c.in_ok-signature.ensures.put;
-        },
-      ),
+          last = puts_both limit _ _ c.write_list-3.new.bytes.items c.write_optional_edns.new.bytes.items c.write_optional_signature.new.bytes.items four.2 last.2;
+        };
+        sums = record {
+          answers = refl;
+          authorities = refl;
+          additionals = refl;
+          is_cut = five_cuts one.1 two.1 three.1 four.0 last.0 _ _ _ _ _ one.3.1 two.3.1 three.3.1 four.1.1 last.1.1;
+        };
+      },
     )
