@@ -66,9 +66,9 @@ fn write_known(
     Ok(false)
 }
 
-// Notes a name that was written at this place, if a pointer reaches there, and then keeps it if it is an owner name.
+/// Notes a name that was written at this place, if a pointer reaches there, and then keeps it if it is an owner name.
 #[inline(always)]
-fn note_written<'n>(
+pub(crate) fn note_written<'n>(
     table: &mut CompressionTable<'n>,
     in_bucket: Option<usize>,
     wire: &'n [u8],

@@ -5,6 +5,7 @@ ghost use Rattle.hickory_wire.specs.serialize.writing.Noted.{AreNotes};
 ghost use Rattle.hickory_wire.specs.serialize.writing.QuestionNames.{StandsInFull};
 
 use crate::serialize::writing::compression_table::CompressionTable;
+use crate::serialize::writing::name_encoder::note_written;
 use std::alloc::AllocError;
 
 // Where the questions begin: behind the header.
@@ -32,7 +33,7 @@ fn end_of_name(question: &[u8]) -> Option<usize>
     None
 }
 
-/// Notes the name of the first question, where it stands in full, and each of its ends.
+/// Notes the name of the first question, where it stands in full, and each of its ends. The whole name is kept, since most replies begin with a record of it.
 pub(crate) fn note_question<'n>(
     table: &mut CompressionTable<'n>,
     question: &'n [u8],
@@ -46,7 +47,7 @@ pub(crate) fn note_question<'n>(
     let mut place = 0;
     while place < end {
         let suffix = &question[place..end];
-        table.note(None, suffix, (QUESTION_PLACE + place) as u16)?;
+        note_written(table, None, suffix, QUESTION_PLACE + place, place == 0)?;
         place += 1 + usize::from(question[place]);
     }
     Ok(())
