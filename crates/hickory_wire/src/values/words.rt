@@ -8,7 +8,6 @@ ghost use Rattle.hickory_wire.specs.serialize.layout.Bytes.{AreBytes};
 pub(crate) const WORD_LEN: usize = 8;
 
 /// The eight bytes from a place on as a number, the first one highest: such numbers compare as the bytes do.
-#[inline(always)]
 pub(crate) fn word_at(bytes: &[u8], place: usize) -> u64
     requires { place + 8 ≤ length bytes.now }
     ensures is { result ≡ big_endian 0 (take 8 (drop place bytes.now)) }
