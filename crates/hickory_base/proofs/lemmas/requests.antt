@@ -1,5 +1,6 @@
 -- Lemmas of the places and parts of requests.
 pub mod MessagesCompared
+pub mod NoAdditionals
 pub mod QuestionPlaces
 pub mod RequestForms
 pub mod RequestParts

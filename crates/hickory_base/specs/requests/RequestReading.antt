@@ -1,5 +1,5 @@
 -- Requests as they are read (RFC 1035 section 4.1).
-use Rattle.std.specs.Prelude.{◌≡◌, ◌≢◌, ℕ, List, [], Ok, slice_range}
+use Rattle.std.specs.Prelude.{◌≡◌, ◌≢◌, ℕ, List, [], None, Ok, slice_range}
 use Rattle.hickory_wire.specs.serialize.reading.Cursor.{Cursor}
 use Rattle.hickory_wire.specs.serialize.layout.MessageLayout.{ItemsAt, QuestionRead, high_code, with_high_code}
 use Rattle.hickory_wire.specs.serialize.reading.MessageReading.{Fault}
@@ -15,6 +15,14 @@ use Rattle.hickory_wire.specs.declared.op.header.HeaderCounts.{HeaderCounts}
 use Rattle.hickory_wire.specs.declared.op.message.Message.{Message}
 use Rattle.hickory_base.specs.requests.Questions.{QuestionSection}
 use Rattle.hickory_base.specs.declared.requests.message_request.MessageRequest.{MessageRequest}
+
+-- a message without a record in its additional section, as none is read yet
+abbrev pub HasNoAdditional : MessageRequest → Type 0
+HasNoAdditional m = (m.additionals ≡ []) × (m.signature ≡ None) × (m.edns ≡ None)
+
+-- a message without a record
+abbrev pub HasNoRecord : MessageRequest → Type 0
+HasNoRecord m = (m.answers ≡ []) × (m.authorities ≡ []) × HasNoAdditional m
 
 -- so many questions, and the bytes from the first of them to the place behind the last
 unfoldable pub question_section : ℕ → Cursor → Read QuestionSection

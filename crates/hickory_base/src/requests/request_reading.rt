@@ -1,7 +1,8 @@
 //! Reading requests (RFC 1035 section 4.1).
 
 ghost use Rattle.std.specs.Prelude.{◌≡◌, ◌≢◌, ◌<◌, ◌≤◌, [], length, IfOk, IfErr, MatchResult, OnOk};
-ghost use Rattle.hickory_base.specs.requests.RequestReading.{FollowsHeader, IsFaultOf, IsQuestionSection, message_of, question_section, additionals_of, sections};
+ghost use Rattle.hickory_base.specs.requests.QuestionList.{question_list};
+ghost use Rattle.hickory_base.specs.requests.RequestReading.{FollowsHeader, HasNoAdditional, HasNoRecord, IsFaultOf, IsQuestionSection, message_of, question_section, additionals_of, sections};
 ghost use Rattle.hickory_wire.specs.serialize.layout.MessageLayout.{high_code, with_high_code};
 ghost use Rattle.hickory_wire.specs.serialize.reading.MessageReading.{Fault, Reads, message};
 ghost use Rattle.hickory_wire.specs.serialize.reading.Reading.{Gives, GivesSeenBy};
@@ -45,16 +46,34 @@ fn read_query_list(
     Ok(queries)
 }
 
+/// One question in the place of others. It takes no list.
+#[tactic(auto, unfolding(hickory_wire::specs::serialize::reading::SectionReading::items))]
+fn read_one(
+    alloc: Global,
+    decoder: &mut BinDecoder<'_>,
+    queries: &mut Questions,
+) -> Result<(), DecodeError>
+    ensures exact { GivesSeenBy (λ _. question_list queries.new) result decoder.old decoder.new (items question 1 []) }
+    ensures number { length (question_list queries.old) ≤ 65535 → length (question_list queries.new) ≤ 65535 }
+{
+    if let Questions::One(query) = queries {
+        query.read_in_place(alloc, decoder)?;
+        return Ok(());
+    }
+    let mut query = LowerQuery::of_root();
+    query.read_in_place(alloc, decoder)?;
+    *queries = Questions::One(query);
+    Ok(())
+}
+
 impl Queries {
-    /// No questions.
-    fn none(alloc: Global) -> Result<Queries, AllocError>
-        ensures { IfOk result (λ section. section ≡ record { queries = []; bytes = [] }) }
-    {
+    /// A section to be read into, of one question as most are.
+    fn unread(alloc: Global) -> Result<Queries, AllocError> {
         let original = ShortOctets::from_slice(alloc, &[])?;
-        Ok(Queries::new(Questions::Many(Items::new(alloc)), original))
+        Ok(Queries::new(Questions::One(LowerQuery::of_root()), original))
     }
 
-    /// One question, and the bytes that hold it. It takes no list.
+    /// One question, and the bytes that hold it.
     #[tactic(auto, unfolding(crate::specs::requests::RequestReading::question_section, hickory_wire::specs::serialize::reading::SectionReading::items))]
     fn read_single(
         &mut self,
@@ -64,13 +83,12 @@ impl Queries {
         ensures { GivesSeenBy (λ _. self.new) result decoder.old decoder.new (question_section 1) }
     {
         let start = decoder.index();
-        self.queries = Questions::One(read_lower_query(alloc, decoder)?);
-        self.original = ShortOctets::from_slice(alloc, decoder.slice_from(start)?)?;
+        read_one(alloc, decoder, &mut self.queries)?;
+        self.original.set(alloc, decoder.slice_from(start)?)?;
         Ok(())
     }
 
     /// The same as `read`, in the place of other questions.
-    #[tactic(auto, unfolding(crate::specs::requests::RequestReading::question_section))]
     fn read_in_place(
         &mut self,
         alloc: Global,
@@ -82,6 +100,20 @@ impl Queries {
         if count == 1 {
             return self.read_single(alloc, decoder);
         }
+        self.read_list(alloc, decoder, count)
+    }
+
+    /// So many questions as a list, and the bytes that hold them.
+    #[inline(never)]
+    #[tactic(auto, unfolding(crate::specs::requests::RequestReading::question_section))]
+    fn read_list(
+        &mut self,
+        alloc: Global,
+        decoder: &mut BinDecoder<'_>,
+        count: u16,
+    ) -> Result<(), DecodeError>
+        ensures { GivesSeenBy (λ _. self.new) result decoder.old decoder.new (question_section count) }
+    {
         let start = decoder.index();
         self.queries = Questions::Many(read_query_list(alloc, decoder, count)?);
         self.original = ShortOctets::from_slice(alloc, decoder.slice_from(start)?)?;
@@ -101,7 +133,7 @@ impl Queries {
     ) -> Result<Queries, DecodeError>
         ensures { Gives result decoder.old decoder.new (question_section count) }
     {
-        let mut queries = Queries::none(alloc)?;
+        let mut queries = Queries::unread(alloc)?;
         queries.read_in_place(alloc, decoder, count)?;
         Ok(queries)
     }
@@ -119,6 +151,21 @@ fn with_high_code(mut metadata: Metadata, edns: &Option<Edns>) -> Metadata
     metadata
 }
 
+/// So many records of an answer or authority section, in the place of others. That it is no part of another function spares
+/// requests without such records what a list of them takes on the stack.
+#[inline(never)]
+fn read_some_records(
+    alloc: Global,
+    decoder: &mut BinDecoder<'_>,
+    count: u16,
+    records: &mut Items<Record>,
+) -> Result<(), DecodeError>
+    ensures { GivesSeenBy (λ _. records.new) result decoder.old decoder.new (items section_record count []) }
+{
+    *records = decoder.read_section(alloc, count)?;
+    Ok(())
+}
+
 /// So many records of an answer or authority section, where none were read yet.
 #[tactic(auto, unfolding(hickory_wire::specs::serialize::reading::SectionReading::items))]
 fn read_records(
@@ -133,19 +180,17 @@ fn read_records(
     if count == 0 {
         return Ok(());
     }
-    *records = decoder.read_section(alloc, count)?;
-    Ok(())
+    read_some_records(alloc, decoder, count, records)
 }
 
 impl MessageRequest {
     /// A message of nothing, to be read into: a message is too large to be handed on from step to step.
     fn empty(alloc: Global) -> Result<MessageRequest, AllocError>
-        ensures answers { IfOk result (λ m. m.answers ≡ []) }
-        ensures authorities { IfOk result (λ m. m.authorities ≡ []) }
+        ensures { IfOk result (λ m. HasNoRecord m) }
     {
         Ok(MessageRequest {
             metadata: Metadata::new(0, MessageType::Query, OpCode::QUERY),
-            queries: Queries::none(alloc)?,
+            queries: Queries::unread(alloc)?,
             answers: Items::new(alloc),
             authorities: Items::new(alloc),
             additionals: Items::new(alloc),
@@ -155,15 +200,16 @@ impl MessageRequest {
     }
 
     /// Reads so many records of the additional section, and what its OPT record adds to the response code.
+    #[inline(never)]
     #[tactic(auto, unfolding(crate::specs::requests::RequestReading::additionals_of))]
-    fn read_additionals(
+    fn read_some_additionals(
         &mut self,
         alloc: Global,
         decoder: &mut BinDecoder<'_>,
         count: u16,
     ) -> Result<(), DecodeError>
         requires { self.old.metadata.response_code < 16 }
-        ensures exact { GivesSeenBy (λ _. self.new) result decoder.old decoder.new (additionals_of self.old count) }
+        ensures { GivesSeenBy (λ _. self.new) result decoder.old decoder.new (additionals_of self.old count) }
     {
         let additionals = decoder.read_additionals(alloc, count)?;
         let (additionals, edns, signature) = additionals.into_parts();
@@ -172,6 +218,24 @@ impl MessageRequest {
         self.edns = edns;
         self.signature = signature;
         Ok(())
+    }
+
+    /// The same in the place of none, where most requests have none too.
+    #[tactic(auto, unfolding(crate::specs::requests::RequestReading::additionals_of, hickory_wire::specs::serialize::reading::SectionReading::additionals_after))]
+    fn read_additionals(
+        &mut self,
+        alloc: Global,
+        decoder: &mut BinDecoder<'_>,
+        count: u16,
+    ) -> Result<(), DecodeError>
+        requires code { self.old.metadata.response_code < 16 }
+        requires none { HasNoAdditional self.old }
+        ensures { GivesSeenBy (λ _. self.new) result decoder.old decoder.new (additionals_of self.old count) }
+    {
+        if count == 0 {
+            return Ok(());
+        }
+        self.read_some_additionals(alloc, decoder, count)
     }
 
     /// Reads the records behind the questions.
@@ -183,7 +247,7 @@ impl MessageRequest {
         counts: &HeaderCounts,
     ) -> Result<(), DecodeError>
         requires code { self.old.metadata.response_code < 16 }
-        requires none { (self.old.answers ≡ []) × (self.old.authorities ≡ []) }
+        requires none { HasNoRecord self.old }
         ensures { GivesSeenBy (λ _. self.new) result decoder.old decoder.new (sections self.old counts.now) }
     {
         read_records(alloc, decoder, counts.answers, &mut self.answers)?;
@@ -201,7 +265,7 @@ impl MessageRequest {
         alloc: Global,
         decoder: &mut BinDecoder<'_>,
     ) -> Result<(), DecodeError>
-        requires { (self.old.answers ≡ []) × (self.old.authorities ≡ []) }
+        requires { HasNoRecord self.old }
         ensures exact { GivesSeenBy (λ _. message_of self.new) result decoder.old decoder.new message }
         ensures questions { IfOk result (λ _. FollowsHeader decoder.old self.new.queries) }
     {
@@ -220,7 +284,7 @@ fn read_message(
     bytes: &[u8],
     message: &mut MessageRequest,
 ) -> Result<(), DecodeError>
-    requires { (message.old.answers ≡ []) × (message.old.authorities ≡ []) }
+    requires { HasNoRecord message.old }
     ensures found { IfOk result (λ _. Reads bytes.now (message_of message.new)) }
     ensures questions { IfOk result (λ _. IsQuestionSection bytes.now message.new.queries) }
     ensures fault { IfErr result (λ e. e ≢ decode_error.Memory → Fault bytes.now e) }
@@ -242,7 +306,7 @@ fn reading_error(e: DecodeError) -> ProtoError
 impl Request {
     /// Reads the message that its bytes begin with, in the place of one without a record.
     fn read_in_place(&mut self, alloc: Global) -> Result<(), ProtoError>
-        requires { (self.old.message.answers ≡ []) × (self.old.message.authorities ≡ []) }
+        requires { HasNoRecord self.old.message }
         ensures found { IfOk result (λ _. Reads self.old.bytes (message_of self.new.message)) }
         ensures questions { IfOk result (λ _. IsQuestionSection self.old.bytes self.new.message.queries) }
         ensures only { (m : Message) → Reads self.old.bytes m → MatchResult result (λ _. message_of self.new.message ≡ m) (λ e. e ≡ ProtoError.Memory) }

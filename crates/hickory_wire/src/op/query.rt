@@ -1,13 +1,17 @@
 //! Questions.
 
-ghost use Rattle.std.specs.Prelude.{◌≡◌, ◌++◌, IfOk, OnOk};
+ghost use Rattle.std.specs.Prelude.{◌≡◌, ◌++◌, [], true, IfOk, OnOk};
 ghost use Rattle.hickory_wire.specs.rr.domain.NameOrder.{lower_name};
+ghost use Rattle.hickory_wire.specs.serialize.reading.Reading.{GivesSeenBy};
+ghost use Rattle.hickory_wire.specs.serialize.reading.RecordReading.{question};
 ghost use Rattle.hickory_wire.specs.serialize.writing.QuestionForm.{lower_question, question_octets};
 
+use crate::error::DecodeError;
 use crate::rr::dns_class::DNSClass;
 use crate::rr::domain::lower_name::LowerName;
 use crate::rr::domain::name::Name;
 use crate::rr::record_type::RecordType;
+use crate::serialize::reading::decoder::BinDecoder;
 use crate::serialize::writing::data_encoder::{write_name, write_u16};
 use std::alloc::{AllocError, Global};
 use std::marker::Model;
@@ -35,6 +39,22 @@ impl Clone for Query {
             query_class: self.query_class,
         })
     }
+}
+
+/// The question at a decoder's place, and its name in lower case, in the place of others.
+#[inline(always)]
+fn read_parts(
+    alloc: Global,
+    decoder: &mut BinDecoder<'_>,
+    query: &mut Query,
+    name: &mut LowerName,
+) -> Result<(), DecodeError>
+    ensures read { GivesSeenBy (λ _. query.new) result decoder.old decoder.new question }
+    ensures lowered { OnOk result (name.new ≡ lower_name query.new.name) }
+{
+    decoder.read_query_into(alloc, query)?;
+    name.set(alloc, &query.name)?;
+    Ok(())
 }
 
 /// A question with its name in lower case beside the name as it was sent.
@@ -65,6 +85,40 @@ impl LowerQuery {
     {
         let name = LowerName::new(alloc, &original.name)?;
         Ok(LowerQuery { original, name })
+    }
+
+    /// The root, of no type and no class: to be read into.
+    pub fn of_root() -> LowerQuery
+        ensures { result ≡ record { name = record { labels = []; is_fqdn = true }; query_type = 0; query_class = 0 } }
+    {
+        LowerQuery {
+            original: Query {
+                name: Name::root(),
+                query_type: RecordType::new(0),
+                query_class: DNSClass::new(0),
+            },
+            name: LowerName::root(),
+        }
+    }
+
+    /// The question at a decoder's place, as `BinDecoder::read_query` has it, in the place of another.
+    ///
+    /// After an error nothing is promised of the question.
+    #[inline(never)]
+    pub fn read_in_place(
+        &mut self,
+        alloc: Global,
+        decoder: &mut BinDecoder<'_>,
+    ) -> Result<(), DecodeError>
+        ensures { GivesSeenBy (λ _. self.new) result decoder.old decoder.new question }
+    {
+        match read_parts(alloc, decoder, &mut self.original, &mut self.name) {
+            Ok(()) => Ok(()),
+            Err(e) => {
+                *self = LowerQuery::of_root();
+                Err(e)
+            }
+        }
     }
 
     /// The question as it was sent.

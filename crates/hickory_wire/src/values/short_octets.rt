@@ -1,6 +1,6 @@
 //! Bytes that are mostly few.
 
-ghost use Rattle.std.specs.Prelude.{◌≡◌, IfOk};
+ghost use Rattle.std.specs.Prelude.{◌≡◌, IfOk, OnOk};
 
 use crate::rr::domain::wire::Wire;
 use std::alloc::{AllocError, Global};
@@ -31,6 +31,13 @@ impl ShortOctets {
         Ok(ShortOctets {
             bytes: Wire::from_slice(alloc, bytes)?,
         })
+    }
+
+    /// A copy of these bytes in the place of others. Where memory is refused, those stay.
+    pub fn set(&mut self, alloc: Global, bytes: &[u8]) -> Result<(), AllocError>
+        ensures { OnOk result (self.new ≡ bytes.now) }
+    {
+        self.bytes.set(alloc, bytes)
     }
 
     /// The bytes.

@@ -5,6 +5,7 @@ pub mod FaultSteps
 pub mod FormFaults
 pub mod FormIsRead
 pub mod GivesReadings
+pub mod HeaderBytes
 pub mod HeaderLaws
 pub mod HeaderReadings
 pub mod ItemsRead

@@ -1,6 +1,6 @@
 //! Domain names in lower case.
 
-ghost use Rattle.std.specs.Prelude.{◌≡◌, ◌↔◌, IfOk, IsTrue, drop};
+ghost use Rattle.std.specs.Prelude.{◌≡◌, ◌↔◌, IfOk, OnOk, IsTrue, [], drop, true};
 ghost use Rattle.std.specs.Ordering.{as_partial_cmp};
 ghost use Rattle.std.specs.Cmp.{eq_by_cmp_equiv, partial_equiv_from_equiv, partial_order_from_total};
 ghost use Rattle.std.specs.Cmp.Rules.{comparing};
@@ -10,8 +10,10 @@ ghost use Rattle.hickory_wire.specs.rr.domain.NameOrder.{Encloses, IsSharedEnd, 
 ghost use Rattle.hickory_wire.specs.rr.domain.NameHash.{name_hash_input, name_hash_alike};
 
 use crate::rr::domain::name::Name;
-use crate::rr::domain::order_key::{escaped_len, make_order_key, shared_len, wire_len};
-use crate::rr::domain::wire::Wire;
+use crate::rr::domain::order_key::{
+    escaped_len, make_order_key, set_plain_key, shared_len, wire_len,
+};
+use crate::rr::domain::wire::{ShortBytes, Wire};
 use crate::serialize::writing::same_bytes::are_same;
 use std::alloc::{AllocError, Global};
 use std::cmp::Ordering;
@@ -51,6 +53,49 @@ impl LowerName {
         let name = name.to_lowercase()?;
         let key = make_order_key(alloc, name.as_wire())?;
         Ok(LowerName { name, key })
+    }
+
+    /// The root.
+    pub(crate) fn root() -> LowerName
+        ensures { result ≡ record { labels = []; is_fqdn = true } }
+    {
+        LowerName {
+            name: Name::root(),
+            key: Wire::Short(ShortBytes::new()),
+        }
+    }
+
+    /// The same as `new`, in the place of another name. Where memory is refused, nothing is promised of it.
+    #[inline(always)]
+    pub(crate) fn set(&mut self, alloc: Global, name: &Name) -> Result<(), AllocError>
+        ensures { OnOk result (self.new ≡ lower_name name.now) }
+    {
+        if self.set_short(name) {
+            return Ok(());
+        }
+        self.set_any(alloc, name)
+    }
+
+    /// The same where both names are short and no byte of a label is below 2. Returns whether it did; else nothing is promised
+    /// of the name.
+    #[inline(always)]
+    fn set_short(&mut self, name: &Name) -> bool
+        ensures { IsTrue result → self.new ≡ lower_name name.now }
+    {
+        if self.name.set_lowered(name) && set_plain_key(&mut self.key, self.name.as_wire()) {
+            return true;
+        }
+        *self = LowerName::root();
+        false
+    }
+
+    /// The same for any name.
+    #[inline(never)]
+    fn set_any(&mut self, alloc: Global, name: &Name) -> Result<(), AllocError>
+        ensures { OnOk result (self.new ≡ lower_name name.now) }
+    {
+        *self = LowerName::new(alloc, name)?;
+        Ok(())
     }
 
     /// The name that it holds. Its labels are in lower case.

@@ -1,6 +1,6 @@
 //! Domain names.
 
-ghost use Rattle.std.specs.Prelude.{◌≡◌, ◌↔◌, ℕ, [], length, drop, IfOk, true, IsTrue};
+ghost use Rattle.std.specs.Prelude.{◌≡◌, ◌↔◌, ℕ, [], length, drop, IfOk, OnOk, true, IsTrue};
 ghost use Rattle.std.specs.Ordering.{eq_by_cmp, as_partial_cmp};
 ghost use Rattle.std.specs.Cmp.{eq_by_cmp_equiv, partial_equiv_from_equiv, partial_order_from_total};
 ghost use Rattle.std.specs.Cmp.Rules.{comparing};
@@ -70,6 +70,16 @@ impl Name {
     {
         let wire = Wire::from_slice(alloc, bytes)?;
         Ok(Name { wire, is_fqdn })
+    }
+
+    /// The name of the labels in these bytes, fully qualified, in the place of another. Where memory is refused, that one stays.
+    pub(crate) fn set_wire(&mut self, alloc: Global, bytes: &[u8]) -> Result<(), AllocError>
+        requires { IsWire bytes.now }
+        ensures { OnOk result (self.new ≡ record { labels = cut bytes.now; is_fqdn = true }) }
+    {
+        self.wire.set(alloc, bytes)?;
+        self.is_fqdn = true;
+        Ok(())
     }
 
     /// Whether it is the root: no labels, and fully qualified.
@@ -161,6 +171,18 @@ impl Name {
             place += 1 + usize::from(all[place]);
         }
         own.eq_ignore_ascii_case(&all[place..])
+    }
+
+    /// Puts a name with its labels in lower case in the place of this, where both are short. Returns whether it did.
+    #[inline(always)]
+    pub(crate) fn set_lowered(&mut self, name: &Name) -> bool
+        ensures { IsTrue result → self.new ≡ lower_name name.now }
+    {
+        if !self.wire.set_lowered(&name.wire) {
+            return false;
+        }
+        self.is_fqdn = name.is_fqdn;
+        true
     }
 
     /// A copy with its labels in lower case.

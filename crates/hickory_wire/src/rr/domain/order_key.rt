@@ -161,6 +161,22 @@ pub(crate) fn make_order_key(alloc: Global, wire: &[u8]) -> Result<Wire, AllocEr
     make_key_in(&mut [0; KEY_ROOM], alloc, wire)
 }
 
+/// Makes the key in the place of another, where both are short and no byte of a label is below 2. Returns whether it did.
+#[inline(always)]
+pub(crate) fn set_plain_key(key: &mut Wire, wire: &[u8]) -> bool
+    requires { IsWire wire.now }
+    ensures { IsTrue result → wire_bytes key.new ≡ order_key (cut wire.now) }
+{
+    if let Wire::Short(short) = key {
+        let mut room = [0; SHORT_LEN];
+        if wire.len() <= SHORT_LEN && fill_plain_key(&mut room[..wire.len()], wire) {
+            *short = ShortBytes::from_array(room, wire.len());
+            return true;
+        }
+    }
+    false
+}
+
 /// Keys compared byte by byte: the first bytes that differ decide, and where none do, the lengths.
 pub(crate) fn compare_keys(a: &[u8], b: &[u8]) -> Ordering
     ensures { result ≡ slice_cmp nat_cmp a.now b.now }

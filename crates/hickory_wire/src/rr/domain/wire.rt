@@ -1,6 +1,6 @@
 //! Where bytes are kept that are mostly few, as those of a name.
 
-ghost use Rattle.std.specs.Prelude.{◌≡◌, ◌≤◌, [], ◌-◌, length, take, drop, map, replicate, IfOk};
+ghost use Rattle.std.specs.Prelude.{◌≡◌, ◌≤◌, [], ◌-◌, length, take, drop, map, replicate, false, IsTrue, IfOk, OnOk, OnErr};
 ghost use Rattle.std.specs.Char.{to_ascii_lowercase};
 ghost use Rattle.std.specs.Cmp.Lexicographic.{slice_cmp};
 ghost use Rattle.std.specs.Ordering.{nat_cmp};
@@ -88,6 +88,16 @@ impl ShortBytes {
         }
     }
 
+    /// Puts other bytes in the place of these.
+    fn set(&mut self, bytes: &[u8])
+        requires { length bytes.now ≤ 30 }
+        ensures { self.new ≡ bytes.now }
+    {
+        self.bytes = [0; SHORT_LEN];
+        self.bytes[..bytes.len()].copy_from_slice(bytes);
+        self.len = bytes.len() as u8;
+    }
+
     fn as_slice(&self) -> &[u8]
         ensures { result.now ≡ self.now }
     {
@@ -101,6 +111,16 @@ impl ShortBytes {
             bytes: self.bytes,
             len: self.len,
         }
+    }
+
+    /// Puts other bytes in the place of these, with ASCII letters in lower case.
+    #[inline(always)]
+    fn set_lowered(&mut self, source: &ShortBytes)
+        ensures { self.new ≡ map to_ascii_lowercase source.now }
+    {
+        self.bytes = source.bytes;
+        self.bytes.make_ascii_lowercase();
+        self.len = source.len;
     }
 
     /// A copy with ASCII letters in lower case.
@@ -186,6 +206,37 @@ impl Wire {
             return Ok(Wire::Short(ShortBytes::from_slice(bytes)));
         }
         Ok(Wire::Long(Vec::from_slice(alloc, bytes)?))
+    }
+
+    /// A copy of bytes in the place of others. Where memory is refused, those stay.
+    pub(crate) fn set(&mut self, alloc: Global, bytes: &[u8]) -> Result<(), AllocError>
+        ensures done { OnOk result (wire_bytes self.new ≡ bytes.now) }
+        ensures kept { OnErr result (self.new ≡ self.old) }
+    {
+        if bytes.len() <= SHORT_LEN {
+            if let Wire::Short(short) = self {
+                short.set(bytes);
+                return Ok(());
+            }
+        }
+        *self = Wire::from_slice(alloc, bytes)?;
+        Ok(())
+    }
+
+    /// Puts bytes with ASCII letters in lower case in the place of these, where both are few. Returns whether it did.
+    #[inline(always)]
+    pub(crate) fn set_lowered(&mut self, source: &Wire) -> bool
+        ensures done { IsTrue result → wire_bytes self.new ≡ map to_ascii_lowercase (wire_bytes source.now) }
+        ensures kept { result ≡ false → self.new ≡ self.old }
+    {
+        let Wire::Short(source) = source else {
+            return false;
+        };
+        let Wire::Short(own) = self else {
+            return false;
+        };
+        own.set_lowered(source);
+        true
     }
 
     /// The bytes.

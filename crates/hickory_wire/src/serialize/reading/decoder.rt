@@ -13,7 +13,7 @@ ghost use Rattle.hickory_wire.specs.declared.error.DecodeError.TheVariants.{Memo
 use crate::error::DecodeError;
 use crate::rr::domain::name::Name;
 use crate::serialize::reading::known_names::KnownNames;
-use crate::serialize::reading::name_reader::read_name_at;
+use crate::serialize::reading::name_reader::{plain_end, read_name_at};
 use bytes::Buf;
 use std::alloc::{AllocError, Global};
 use std::marker::Model;
@@ -194,6 +194,34 @@ impl<'a> BinDecoder<'a> {
         }
         self.spare = self.spare.saturating_sub(steps);
         Ok(name)
+    }
+
+    /// The same as `read_name`, in the place of another name.
+    #[inline(always)]
+    #[tactic(auto, unfolding(crate::specs::serialize::reading::NameReading::name))]
+    pub(crate) fn read_name_into(
+        &mut self,
+        alloc: Global,
+        into: &mut Name,
+    ) -> Result<(), DecodeError>
+        ensures { GivesSeenBy (λ _. into.new) result self.old self.new name }
+    {
+        // A name without a pointer, as the one of nearly every question is, needs nothing that is known of others.
+        let Some(end) = plain_end(self.bytes, self.index) else {
+            return self.read_any_name_into(alloc, into);
+        };
+        into.set_wire(alloc, &self.bytes[self.index..end])?;
+        self.index = end + 1;
+        Ok(())
+    }
+
+    /// The same for any name.
+    #[inline(never)]
+    fn read_any_name_into(&mut self, alloc: Global, into: &mut Name) -> Result<(), DecodeError>
+        ensures { GivesSeenBy (λ _. into.new) result self.old self.new name }
+    {
+        *into = self.next_name(alloc)?;
+        Ok(())
     }
 
     /// The name at this place, with the case of its letters, fully qualified; it may be compressed (RFC 1035, section 4.1.4).

@@ -1,6 +1,7 @@
 //! Reading headers (RFC 1035 section 4.1.1).
 
-ghost use Rattle.std.specs.Prelude.{◌≡◌, ◌<◌, ◌+◌, length, IfOk, IfErr};
+ghost use Rattle.std.specs.Prelude.{◌≡◌, ◌<◌, ◌≤◌, ◌+◌, length, take, drop, IfOk, IfErr};
+ghost use Rattle.std.specs.Int.{w16, from_be_bytes};
 ghost use Rattle.hickory_wire.specs.serialize.layout.HeaderLayout.{HeaderAt, bit, metadata_of};
 ghost use Rattle.hickory_wire.specs.serialize.reading.Reading.{Gives};
 ghost use Rattle.hickory_wire.specs.serialize.reading.SectionReading.{header};
@@ -44,6 +45,18 @@ fn metadata_of(id: u16, one: u8, two: u8) -> Metadata
     }
 }
 
+/// How many bytes a header has.
+const HEADER_LEN: usize = 12;
+
+/// The number of 16 bits whose two bytes stand at a place.
+#[inline(always)]
+fn number_at(bytes: &[u8], place: usize) -> u16
+    requires { place + 2 ≤ length bytes.now }
+    ensures { result ≡ from_be_bytes w16 (take 2 (drop place bytes.now)) }
+{
+    u16::from_be_bytes([bytes[place], bytes[place + 1]])
+}
+
 impl<'a> BinDecoder<'a> {
     #[tactic(auto, unfolding(crate::specs::serialize::reading::SectionReading::header))]
     fn next_header(&mut self) -> Result<Header, DecodeError>
@@ -51,20 +64,18 @@ impl<'a> BinDecoder<'a> {
         ensures fault { IfErr result (λ e. e ≡ InsufficientBytes) }
         ensures low { IfOk result (λ h. h.metadata.response_code < 16) }
     {
-        let id = self.read_u16()?;
-        let one = self.read_u8()?;
-        let two = self.read_u8()?;
-        let queries = self.read_u16()?;
-        let answers = self.read_u16()?;
-        let authorities = self.read_u16()?;
-        let additionals = self.read_u16()?;
+        // One look at how many bytes are left is enough for all of them.
+        let place = self.index();
+        let bytes = self.message();
+        self.read_slice(HEADER_LEN)?;
+        let id = number_at(bytes, place);
         Ok(Header {
-            metadata: metadata_of(id, one, two),
+            metadata: metadata_of(id, bytes[place + 2], bytes[place + 3]),
             counts: HeaderCounts {
-                queries,
-                answers,
-                authorities,
-                additionals,
+                queries: number_at(bytes, place + 4),
+                answers: number_at(bytes, place + 6),
+                authorities: number_at(bytes, place + 8),
+                additionals: number_at(bytes, place + 10),
             },
         })
     }

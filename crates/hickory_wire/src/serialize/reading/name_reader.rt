@@ -101,7 +101,7 @@ fn name_with_rest(alloc: Global, labels: &mut Labels, rest: &[u8]) -> Result<Nam
 
 /// Where the byte 0 stands that ends the name at a place, if the name stands there in full: labels one behind the other up
 /// to that byte, without a pointer, and with at most 255 bytes in all. It looks at the length bytes alone.
-fn plain_end(bytes: &[u8], from: usize) -> Option<usize>
+pub(crate) fn plain_end(bytes: &[u8], from: usize) -> Option<usize>
     ensures within { IfSome result (λ end. (from ≤ end) × (end < length bytes.now)) }
     ensures wire { IfSome result (λ end. IsWire (slice_range bytes.now from end)) }
     ensures reads { IfSome result (λ end. labels_from bytes.now from from 1 ≡ Ok (cut (slice_range bytes.now from end), end + 1)) }

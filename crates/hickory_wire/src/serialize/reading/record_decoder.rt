@@ -267,6 +267,22 @@ impl<'a> BinDecoder<'a> {
         })
     }
 
+    /// The same as `read_query`, in the place of another question.
+    #[inline(always)]
+    #[tactic(auto, unfolding(crate::specs::serialize::reading::RecordReading::question))]
+    pub(crate) fn read_query_into(
+        &mut self,
+        alloc: Global,
+        query: &mut Query,
+    ) -> Result<(), DecodeError>
+        ensures { GivesSeenBy (λ _. query.new) result self.old self.new question }
+    {
+        self.read_name_into(alloc, &mut query.name)?;
+        query.query_type = RecordType::new(self.read_u16()?);
+        query.query_class = DNSClass::new(self.read_u16()?);
+        Ok(())
+    }
+
     /// The question at this place (RFC 1035 section 4.1.2): a name, a type and a class.
     ///
     /// Then the place is the one behind it. An error is the first fault from left to right, those of a name or

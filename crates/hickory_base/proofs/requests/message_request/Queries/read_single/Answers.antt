@@ -1,9 +1,8 @@
-use Rattle.std.proofs.Common.{arith, refl}
+use Rattle.std.proofs.Common.{arith}
 use Rattle.hickory_base.proofs.lemmas.requests.QuestionPlaces.{questions_move}
-use Rattle.hickory_base.proofs.lemmas.requests.SingleQuestion.{single_is_read}
 use Rattle.hickory_base.proofs.requests.message_request.Queries.read_single.Goals as goal
 
 pub returns-in_err-slice_from : goal.returns-in_err-slice_from
 returns-in_err-slice_from c =
-    let m = questions_move 1 _ c.args.decoder.now (_, c.read_lower_query.new.decoder) (single_is_read 1 c.args.decoder.now refl _ _ c.in_ok-read_lower_query.ensures.0) in
+    let m = questions_move 1 _ c.args.decoder.now (_, c.read_one.new.decoder) c.in_ok-read_one.ensures.exact.0 in
     absurd (omega (arith, m, c.in_err-slice_from.ensures.fault.0, c.index-start.ensures.place))

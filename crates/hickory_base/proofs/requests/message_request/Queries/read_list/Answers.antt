@@ -1,6 +1,6 @@
 use Rattle.std.proofs.Common.{arith}
 use Rattle.hickory_base.proofs.lemmas.requests.QuestionPlaces.{questions_move}
-use Rattle.hickory_base.proofs.requests.message_request.Queries.read_in_place.Goals as goal
+use Rattle.hickory_base.proofs.requests.message_request.Queries.read_list.Goals as goal
 
 pub returns-in_err-slice_from : goal.returns-in_err-slice_from
 returns-in_err-slice_from c =
