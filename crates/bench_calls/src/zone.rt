@@ -1,9 +1,9 @@
 //! Zones of the records of messages.
 
 use crate::verifier::NoKeys;
-use hickory_base::zone_store::{AxfrPolicy, InMemoryZoneHandler, RecordSet, RrKey, ZoneType};
+use hickory_base::zone_store::{AxfrPolicy, InMemoryZoneHandler, RecordSet, ZoneType};
 use hickory_store::sqlite::SqliteZoneHandler;
-use hickory_wire::{LowerName, Message, Record};
+use hickory_wire::{LowerName, Message, Record, RrKey};
 use std::alloc::Global;
 use std::collections::BTreeMap;
 use std::rc::Rc;

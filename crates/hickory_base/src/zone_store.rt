@@ -6,14 +6,12 @@ mod copies;
 mod find;
 mod handler;
 mod in_memory;
-mod key_sameness;
 mod lookup;
 mod record_set;
 
 pub use handler::{AxfrPolicy, Nsec3QueryInfo, NxProofKind, ZoneHandler, ZoneType};
 pub use in_memory::InMemoryZoneHandler;
-pub use key_sameness::key_comparisons;
 pub use lookup::{
     AuthLookup, Lookup, LookupControlFlow, LookupOptions, StoredAnswer, ZoneTransfer,
 };
-pub use record_set::{RecordSet, RrKey};
+pub use record_set::RecordSet;

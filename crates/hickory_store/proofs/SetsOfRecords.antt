@@ -24,9 +24,10 @@ use Rattle.hickory_wire.proofs.lemmas.rr.RecordComparing.{both_hold, hold_both}
 use Rattle.hickory_wire.proofs.lemmas.rr.domain.SameNames.{eq_from_same, lower_same, same_order}
 use Rattle.hickory_base.specs.zone_store.RecordSets.{IsRecordSet, SameSet}
 use Rattle.hickory_base.specs.zone_store.ZoneRecords.{existing, is_of, rrset}
-use Rattle.hickory_base.specs.zone_store.ZoneSets.{AreDistinct, IsUnder, IsWellTyped, IsZone, IsZoneSet, is_key, key_cmp, shared_sets, zone_records}
+use Rattle.hickory_base.specs.zone_store.ZoneSets.{AreDistinct, IsUnder, IsWellTyped, IsZone, IsZoneSet, is_key, shared_sets, zone_records}
+use Rattle.hickory_wire.specs.rr.RrKeys.{key_cmp}
 use Rattle.hickory_base.specs.declared.zone_store.record_set.RecordSet.{RecordSet}
-use Rattle.hickory_base.specs.declared.zone_store.record_set.RrKey.{RrKey}
+use Rattle.hickory_wire.specs.declared.rr.rr_key.RrKey.{RrKey}
 use Rattle.hickory_base.proofs.lemmas.zone_store.SharedSets.{lookup-shared}
 use Rattle.hickory_base.proofs.lemmas.zone_store.ZoneByName.{key_total, of_under, rrset_found}
 use Rattle.hickory_store.specs.Identity.{SameZone, same_record, ttl_at}

@@ -18,7 +18,7 @@ use Rattle.hickory_wire.proofs.lemmas.rr.RecordComparing.{both_hold, hold_both}
 use Rattle.hickory_wire.proofs.lemmas.rr.domain.SameNames.{eq_from_same, same_order}
 use Rattle.hickory_base.specs.zone_store.ZoneRecords.{is_at}
 use Rattle.hickory_base.specs.zone_store.ZoneSets.{AreDistinct, IsSoaData, IsWellTyped, IsZone, zone_records}
-use Rattle.hickory_base.specs.declared.zone_store.record_set.RrKey.{RrKey}
+use Rattle.hickory_wire.specs.declared.rr.rr_key.RrKey.{RrKey}
 use Rattle.hickory_store.specs.Changes.{comes, fold, goes_when, in_rrset, is_spared, replaces_rrset, turn}
 use Rattle.hickory_store.specs.Identity.{is_in_zone, same_record}
 use Rattle.hickory_store.specs.Prescan.{has_zone_data, is_addition, is_query_type, is_well_formed, prescan_refusal, update_refusal}

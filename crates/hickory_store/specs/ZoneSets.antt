@@ -7,7 +7,7 @@ use Rattle.hickory_wire.specs.declared.rr.rdata.RData.TheVariants as rdata
 use Rattle.hickory_wire.specs.declared.rr.record.Record.{Record}
 use Rattle.hickory_base.specs.zone_store.ZoneRecords.{existing, rrset}
 use Rattle.hickory_base.specs.zone_store.ZoneSets.{is_key}
-use Rattle.hickory_base.specs.declared.zone_store.record_set.RrKey.{RrKey}
+use Rattle.hickory_wire.specs.declared.rr.rr_key.RrKey.{RrKey}
 
 -- what stands under each name and type is the RRset that these records have of them
 abbrev pub HoldsSets : List (Record RData) → List (RrKey × List (Record RData)) → Type 0

@@ -2,8 +2,10 @@
 
 pub mod dns_class;
 pub mod domain;
+pub mod key_sameness;
 pub mod rdata;
 pub mod record;
 pub mod record_sameness;
 pub mod record_type;
+pub mod rr_key;
 pub mod tsig;

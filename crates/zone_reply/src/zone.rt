@@ -2,8 +2,8 @@
 
 ghost use Rattle.std.specs.Prelude.{◌≡◌, IfOk, [], ◌∷◌};
 
-use hickory_base::zone_store::{AxfrPolicy, InMemoryZoneHandler, RecordSet, RrKey, ZoneType};
-use hickory_wire::{Boxed, DNSClass, LowerName, Name, NameError, Proof, RData, Record, SOA};
+use hickory_base::zone_store::{AxfrPolicy, InMemoryZoneHandler, RecordSet, ZoneType};
+use hickory_wire::{Boxed, DNSClass, LowerName, Name, NameError, Proof, RData, Record, RrKey, SOA};
 use std::alloc::{AllocError, Global};
 use std::collections::BTreeMap;
 use std::net::Ipv4Addr;

@@ -2,7 +2,8 @@
 
 use crate::keys::NoKeys;
 use hickory_server::proto::{LowerName, Name, Record, RecordType};
-use hickory_server::store::in_memory::{InMemoryZoneHandler, RecordSet, RrKey};
+use hickory_server::proto::rr::RrKey;
+use hickory_server::store::in_memory::{InMemoryZoneHandler, RecordSet};
 use hickory_server::store::sqlite::SqliteZoneHandler;
 use hickory_server::zone_handler::{AxfrPolicy, ZoneType};
 use hickory_server::zone_text::{ZoneFileError, read_zone_file};

@@ -3,4 +3,5 @@ pub mod Boxes
 pub mod DistinctRecords
 pub mod KeyOrder
 pub mod SharedSets
+pub mod StoredSets
 pub mod ZoneByName

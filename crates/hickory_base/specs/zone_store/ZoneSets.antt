@@ -1,23 +1,21 @@
 -- The records of a zone, as sets by name and type (RFC 1034 section 3.6, RFC 2181 section 5).
 use Rattle.std.specs.Prelude.{◌≡◌, ◌<◌, ◌^◌, ℕ, Bool, List, [], ◌∷◌, ◌++◌, filter, length, map}
-use Rattle.std.specs.Hash as fed
 use Rattle.std.specs.List.{AllByRecursion, flat_map}
 use Rattle.std.specs.List.Sorted.{IsStrictlySortedBy}
 use Rattle.std.specs.Map.{keys_of}
 use Rattle.std.specs.BTreeMap.{BTreeMap}
 use Rattle.std.specs.declared.alloc.Global.{Global}
-use Rattle.std.specs.declared.cmp.Ordering.{Ordering}
 use Rattle.std.specs.declared.rc.Rc.{Rc}
-use Rattle.std.specs.Ordering.{nat_cmp, ordering_then, is_eq}
+use Rattle.std.specs.Ordering.{is_eq}
 use Rattle.hickory_wire.specs.rr.domain.DomainName.{DomainName}
-use Rattle.hickory_wire.specs.rr.domain.NameHash.{name_hash_input}
-use Rattle.hickory_wire.specs.rr.domain.NameOrder.{SameName, name_cmp, name_eq}
+use Rattle.hickory_wire.specs.rr.domain.NameOrder.{SameName, name_eq}
 use Rattle.hickory_wire.specs.rr.RecordData.{type_of}
 use Rattle.hickory_wire.specs.rr.RecordSameness.{SameRecord}
 use Rattle.hickory_wire.specs.declared.rr.rdata.RData.{RData}
 use Rattle.hickory_wire.specs.declared.rr.rdata.RData.TheVariants as rdata
 use Rattle.hickory_wire.specs.declared.rr.record.Record.{Record}
-use Rattle.hickory_base.specs.declared.zone_store.record_set.RrKey.{RrKey}
+use Rattle.hickory_wire.specs.declared.rr.rr_key.RrKey.{RrKey}
+use Rattle.hickory_wire.specs.rr.RrKeys.{key_cmp}
 use Rattle.hickory_base.specs.declared.zone_store.record_set.RecordSet.{RecordSet}
 
 -- The record is of the key's name and type.
@@ -53,19 +51,6 @@ IsZone sets = AllByRecursion (λ e. IsZoneSet e.0 e.1) sets
 -- all records, in the order of the sets
 abbrev pub zone_records : List (RrKey × List (Record RData)) → List (Record RData)
 zone_records sets = flat_map (λ e. e.1) sets
-
--- by name, then by type
-abbrev pub key_cmp : RrKey → RrKey → Ordering
-key_cmp a b = ordering_then (name_cmp a.name b.name) (nat_cmp a.record_type b.record_type)
-
--- Two keys are the same: their names are, in any letter case, and their types.
-pub record SameKey (a b : RrKey) : Type 0 where
-  pub name : SameName a.name b.name
-  pub record_type : a.record_type ≡ b.record_type
-
--- what a key feeds a hasher: what its name does, and its type
-abbrev pub key_hash_input : RrKey → List (List ℕ)
-key_hash_input key = name_hash_input key.name ++ fed.u16 key.record_type
 
 -- the keys of the sets ascend, so that none stands twice
 abbrev pub AreSetsInOrder : List (RrKey × List (Record RData)) → Type 0

@@ -6,9 +6,9 @@ ghost use Rattle.hickory_wire.specs.rr.RecordSameness.{SameRecord};
 ghost use Rattle.hickory_base.specs.zone_store.RecordSets.{IsRecordSet, SameSet};
 ghost use Rattle.hickory_base.specs.zone_store.ZoneSets.{AreDistinct, IsUnder, IsWellTyped, IsZone, IsZoneSet, sets_of};
 
-use crate::zone_store::record_set::{RecordSet, RrKey};
+use crate::zone_store::record_set::RecordSet;
 use hickory_wire::name_laws::name_comparisons;
-use hickory_wire::{RData, Record, RecordType, SOA, record_comparisons};
+use hickory_wire::{RData, Record, RecordType, RrKey, SOA, record_comparisons};
 use std::collections::BTreeMap;
 use std::rc::Rc;
 

@@ -10,8 +10,8 @@ ghost use Rattle.hickory_base.specs.zone_store.ZoneSets.{is_key, keys_at, sets_o
 use crate::errors::{DnsError, LookupError};
 use crate::zone_store::copies::append_copies;
 use crate::zone_store::lookup::{AuthLookup, StoredAnswer};
-use crate::zone_store::record_set::{RecordSet, RrKey};
-use hickory_wire::{Items, LowerName, Record, RecordType, ResponseCode};
+use crate::zone_store::record_set::RecordSet;
+use hickory_wire::{Items, LowerName, Record, RecordType, ResponseCode, RrKey};
 use std::alloc::{AllocError, Global};
 use std::collections::BTreeMap;
 use std::rc::Rc;
@@ -154,36 +154,42 @@ fn find_set(
     }
 }
 
-/// What the sets hold under a key, where it lies.
-fn stored_set(sets: &BTreeMap<RrKey, Rc<RecordSet>>, key: RrKey) -> StoredAnswer<'_>
-    ensures { stored_result result ≡ set_answer (sets_of sets.now) key.name key.record_type }
+/// What the sets hold for the key's name and a type, where it lies. No type is below that of the key, so that the sets of the
+/// name stand behind it.
+fn stored_set<'m>(
+    sets: &'m BTreeMap<RrKey, Rc<RecordSet>>,
+    first: &RrKey,
+    record_type: RecordType,
+) -> StoredAnswer<'m>
+    requires { first.now.record_type ≡ 0 }
+    ensures { stored_result result ≡ set_answer (sets_of sets.now) first.now.name record_type }
 {
-    if let Some(records) = set_under(sets, &key) {
-        return StoredAnswer::Records(records);
+    let mut without = StoredAnswer::NoName;
+    for (key, set) in sets.range(first..) {
+        if first.name != key.name {
+            return without;
+        }
+        if record_type == key.record_type {
+            return StoredAnswer::Records(set.records());
+        }
+        without = StoredAnswer::NoData;
     }
-    let first = RrKey::new(key.name, RecordType::new(0));
-    if is_in_use(sets, &first) {
-        StoredAnswer::NoData
-    } else {
-        StoredAnswer::NoName
-    }
+    without
 }
 
-/// The same for a name and type, where that is one set and the key takes no memory that is refused.
+/// The same where one set is asked for.
 pub(crate) fn find_stored<'m>(
     sets: &'m BTreeMap<RrKey, Rc<RecordSet>>,
-    name: &LowerName,
+    first: &RrKey,
     record_type: RecordType,
 ) -> Option<StoredAnswer<'m>>
-    ensures { IfSome result (λ answer. stored_result answer ≡ zone_answer (sets_of sets.now) name.now record_type) }
+    requires { first.now.record_type ≡ 0 }
+    ensures { IfSome result (λ answer. stored_result answer ≡ zone_answer (sets_of sets.now) first.now.name record_type) }
 {
     if record_type.value() == RecordType::ANY.value() {
         return None;
     }
-    match name.clone() {
-        Ok(name) => Some(stored_set(sets, RrKey::new(name, record_type))),
-        Err(_) => None,
-    }
+    Some(stored_set(sets, first, record_type))
 }
 
 /// What the sets hold for a name and type.

@@ -11,8 +11,8 @@ ghost use Rattle.hickory_base.specs.zone_store.ZoneSets.{AreDistinct, AreSetsInO
 use crate::zone_store::conditions::is_zone;
 use crate::zone_store::find::first_under;
 use crate::zone_store::handler::{AxfrPolicy, ZoneType};
-use crate::zone_store::record_set::{RecordSet, RrKey};
-use hickory_wire::{DNSClass, LowerName, RData, Record, RecordType};
+use crate::zone_store::record_set::RecordSet;
+use hickory_wire::{DNSClass, LowerName, RData, Record, RecordType, RrKey};
 use std::alloc::Global;
 use std::collections::BTreeMap;
 use std::marker::Model;

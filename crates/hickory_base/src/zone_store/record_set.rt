@@ -5,39 +5,10 @@ ghost use Rattle.hickory_base.specs.zone_store.RecordSets.{IsRecordSet};
 
 use crate::zone_store::conditions::is_record_set;
 use crate::zone_store::copies::append_copies;
-use hickory_wire::{LowerName, Record, RecordType};
+use hickory_wire::Record;
 use std::alloc::{AllocError, Global};
 use std::marker::Model;
 use std::rc::Rc;
-
-/// By what a set of records is found: keys are ordered by name, then by type.
-#[derive(PartialEq, Eq, PartialOrd, Ord, Hash, Drop)]
-pub struct RrKey {
-    /// The owner name of the records.
-    pub name: LowerName,
-    /// Their type.
-    pub record_type: RecordType,
-}
-
-impl RrKey {
-    /// The key of this name and type.
-    pub fn new(name: LowerName, record_type: RecordType) -> RrKey
-        ensures { result ≡ record { name = name; record_type = record_type } }
-    {
-        RrKey { name, record_type }
-    }
-}
-
-impl Clone for RrKey {
-    ghost is_clone = { λ key copy. copy ≡ key };
-
-    fn clone(&self) -> Result<RrKey, AllocError> {
-        Ok(RrKey {
-            name: self.name.clone()?,
-            record_type: self.record_type,
-        })
-    }
-}
 
 /// Records of one name and type, at least one (RFC 2181 section 5).
 #[derive(Drop)]

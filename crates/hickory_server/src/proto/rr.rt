@@ -3,5 +3,6 @@
 pub mod rdata;
 
 pub use hickory_wire::{
-    DNSClass, LowerName, Name, RData, Record, RecordType, TSigResponseContext, TSigResponseKind,
+    DNSClass, LowerName, Name, RData, Record, RecordType, RrKey, TSigResponseContext,
+    TSigResponseKind, key_comparisons,
 };

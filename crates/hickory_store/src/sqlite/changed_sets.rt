@@ -6,7 +6,8 @@ ghost use Rattle.std.specs.List.Sorted.{IsStrictlySortedBy};
 ghost use Rattle.std.specs.Map.{keys_of, values_of};
 ghost use Rattle.hickory_wire.specs.declared.rr.rdata.RData.{RData as Data};
 ghost use Rattle.hickory_wire.specs.declared.rr.record.Record.{Record as ResourceRecord};
-ghost use Rattle.hickory_base.specs.zone_store.ZoneSets.{AreDistinct, IsWellTyped, key_cmp, keys_at, sets_of, zone_records};
+ghost use Rattle.hickory_base.specs.zone_store.ZoneSets.{AreDistinct, IsWellTyped, keys_at, sets_of, zone_records};
+ghost use Rattle.hickory_wire.specs.rr.RrKeys.{key_cmp};
 ghost use Rattle.hickory_store.specs.Identity.{SameZone};
 ghost use Rattle.hickory_store.specs.NameUpdates.{AreNow};
 ghost use Rattle.hickory_store.specs.SetChanges.{Makes, has_key, put_sets};
@@ -15,8 +16,8 @@ use crate::sqlite::laws::identities;
 use crate::sqlite::set_changes::{Put, commit};
 use crate::sqlite::touched::ByName;
 use crate::sqlite::zone_sets::{Sets, sets_of_records};
-use hickory_base::zone_store::{InMemoryZoneHandler, RrKey};
-use hickory_wire::Record;
+use hickory_base::zone_store::InMemoryZoneHandler;
+use hickory_wire::{Record, RrKey};
 use std::alloc::{AllocError, Global};
 
 /// What an update changes: the sets that it puts, and the keys that it leaves without one.

@@ -11,8 +11,8 @@ ghost use Rattle.hickory_store.specs.Prerequisites.{collected, sets_match};
 ghost use Rattle.hickory_store.specs.SetsByRecord.{are_matched, are_required, is_matched, is_matched_by};
 
 use crate::sqlite::laws::identities;
-use hickory_base::zone_store::{InMemoryZoneHandler, RrKey};
-use hickory_wire::{DNSClass, LowerName, Record};
+use hickory_base::zone_store::InMemoryZoneHandler;
+use hickory_wire::{DNSClass, LowerName, Record, RrKey};
 use std::alloc::{AllocError, Global};
 
 /// The zone's records of the name and type of a record, if there are any.

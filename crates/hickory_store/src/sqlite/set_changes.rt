@@ -3,11 +3,12 @@
 ghost use Rattle.std.specs.Prelude.{◌≡◌, IsSome, None, OnErr, OnOk, false};
 ghost use Rattle.std.specs.BTreeMap.{IsUnchanged};
 ghost use Rattle.std.specs.Map.{remove_entry};
-ghost use Rattle.hickory_base.specs.declared.zone_store.record_set.RrKey.{RrKey as Key};
+ghost use Rattle.hickory_wire.specs.declared.rr.rr_key.RrKey.{RrKey as Key};
 ghost use Rattle.hickory_store.specs.SetChanges.{AllPresent, KeepsKeys, at, equals, is_put, put_all, take_all, undone};
 
 use crate::sqlite::zone_sets::Sets;
-use hickory_base::zone_store::{RecordSet, RrKey};
+use hickory_base::zone_store::RecordSet;
+use hickory_wire::RrKey;
 use std::alloc::{AllocError, Global};
 use std::rc::Rc;
 

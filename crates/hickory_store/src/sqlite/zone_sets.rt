@@ -8,8 +8,8 @@ ghost use Rattle.hickory_wire.specs.declared.rr.record.Record.{Record as Resourc
 ghost use Rattle.hickory_base.specs.zone_store.ZoneSets.{sets_of};
 ghost use Rattle.hickory_store.specs.ZoneSets.{HoldsSets, PutsSet, records_under};
 
-use hickory_base::zone_store::{RecordSet, RrKey};
-use hickory_wire::{LowerName, Record};
+use hickory_base::zone_store::RecordSet;
+use hickory_wire::{LowerName, Record, RrKey};
 use std::alloc::{AllocError, Global};
 use std::collections::BTreeMap;
 use std::rc::Rc;

@@ -11,6 +11,7 @@ use crate::rr::dns_class::DNSClass;
 use crate::rr::domain::lower_name::LowerName;
 use crate::rr::domain::name::Name;
 use crate::rr::record_type::RecordType;
+use crate::rr::rr_key::RrKey;
 use crate::serialize::reading::decoder::BinDecoder;
 use crate::serialize::writing::data_encoder::{write_name, write_u16};
 use std::alloc::{AllocError, Global};
@@ -59,11 +60,13 @@ fn read_parts(
 
 /// A question with its name in lower case beside the name as it was sent.
 ///
-/// A contract sees the question as it was sent.
+/// The lower-case name lies in a key, so that records of it are found without a key made for that. A contract sees the question as
+/// it was sent.
 #[derive(Debug, Drop)]
 pub struct LowerQuery {
     original: Query,
-    name: LowerName,
+    // Of type 0, than which no type is lower.
+    first_key: RrKey,
 }
 
 impl Model for LowerQuery {
@@ -75,7 +78,7 @@ impl Model for LowerQuery {
 
     ghost view = { λ q. q.original };
 
-    ghost invariant = { λ q. q.name ≡ lower_name q.original.name };
+    ghost invariant = { λ q. q.first_key ≡ record { name = lower_name q.original.name; record_type = 0 } };
 }
 
 impl LowerQuery {
@@ -84,7 +87,10 @@ impl LowerQuery {
         ensures { IfOk result (λ q. q ≡ original) }
     {
         let name = LowerName::new(alloc, &original.name)?;
-        Ok(LowerQuery { original, name })
+        Ok(LowerQuery {
+            original,
+            first_key: RrKey::new(name, RecordType::new(0)),
+        })
     }
 
     /// The root, of no type and no class: to be read into.
@@ -97,7 +103,7 @@ impl LowerQuery {
                 query_type: RecordType::new(0),
                 query_class: DNSClass::new(0),
             },
-            name: LowerName::root(),
+            first_key: RrKey::new(LowerName::root(), RecordType::new(0)),
         }
     }
 
@@ -112,7 +118,7 @@ impl LowerQuery {
     ) -> Result<(), DecodeError>
         ensures { GivesSeenBy (λ _. self.new) result decoder.old decoder.new question }
     {
-        match read_parts(alloc, decoder, &mut self.original, &mut self.name) {
+        match read_parts(alloc, decoder, &mut self.original, &mut self.first_key.name) {
             Ok(()) => Ok(()),
             Err(e) => {
                 *self = LowerQuery::of_root();
@@ -132,7 +138,14 @@ impl LowerQuery {
     pub fn name(&self) -> &LowerName
         ensures { result.now ≡ lower_name self.now.name }
     {
-        &self.name
+        &self.first_key.name
+    }
+
+    /// The key before which none of the name in lower case is: no type is below 0.
+    pub fn first_key(&self) -> &RrKey
+        ensures { result.now ≡ record { name = lower_name self.now.name; record_type = 0 } }
+    {
+        &self.first_key
     }
 
     /// The type asked for.
@@ -155,7 +168,7 @@ impl LowerQuery {
     pub fn emit(&self, bytes: &mut Vec<u8>) -> Result<(), AllocError>
         ensures { OnOk result (bytes.new.items ≡ bytes.old.items ++ question_octets (lower_question self.now)) }
     {
-        write_name(bytes, self.name.as_name())?;
+        write_name(bytes, self.first_key.name.as_name())?;
         write_u16(bytes, self.original.query_type.value())?;
         write_u16(bytes, self.original.query_class.value())
     }

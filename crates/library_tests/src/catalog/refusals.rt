@@ -5,12 +5,10 @@ use super::sinks::request;
 use hickory_base::encoding_sink::EncodingSink;
 use hickory_base::errors::CatalogError;
 use hickory_base::server::RequestHandler;
-use hickory_base::zone_store::{
-    AxfrPolicy, InMemoryZoneHandler, RecordSet, RrKey, ZoneHandler, ZoneType,
-};
+use hickory_base::zone_store::{AxfrPolicy, InMemoryZoneHandler, RecordSet, ZoneHandler, ZoneType};
 use hickory_catalog::catalog::Catalog;
 use hickory_catalog::zones::Zones;
-use hickory_wire::{DNSClass, LowerName, Name, Proof, Protocol, RData, Record, RecordType};
+use hickory_wire::{DNSClass, LowerName, Name, Proof, Protocol, RData, Record, RecordType, RrKey};
 use std::alloc::Global;
 use std::collections::BTreeMap;
 use std::net::Ipv4Addr;

@@ -12,7 +12,8 @@ use hickory_server::proto::{
     LowerName, Message, MessageType, Metadata, OpCode, Record, RecordType, ReplyParts,
     encode_message_parts,
 };
-use hickory_server::store::in_memory::{InMemoryZoneHandler, RrKey};
+use hickory_server::proto::rr::RrKey;
+use hickory_server::store::in_memory::InMemoryZoneHandler;
 use hickory_server::zone_handler::{AxfrPolicy, ZoneHandler, ZoneType};
 use std::alloc::{AllocError, Global};
 use std::fmt::Write;

@@ -14,8 +14,9 @@ use Rattle.hickory_wire.specs.declared.rr.record.Record.{Record}
 use Rattle.hickory_wire.proofs.lemmas.rr.RecordComparing.{hold_both}
 use Rattle.hickory_wire.proofs.lemmas.rr.domain.SameNames.{eq_from_same}
 use Rattle.hickory_base.specs.zone_store.ZoneRecords.{is_of}
-use Rattle.hickory_base.specs.zone_store.ZoneSets.{AreDistinct, AreSetsInOrder, IsUnder, IsZone, key_cmp, zone_records}
-use Rattle.hickory_base.specs.declared.zone_store.record_set.RrKey.{RrKey}
+use Rattle.hickory_base.specs.zone_store.ZoneSets.{AreDistinct, AreSetsInOrder, IsUnder, IsZone, zone_records}
+use Rattle.hickory_wire.specs.rr.RrKeys.{key_cmp}
+use Rattle.hickory_wire.specs.declared.rr.rr_key.RrKey.{RrKey}
 use Rattle.hickory_base.proofs.lemmas.zone_store.ZoneByName.{of_under}
 
 abbrev Records : Type 0

@@ -13,9 +13,10 @@ use Rattle.std.specs.declared.cmp.Ordering.TheVariants.{Less, Equal, Greater}
 use Rattle.std.proofs.lemmas.Bool.Decides.{nat_tests}
 use Rattle.std.proofs.lemmas.List.Elements.{filter_agree}
 use Rattle.hickory_wire.specs.rr.domain.NameOrder.{name_cmp, name_cmp_total}
-use Rattle.hickory_base.specs.zone_store.ZoneSets.{key_cmp, has_name}
-use Rattle.hickory_base.specs.declared.zone_store.record_set.RrKey.{RrKey}
-use Rattle.hickory_base.specs.contracts.zone_store.record_set.RrKeyOrd.TheImpl as by_key
+use Rattle.hickory_base.specs.zone_store.ZoneSets.{has_name}
+use Rattle.hickory_wire.specs.rr.RrKeys.{key_cmp}
+use Rattle.hickory_wire.specs.declared.rr.rr_key.RrKey.{RrKey}
+use Rattle.hickory_wire.specs.contracts.rr.rr_key.RrKeyOrd.TheImpl as by_key
 
 -- the order that is derived is by name, then by type
 pub comparison-is : (a b : RrKey) → by_key.ghosts.cmp a b ≡ key_cmp a b
@@ -70,7 +71,7 @@ any_step : {X : Type 0} (b : Bool) (x : X) (some : Bool) (xs : List X) → some 
 any_step true x some xs e = refl
 any_step false x some xs e = e
 
-any_filtered : {X : Type 0} (p : X → Bool) (xs : List X) → list_any p xs ≡ is_filled (filter p xs)
+pub any_filtered : {X : Type 0} (p : X → Bool) (xs : List X) → list_any p xs ≡ is_filled (filter p xs)
 any_filtered p [] = refl
 any_filtered p (x ∷ xs) = any_step (p x) x _ _ (any_filtered p xs)
 

@@ -9,7 +9,7 @@ use Rattle.hickory_wire.specs.declared.rr.rdata.RData.{RData}
 use Rattle.hickory_wire.specs.declared.rr.record.Record.{Record}
 use Rattle.hickory_base.specs.zone_store.ZoneSets.{shared_sets}
 use Rattle.hickory_base.specs.declared.zone_store.record_set.RecordSet.{RecordSet}
-use Rattle.hickory_base.specs.declared.zone_store.record_set.RrKey.{RrKey}
+use Rattle.hickory_wire.specs.declared.rr.rr_key.RrKey.{RrKey}
 
 module _ (test : RrKey → Bool) where
   lookup_step : (b : Bool) (set : Rc RecordSet Global) (x : Option (List (Record RData))) (y : Option (Rc RecordSet Global)) → x ≡ option_map (λ s. s.value) y

@@ -21,11 +21,12 @@ use Rattle.hickory_wire.specs.declared.rr.rdata.RData.{RData}
 use Rattle.hickory_wire.specs.declared.rr.record.Record.{Record}
 use Rattle.hickory_wire.proofs.lemmas.rr.domain.SameNames.{same_order}
 use Rattle.hickory_base.specs.zone_store.ZoneRecords.{existing, is_at, is_of}
-use Rattle.hickory_base.specs.zone_store.ZoneSets.{has_name, is_key, key_cmp, shared_sets, zone_records, IsUnder, IsZone}
+use Rattle.hickory_base.specs.zone_store.ZoneSets.{has_name, is_key, shared_sets, zone_records, IsUnder, IsZone}
+use Rattle.hickory_wire.specs.rr.RrKeys.{key_cmp}
 use Rattle.hickory_base.specs.declared.zone_store.record_set.RecordSet.{RecordSet}
-use Rattle.hickory_base.specs.declared.zone_store.record_set.RrKey.{RrKey}
+use Rattle.hickory_wire.specs.declared.rr.rr_key.RrKey.{RrKey}
 
-eq_then : (o p : Ordering) → is_eq (ordering_then o p) ≡ (is_eq o && is_eq p)
+pub eq_then : (o p : Ordering) → is_eq (ordering_then o p) ≡ (is_eq o && is_eq p)
 eq_then Less p = refl
 eq_then Equal p = refl
 eq_then Greater p = refl
@@ -36,7 +37,7 @@ eq_by_tests a b true false e f = refl
 eq_by_tests a b false true e f = refl
 eq_by_tests a b false false e f = refl
 
-eq_numbers : (a b : ℕ) → is_eq (nat_cmp a b) ≡ (a == b)
+pub eq_numbers : (a b : ℕ) → is_eq (nat_cmp a b) ≡ (a == b)
 eq_numbers a b = eq_by_tests a b (nat_lt a b) (a == b) refl refl
 
 pub itself : (name : DomainName) → SameName name name

@@ -106,7 +106,7 @@ impl ZoneHandler for InMemoryZoneHandler {
         _options: LookupOptions,
     ) -> Option<StoredAnswer<'_>> {
         match request.message().queries.try_as_query() {
-            Ok(query) => find_stored(&self.records, query.name(), query.query_type()),
+            Ok(query) => find_stored(&self.records, query.first_key(), query.query_type()),
             Err(_) => None,
         }
     }

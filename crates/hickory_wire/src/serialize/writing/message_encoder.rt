@@ -156,13 +156,7 @@ where
         fault: None,
     };
     let answers = write_list(bytes, &mut table, limit, answers, &mut stops)?;
-    let authorities = write_list(
-        bytes,
-        &mut table,
-        limit,
-        authorities.chain(soa),
-        &mut stops,
-    )?;
+    let authorities = write_list(bytes, &mut table, limit, authorities.chain(soa), &mut stops)?;
     let additionals = write_list(bytes, &mut table, limit, additionals, &mut stops)?;
     let opts = write_optional_edns(bytes, limit, edns, &mut stops)?;
     let signatures = write_optional_signature(bytes, limit, signature, &mut stops)?;

@@ -6,7 +6,7 @@ use Rattle.hickory_wire.specs.declared.rr.record.Record.{Record}
 use Rattle.hickory_base.specs.zone_store.RecordSets.{IsRecordSet}
 use Rattle.hickory_base.specs.zone_store.ZoneRecords.{rrset}
 use Rattle.hickory_base.specs.zone_store.ZoneSets.{sets_of}
-use Rattle.hickory_base.specs.declared.zone_store.record_set.RrKey.{RrKey}
+use Rattle.hickory_wire.specs.declared.rr.rr_key.RrKey.{RrKey}
 use Rattle.hickory_store.specs.ZoneSets.{PutsSet, records_under}
 use Rattle.hickory_store.proofs.SetsOfRecords.{holds_more, key_for, record_set_last, under_is}
 use Rattle.hickory_store.proofs.sqlite.zone_sets.put_record.Goals as goal

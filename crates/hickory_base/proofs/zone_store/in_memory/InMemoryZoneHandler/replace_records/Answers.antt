@@ -1,6 +1,6 @@
 use Rattle.std.proofs.Common.{sym, subst}
 use Rattle.std.specs.List.Sorted.{IsStrictlySortedBy}
-use Rattle.hickory_base.specs.zone_store.ZoneSets.{key_cmp}
+use Rattle.hickory_wire.specs.rr.RrKeys.{key_cmp}
 use Rattle.hickory_base.proofs.lemmas.zone_store.ZoneByName.{keys-shared}
 use Rattle.hickory_base.proofs.zone_store.in_memory.InMemoryZoneHandler.replace_records.Goals as goal
 

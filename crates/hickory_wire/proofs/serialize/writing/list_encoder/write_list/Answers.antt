@@ -13,8 +13,7 @@ pub returns-clause-written : goal.returns-clause-written
 returns-clause-written g c =
     let w = c.in_ok-run.ensures.written in
     let run = c.in_ok-run.run' in
-    let none : c.args.stops.now.fault ≡ None = search rules in
-    (
+    let none : c.args.stops.now.fault ≡ None = search rules in (
       w.0,
       is_cut_by run.ending,
       w.1,

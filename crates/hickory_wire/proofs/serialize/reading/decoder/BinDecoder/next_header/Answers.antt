@@ -17,10 +17,9 @@ returns-clause-exact c =
     } in
     let is : h ≡ header_at b p = rw (meta, c.number_at.ensures, c.number_at-2.ensures, c.number_at-3.ensures, c.number_at-4.ensures) refl in
     let there : h ≡ header_at c.args.self.now.bytes c.args.self.now.place =
-    is ∙ ap (λ (l : List ℕ). header_at l p) c.message-bytes.ensures.value ∙ ap (header_at c.args.self.now.bytes) c.index-place.ensures.place in
-    (
+    is ∙ ap (λ (l : List ℕ). header_at l p) c.message-bytes.ensures.value ∙ ap (header_at c.args.self.now.bytes) c.index-place.ensures.place in (
       header_given c.args.self.now c.read_slice.new.self c.in_ok-read_slice.field-0.now (omega (arith, c.index-place.ensures.within, c.index-place.ensures.place)) c.in_ok-read_slice.ensures.exact.0
-      ∙ ap (λ (k : Header). okay k c.read_slice.new.self) (sym there),
+          ∙ ap (λ (k : Header). okay k c.read_slice.new.self) (sym there),
       c.in_ok-read_slice.ensures.exact.1,
     )
 

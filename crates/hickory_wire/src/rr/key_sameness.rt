@@ -2,11 +2,11 @@
 
 ghost use Rattle.std.specs.Prelude.{◌≡◌, ◌↔◌, IsTrue};
 ghost use Rattle.std.specs.declared.cmp.Ordering.TheVariants.{Equal};
-ghost use Rattle.hickory_base.specs.zone_store.ZoneSets.{SameKey, key_cmp, key_hash_input};
-ghost use Rattle.hickory_base.specs.declared.zone_store.record_set.RrKey.{RrKey as Key};
+ghost use Rattle.hickory_wire.specs.rr.RrKeys.{SameKey, key_cmp, key_hash_input};
+ghost use Rattle.hickory_wire.specs.declared.rr.rr_key.RrKey.{RrKey as Key};
 
-use crate::zone_store::record_set::RrKey;
-use hickory_wire::name_laws::name_comparisons;
+use crate::rr::rr_key::RrKey;
+use crate::serialize::reading::name_laws::name_comparisons;
 use std::hash::Hash;
 
 /// Keys are ordered by name, and then by type. They are equal where this order has them equal, which is where their names

@@ -1,0 +1,10 @@
+-- What the walk answers from here on is what the whole zone answers.
+use Rattle.std.proofs.Common.{◌≡◌}
+use Rattle.hickory_base.proofs.lemmas.zone_store.StoredSets.{walked}
+use Rattle.hickory_base.specs.zone_store.Lookups.{stored_result}
+use Rattle.hickory_base.specs.zone_store.ZoneAnswers.{set_answer}
+use Rattle.hickory_base.specs.zone_store.ZoneSets.{sets_of}
+use Rattle.hickory_base.proofs.zone_store.find.stored_set.Given as goal
+
+abbrev pub invariant-loop-key : goal.invariant-loop-key
+invariant-loop-key l = walked l.first l.record_type (stored_result l.without) l.key-iterator ≡ set_answer (sets_of l.sets) l.first.name l.record_type
