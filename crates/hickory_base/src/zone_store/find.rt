@@ -1,10 +1,10 @@
 //! How the sets of a zone are found.
 
-ghost use Rattle.std.specs.Prelude.{◌≡◌, ◌++◌, IfOk, OnOk, IfSome};
+ghost use Rattle.std.specs.Prelude.{◌≡◌, ◌++◌, IfOk, OnOk, IfSome, Some};
 ghost use Rattle.std.specs.Option.{option_copied};
 ghost use Rattle.std.specs.Map.{lookup};
 ghost use Rattle.hickory_base.specs.zone_store.Lookups.{stored_result};
-ghost use Rattle.hickory_base.specs.zone_store.ZoneAnswers.{OrMemory, any_answer, first_record, found, set_answer, set_or_denial, zone_answer, is_in_use, records_at};
+ghost use Rattle.hickory_base.specs.zone_store.ZoneAnswers.{OrMemory, any_answer, found, set_answer, set_or_denial, zone_answer, is_in_use, records_at};
 ghost use Rattle.hickory_base.specs.zone_store.ZoneSets.{is_key, keys_at, sets_of};
 
 use crate::errors::{DnsError, LookupError};
@@ -29,16 +29,16 @@ pub(crate) fn set_under<'m>(
     }
 }
 
-/// The first record under a key.
-pub(crate) fn first_under<'m>(
-    sets: &'m BTreeMap<RrKey, Rc<RecordSet>>,
+/// A share of the set under a key. There is none where too many are counted. It needs no memory.
+pub(crate) fn share_under(
+    sets: &BTreeMap<RrKey, Rc<RecordSet>>,
     key: &RrKey,
-) -> Option<&'m Record>
-    ensures { option_copied result ≡ first_record (lookup (is_key key.now.name key.now.record_type) (sets_of sets.now)) }
+) -> Option<Rc<RecordSet>>
+    ensures { IfSome result (λ set. lookup (is_key key.now.name key.now.record_type) (sets_of sets.now) ≡ Some set.value) }
 {
-    match set_under(sets, key) {
+    match sets.get(key) {
         None => None,
-        Some(records) => records.first(),
+        Some(set) => set.clone().ok(),
     }
 }
 

@@ -4,12 +4,13 @@ mod answers;
 mod records;
 
 ghost use Rattle.std.specs.Prelude.{◌≡◌, ◌↔◌, IsTrue, []};
+ghost use Rattle.std.specs.Map.{lookup};
 ghost use Rattle.std.specs.Option.{option_copied};
 ghost use Rattle.hickory_base.specs.zone_store.ZoneAnswers.{zone_soa, soa_serial};
-ghost use Rattle.hickory_base.specs.zone_store.ZoneSets.{AreDistinct, AreSetsInOrder, IsZone, sets_of, zone_records};
+ghost use Rattle.hickory_base.specs.zone_store.ZoneSets.{AreDistinct, AreSetsInOrder, IsZone, is_key, sets_of, zone_records};
 
 use crate::zone_store::conditions::is_zone;
-use crate::zone_store::find::first_under;
+use crate::zone_store::find::{set_under, share_under};
 use crate::zone_store::handler::{AxfrPolicy, ZoneType};
 use crate::zone_store::record_set::RecordSet;
 use hickory_wire::{DNSClass, LowerName, RData, Record, RecordType, RrKey};
@@ -26,22 +27,26 @@ use std::rc::Rc;
 pub struct InMemoryZoneHandler {
     // The key of the zone's SOA record, whose name is the origin: it is looked up without memory for a key.
     apex: RrKey,
+    // A share of the set under that key: each denial reads it, and so needs no look-up. Where there is none, the set may
+    // still stand in the map, since a share is not to be had where too many are counted.
+    soa: Option<Rc<RecordSet>>,
     zone_type: ZoneType,
     axfr_policy: AxfrPolicy,
     records: BTreeMap<RrKey, Rc<RecordSet>>,
 }
 
 impl Model for InMemoryZoneHandler {
-    ghost use Rattle.std.specs.Prelude.{◌≡◌};
+    ghost use Rattle.std.specs.Prelude.{◌≡◌, IfSome, Some};
+    ghost use Rattle.std.specs.Map.{lookup};
     ghost use Rattle.hickory_base.specs.zone_store.ZoneAnswers.{MemoryZone};
 
     ghost Value = { MemoryZone };
 
-    ghost use Rattle.hickory_base.specs.zone_store.ZoneSets.{AreSetsInOrder, IsZone, sets_of};
+    ghost use Rattle.hickory_base.specs.zone_store.ZoneSets.{AreSetsInOrder, IsZone, is_key, sets_of};
 
     ghost view = { λ z. record { origin = z.apex.name; zone_type = z.zone_type; axfr_policy = z.axfr_policy; sets = sets_of z.records } };
 
-    ghost invariant = { λ z. (z.apex.record_type ≡ 6) × IsZone (sets_of z.records) × AreSetsInOrder (sets_of z.records) };
+    ghost invariant = { λ z. (z.apex.record_type ≡ 6) × IsZone (sets_of z.records) × AreSetsInOrder (sets_of z.records) × IfSome z.soa (λ set. lookup (is_key z.apex.name 6) (sets_of z.records) ≡ Some set.value) };
 }
 
 impl InMemoryZoneHandler {
@@ -65,8 +70,11 @@ impl InMemoryZoneHandler {
     {
         // That the keys are in order is known of a map whose length was read.
         let _ = records.len();
+        let apex = RrKey::new(origin, RecordType::SOA);
+        let soa = share_under(&records, &apex);
         InMemoryZoneHandler {
-            apex: RrKey::new(origin, RecordType::SOA),
+            apex,
+            soa,
             zone_type,
             axfr_policy,
             records,
@@ -97,6 +105,7 @@ impl InMemoryZoneHandler {
     {
         // That the keys are in order is known of a map whose length was read.
         let _ = records.len();
+        self.soa = share_under(&records, &self.apex);
         self.records = records;
     }
 
@@ -106,14 +115,29 @@ impl InMemoryZoneHandler {
         ensures zone { IsZone self.old.sets }
         ensures emptied { self.new ≡ record self.old { sets = [] } }
     {
+        // Whoever has the sets may want them unshared.
+        self.soa = None;
         mem::replace(&mut self.records, BTreeMap::new(alloc))
+    }
+
+    /// The records of type SOA at the origin.
+    fn soa_set(&self) -> Option<&[Record]>
+        ensures { option_copied result ≡ lookup (is_key self.now.origin 6) self.now.sets }
+    {
+        match &self.soa {
+            Some(set) => Some(set.records()),
+            None => set_under(&self.records, &self.apex),
+        }
     }
 
     /// The SOA record at the origin.
     fn soa(&self) -> Option<&Record>
         ensures { option_copied result ≡ zone_soa self.now }
     {
-        first_under(&self.records, &self.apex)
+        match self.soa_set() {
+            None => None,
+            Some(records) => records.first(),
+        }
     }
 
     /// The serial of the SOA record at the origin, 0 without one.

@@ -7,7 +7,7 @@ ghost use Rattle.hickory_base.specs.declared.zone_store.lookup.LookupControlFlow
 
 use crate::errors::{LookupError, UpdateFault};
 use crate::server::{Request, RequestInfo};
-use crate::zone_store::find::{find, find_stored, set_under};
+use crate::zone_store::find::{find, find_stored};
 use crate::zone_store::handler::{AxfrPolicy, Nsec3QueryInfo, NxProofKind, ZoneHandler, ZoneType};
 use crate::zone_store::in_memory::InMemoryZoneHandler;
 use crate::zone_store::lookup::{
@@ -112,7 +112,7 @@ impl ZoneHandler for InMemoryZoneHandler {
     }
 
     fn stored_soa(&self, _options: LookupOptions) -> Option<&[Record]> {
-        set_under(&self.records, &self.apex)
+        self.soa_set()
     }
 
     fn consult(

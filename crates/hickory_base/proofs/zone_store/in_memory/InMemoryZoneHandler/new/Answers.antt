@@ -1,9 +1,17 @@
-use Rattle.std.proofs.Common.{sym, ap, subst}
+use Rattle.std.proofs.Common.{◌≡◌, sym, ap, subst, IfSome, Some}
 use Rattle.std.specs.List.Sorted.{IsStrictlySortedBy}
+use Rattle.std.specs.Map.{lookup}
+use Rattle.hickory_base.specs.zone_store.ZoneSets.{is_key, sets_of}
 use Rattle.hickory_wire.specs.rr.RrKeys.{key_cmp}
 use Rattle.hickory_wire.specs.declared.rr.rr_key.RrKey.{RrKey}
 use Rattle.hickory_base.proofs.lemmas.zone_store.ZoneByName.{keys-shared}
 use Rattle.hickory_base.proofs.zone_store.in_memory.InMemoryZoneHandler.new.Goals as goal
 
 pub invariant_of-result : goal.invariant_of-result
-invariant_of-result c = (ap (λ (k : RrKey). k.record_type) c.new.ensures, c.requires, subst (IsStrictlySortedBy key_cmp) (sym (keys-shared c.args.records.entries)) c.len.ensures.ordered)
+invariant_of-result c =
+    let soa : _ = ap (λ (k : RrKey). k.record_type) c.new-apex.ensures in (
+      soa,
+      c.requires,
+      subst (IsStrictlySortedBy key_cmp) (sym (keys-shared c.args.records.entries)) c.len.ensures.ordered,
+      subst (λ t. IfSome c.share_under-soa.result (λ set. lookup (is_key c.new-apex.result.name t) (sets_of c.args.records) ≡ Some set.value)) soa c.share_under-soa.ensures,
+    )
