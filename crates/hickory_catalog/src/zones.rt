@@ -121,6 +121,7 @@ impl<H: Drop> Zones<H> {
     }
 
     /// The last zone, in the order of names, whose apex is the name or stands before it.
+    #[inline(always)]
     fn last_up_to(&self, name: &LowerName) -> Option<(&LowerName, &Vec<H>)>
         ensures last { LastUpTo self.now name.now (option_map (λ zone. (zone.0.now, zone.1.now.items)) result) }
         ensures ordered { AreInOrder self.now }
@@ -151,6 +152,7 @@ impl<H: ZoneHandler> Zones<H> {
 }
 
 /// Whether a zone of this apex answers for a fully qualified name, where no other one is nearer.
+#[inline(always)]
 fn answers_for(apex: &LowerName, name: &LowerName) -> bool
     ensures { IsTrue result ↔ ((apex.now.is_fqdn ≡ true) × Encloses apex.now.labels name.now.labels) }
 {

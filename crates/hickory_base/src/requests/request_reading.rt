@@ -278,7 +278,7 @@ impl MessageRequest {
 }
 
 /// Reads the message that bytes begin with in the place of one without a record.
-#[inline(never)]
+#[inline(always)]
 fn read_message(
     alloc: Global,
     bytes: &[u8],

@@ -159,7 +159,8 @@ impl PartialEq for LowerName {
     ghost laws = { partial_equiv_from_equiv (eq_by_cmp_equiv name_cmp_total) };
 
     fn eq(&self, other: &LowerName) -> bool {
-        self.name.is_fqdn() == other.name.is_fqdn() && self.name.as_wire() == other.name.as_wire()
+        // Keys compare eight bytes at a time.
+        self.cmp(other).is_eq()
     }
 }
 
@@ -186,6 +187,7 @@ impl Ord for LowerName {
 
     ghost matches_eq = { Prim.search (comparing, rules) };
 
+    #[inline(always)]
     fn cmp(&self, other: &LowerName) -> Ordering {
         match self.key.compare(&other.key) {
             Ordering::Equal => self.name.is_fqdn().cmp(&other.name.is_fqdn()),

@@ -209,6 +209,7 @@ impl Wire {
     }
 
     /// A copy of bytes in the place of others. Where memory is refused, those stay.
+    #[inline(always)]
     pub(crate) fn set(&mut self, alloc: Global, bytes: &[u8]) -> Result<(), AllocError>
         ensures done { OnOk result (wire_bytes self.new ≡ bytes.now) }
         ensures kept { OnErr result (self.new ≡ self.old) }
@@ -219,6 +220,15 @@ impl Wire {
                 return Ok(());
             }
         }
+        self.set_any(alloc, bytes)
+    }
+
+    /// The same for any bytes.
+    #[inline(never)]
+    fn set_any(&mut self, alloc: Global, bytes: &[u8]) -> Result<(), AllocError>
+        ensures done { OnOk result (wire_bytes self.new ≡ bytes.now) }
+        ensures kept { OnErr result (self.new ≡ self.old) }
+    {
         *self = Wire::from_slice(alloc, bytes)?;
         Ok(())
     }

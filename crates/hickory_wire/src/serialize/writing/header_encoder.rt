@@ -35,6 +35,7 @@ fn second_byte(metadata: &Metadata) -> u8
 }
 
 /// The twelve bytes of a header.
+#[inline(always)]
 pub(crate) fn header_bytes(header: &Header) -> [u8; 12]
     ensures { result ≡ header_octets header.now }
 {
@@ -59,6 +60,7 @@ pub(crate) fn header_bytes(header: &Header) -> [u8; 12]
     ]
 }
 
+#[inline(always)]
 fn put_front(bytes: &mut [u8], front: &[u8])
     requires { length front.now ≤ length bytes.old }
     ensures { bytes.new ≡ front.now ++ drop (length front.now) bytes.old }
@@ -67,6 +69,7 @@ fn put_front(bytes: &mut [u8], front: &[u8])
 }
 
 /// Puts a header in the place of the first twelve bytes.
+#[inline(always)]
 pub(crate) fn put_header(bytes: &mut Vec<u8>, header: &Header)
     requires { 12 ≤ length bytes.old.items }
     ensures { bytes.new.items ≡ header_octets header.now ++ drop 12 bytes.old.items }

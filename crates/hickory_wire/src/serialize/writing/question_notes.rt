@@ -34,6 +34,7 @@ fn end_of_name(question: &[u8]) -> Option<usize>
 }
 
 /// Notes the name of the first question, where it stands in full, and each of its ends. The whole name is kept, since most replies begin with a record of it.
+#[inline(always)]
 pub(crate) fn note_question<'n>(
     table: &mut CompressionTable<'n>,
     question: &'n [u8],
