@@ -6,7 +6,7 @@ use Rattle.hickory_wire.specs.rr.domain.DomainName.{wire_form}
 use Rattle.hickory_wire.specs.serialize.writing.Noted.{Notes, AreNotes, KeepsNotes, Compresses}
 use Rattle.hickory_wire.specs.serialize.writing.RecordSize.{full_size, unwritable_reason}
 use Rattle.hickory_wire.specs.serialize.writing.Writing as writing
-use Rattle.hickory_wire.specs.serialize.writing.Writing.{Puts, ListWritten, ListFront, ListsWritten}
+use Rattle.hickory_wire.specs.serialize.writing.Writing.{Puts, ListFront, ListsWritten}
 use Rattle.hickory_wire.specs.declared.error.ProtoError.{ProtoError}
 use Rattle.hickory_wire.specs.declared.serialize.writing.list_encoder.Stops.{Stops}
 use Rattle.hickory_wire.specs.declared.rr.rdata.RData.{RData}

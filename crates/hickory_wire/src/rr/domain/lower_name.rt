@@ -107,6 +107,7 @@ impl LowerName {
     }
 
     /// Whether it equals or encloses the other. Whether the two are fully qualified does not matter.
+    #[inline(always)]
     pub fn zone_of(&self, other: &LowerName) -> bool
         ensures { IsTrue result ↔ Encloses self.now.labels other.now.labels }
     {
@@ -187,7 +188,6 @@ impl Ord for LowerName {
 
     ghost matches_eq = { Prim.search (comparing, rules) };
 
-    #[inline(always)]
     fn cmp(&self, other: &LowerName) -> Ordering {
         match self.key.compare(&other.key) {
             Ordering::Equal => self.name.is_fqdn().cmp(&other.name.is_fqdn()),

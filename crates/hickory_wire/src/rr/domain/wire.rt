@@ -32,6 +32,19 @@ impl Model for ShortBytes {
     ghost invariant = { λ short. (short.len ≤ 30) × (drop short.len short.bytes ≡ replicate (30 - short.len) 0) };
 }
 
+/// An array with ASCII letters in lower case. With two bytes more it is two vectors, and nothing is left over for a loop.
+#[inline(always)]
+fn lowered_array(bytes: &[u8; SHORT_LEN]) -> [u8; SHORT_LEN]
+    ensures { result ≡ map to_ascii_lowercase bytes.now }
+{
+    let mut wide = [0; SHORT_LEN + 2];
+    wide[..SHORT_LEN].copy_from_slice(bytes);
+    wide.make_ascii_lowercase();
+    let mut lowered = [0; SHORT_LEN];
+    lowered.copy_from_slice(&wide[..SHORT_LEN]);
+    lowered
+}
+
 /// Arrays compared eight bytes at a time, two of them twice.
 #[inline(always)]
 fn compare_words(a: &[u8; SHORT_LEN], b: &[u8; SHORT_LEN]) -> Ordering
@@ -118,8 +131,7 @@ impl ShortBytes {
     fn set_lowered(&mut self, source: &ShortBytes)
         ensures { self.new ≡ map to_ascii_lowercase source.now }
     {
-        self.bytes = source.bytes;
-        self.bytes.make_ascii_lowercase();
+        self.bytes = lowered_array(&source.bytes);
         self.len = source.len;
     }
 

@@ -5,7 +5,7 @@ use Rattle.std.proofs.lemmas.List.{take_all, take-append-le, drop-append-le, dro
 use Rattle.std.specs.Borrow.{Bor}
 use Rattle.hickory_wire.specs.serialize.writing.Endings.{RecordEnds, seen_ending, count_of_one, fault_of, is_cut_by, front_of_ending, ListAdds, ListFollows}
 use Rattle.hickory_wire.specs.serialize.writing.Writing as writing
-use Rattle.hickory_wire.specs.serialize.writing.Writing.{Puts, PutsAll, IsCut, IsStuck, Ends, ListWritten, ListFront, ListsWritten, ending_of}
+use Rattle.hickory_wire.specs.serialize.writing.Writing.{Puts, PutsAll, Ends, ListWritten, ListFront, ListsWritten, ending_of}
 use Rattle.hickory_wire.specs.serialize.writing.Writing.ListsWritten.{none_left, next_list, stuck_list}
 use Rattle.hickory_wire.specs.declared.error.ProtoError.{ProtoError}
 use Rattle.hickory_wire.specs.declared.rr.rdata.RData.{RData}

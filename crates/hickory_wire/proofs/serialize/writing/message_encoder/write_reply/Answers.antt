@@ -12,7 +12,6 @@ use Rattle.hickory_wire.proofs.lemmas.serialize.writing.WritingFaults.{stuck_kin
 use Rattle.hickory_wire.proofs.lemmas.serialize.writing.RepliesEncoded.{are_bytes, summed_header}
 use Rattle.hickory_wire.proofs.lemmas.serialize.writing.WrittenMessage.{message_stands, written_reads}
 use Rattle.hickory_wire.proofs.serialize.writing.message_encoder.write_reply.Goals as goal
-use Rattle.hickory_wire.proofs.serialize.writing.message_encoder.write_reply.Goals.{In_ok-sections}
 
 pub returns-then-not-question_fits-clause-refused : goal.returns-then-not-question_fits-clause-refused
 returns-then-not-question_fits-clause-refused g c =
