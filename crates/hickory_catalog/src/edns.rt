@@ -1,6 +1,6 @@
 //! What the OPT record of a reply says.
 
-ghost use Rattle.std.specs.Prelude.{◌≡◌, ◌==◌, ◌&&◌, IfOk};
+ghost use Rattle.std.specs.Prelude.{◌≡◌, ◌==◌, ◌&&◌, IfOk, Some};
 ghost use Rattle.std.specs.Option.{option_copied};
 ghost use Rattle.hickory_catalog.specs.ReplyEdns.{asks_for_nsid, reply_edns, with_high_code};
 
@@ -14,17 +14,11 @@ fn is_nsid_wanted(asked: &Edns) -> bool
     asked.version() == 0 && asked.option(EdnsOption::NSID).is_some()
 }
 
-/// What the OPT record of a reply says, where the request has one, for what identifies the server.
-pub(crate) fn reply_edns(
-    alloc: Global,
-    nsid: Option<&NSIDPayload>,
-    asked: Option<&Edns>,
-) -> Result<Option<Edns>, AllocError>
-    ensures { IfOk result (λ edns. edns ≡ reply_edns (option_copied nsid.entry) (option_copied asked.entry)) }
+/// What the OPT record of a reply says to one of this content, for what identifies the server.
+#[inline(never)]
+fn edns_for(alloc: Global, nsid: Option<&NSIDPayload>, asked: &Edns) -> Result<Edns, AllocError>
+    ensures { IfOk result (λ edns. Some edns ≡ reply_edns (option_copied nsid.entry) (Some asked.now)) }
 {
-    let Some(asked) = asked else {
-        return Ok(None);
-    };
     let mut edns = Edns::new(alloc);
     edns.set_max_payload(asked.max_payload());
     edns.set_dnssec_ok(asked.dnssec_ok());
@@ -36,7 +30,22 @@ pub(crate) fn reply_edns(
             bytes: Octets::from_slice(alloc, identifier.as_slice())?,
         })?;
     }
-    Ok(Some(edns))
+    Ok(edns)
+}
+
+/// What the OPT record of a reply says, where the request has one, for what identifies the server.
+#[inline(always)]
+pub(crate) fn reply_edns(
+    alloc: Global,
+    nsid: Option<&NSIDPayload>,
+    asked: Option<&Edns>,
+) -> Result<Option<Edns>, AllocError>
+    ensures { IfOk result (λ edns. edns ≡ reply_edns (option_copied nsid.entry) (option_copied asked.entry)) }
+{
+    match asked {
+        None => Ok(None),
+        Some(asked) => Ok(Some(edns_for(alloc, nsid, asked)?)),
+    }
 }
 
 /// A copy of what an OPT record says, where there is one.
