@@ -2,8 +2,8 @@
 
 use crate::fault::Fault;
 use crate::handler::{Handler, Source};
-use hickory_server::proto::{LowerName, RData, Record, RecordType};
 use hickory_server::proto::rr::RrKey;
+use hickory_server::proto::{LowerName, RData, Record, RecordType};
 use hickory_server::store::in_memory::{InMemoryZoneHandler, RecordSet};
 use hickory_server::zone_handler::{AxfrPolicy, ZoneHandler, ZoneType};
 use std::alloc::{AllocError, Global};

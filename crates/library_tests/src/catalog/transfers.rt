@@ -9,7 +9,10 @@ use hickory_base::message_response::MessageResponse;
 use hickory_base::server::{RecordRef, Request, RequestHandler, ResponseHandler, ResponseInfo};
 use hickory_base::zone_store::{AxfrPolicy, InMemoryZoneHandler, RecordSet, ZoneHandler, ZoneType};
 use hickory_catalog::catalog::Catalog;
-use hickory_wire::{BinDecoder, Boxed, DNSClass, Items, LowerName, Name, Octets, Proof, Protocol, RData, Record, RecordType, ResponseCode, RrKey, SOA};
+use hickory_wire::{
+    BinDecoder, Boxed, DNSClass, Items, LowerName, Name, Octets, Proof, Protocol, RData, Record,
+    RecordType, ResponseCode, RrKey, SOA,
+};
 use std::alloc::Global;
 use std::collections::BTreeMap;
 use std::io;

@@ -8,11 +8,11 @@ use crate::printing::{print_hex, print_records};
 use crate::script::{Place, Script};
 use crate::text::lower_name;
 use crate::words::octets;
+use hickory_server::proto::rr::RrKey;
 use hickory_server::proto::{
     LowerName, Message, MessageType, Metadata, OpCode, Record, RecordType, ReplyParts,
     encode_message_parts,
 };
-use hickory_server::proto::rr::RrKey;
 use hickory_server::store::in_memory::InMemoryZoneHandler;
 use hickory_server::zone_handler::{AxfrPolicy, ZoneHandler, ZoneType};
 use std::alloc::{AllocError, Global};

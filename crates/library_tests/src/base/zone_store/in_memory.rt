@@ -4,8 +4,12 @@ use super::fixtures::{PLAIN, lower, word};
 use crate::base::fixtures::{QUERY, request};
 use hickory_base::errors::UpdateFault;
 use hickory_base::server::Request;
-use hickory_base::zone_store::{AxfrPolicy, InMemoryZoneHandler, RecordSet, StoredAnswer, ZoneHandler, ZoneType};
-use hickory_wire::{Boxed, DNSClass, Name, Proof, RData, Record, RecordType, ResponseCode, RrKey, SOA};
+use hickory_base::zone_store::{
+    AxfrPolicy, InMemoryZoneHandler, RecordSet, StoredAnswer, ZoneHandler, ZoneType,
+};
+use hickory_wire::{
+    Boxed, DNSClass, Name, Proof, RData, Record, RecordType, ResponseCode, RrKey, SOA,
+};
 use std::alloc::Global;
 use std::collections::BTreeMap;
 use std::net::Ipv4Addr;
