@@ -18,8 +18,8 @@ use std::net::SocketAddr;
 pub struct Request {
     pub(crate) message: MessageRequest,
     pub(crate) bytes: Octets,
-    source: SocketAddr,
-    protocol: Protocol,
+    pub(crate) source: SocketAddr,
+    pub(crate) protocol: Protocol,
 }
 
 impl Model for Request {

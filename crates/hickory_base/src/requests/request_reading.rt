@@ -19,6 +19,7 @@ use hickory_wire::{
     OpCode, ProtoError, Protocol, Record, ResponseCode, ShortOctets,
 };
 use std::alloc::{AllocError, Global};
+use std::mem;
 use std::net::SocketAddr;
 
 /// The question at this place, with its name in lower case beside it.
@@ -199,6 +200,17 @@ impl MessageRequest {
         })
     }
 
+    /// Takes the records out, so that others may be read in their place.
+    fn clear(&mut self, alloc: Global)
+        ensures { HasNoRecord self.new }
+    {
+        self.answers = Items::new(alloc);
+        self.authorities = Items::new(alloc);
+        self.additionals = Items::new(alloc);
+        self.signature = None;
+        self.edns = None;
+    }
+
     /// Reads so many records of the additional section, and what its OPT record adds to the response code.
     #[inline(never)]
     #[tactic(auto, unfolding(crate::specs::requests::RequestReading::additionals_of))]
@@ -305,7 +317,7 @@ fn reading_error(e: DecodeError) -> ProtoError
 
 impl Request {
     /// Reads the message that its bytes begin with, in the place of one without a record.
-    fn read_in_place(&mut self, alloc: Global) -> Result<(), ProtoError>
+    fn read_own_bytes(&mut self, alloc: Global) -> Result<(), ProtoError>
         requires { HasNoRecord self.old.message }
         ensures found { IfOk result (λ _. Reads self.old.bytes (message_of self.new.message)) }
         ensures questions { IfOk result (λ _. IsQuestionSection self.old.bytes self.new.message.queries) }
@@ -342,7 +354,47 @@ impl Request {
     {
         let message = MessageRequest::empty(alloc)?;
         let mut request = Request::new(message, Octets::from_vec(bytes), src, protocol);
-        request.read_in_place(alloc)?;
+        request.read_own_bytes(alloc)?;
         Ok(request)
+    }
+
+    /// Puts a copy of bytes in the place of its own, whose memory is used again.
+    fn set_bytes(&mut self, alloc: Global, bytes: &[u8]) -> Result<(), AllocError>
+        ensures bytes { OnOk result (self.new.bytes ≡ bytes.now) }
+        ensures message { self.new.message ≡ self.old.message }
+    {
+        let mut own = mem::replace(&mut self.bytes, Octets::from_vec(Vec::new(alloc))).into_vec();
+        own.clear();
+        own.extend_from_slice(bytes)?;
+        self.bytes = Octets::from_vec(own);
+        Ok(())
+    }
+
+    /// The same as `from_bytes`, in the place of this request: its memory is used again, and no request is made or handed
+    /// on. So a server may read each message that comes.
+    ///
+    /// After an error nothing is promised of the request, but that others may be read into it.
+    pub fn read_in_place(
+        &mut self,
+        alloc: Global,
+        bytes: &[u8],
+        src: SocketAddr,
+        protocol: Protocol,
+    ) -> Result<(), ProtoError>
+        // What is read stands there.
+        ensures found { IfOk result (λ _. Reads bytes.now (message_of self.new.message)) }
+        ensures questions { IfOk result (λ _. IsQuestionSection bytes.now self.new.message.queries) }
+        // What stands there is read, unless memory is refused.
+        ensures only { (m : Message) → Reads bytes.now m → MatchResult result (λ _. message_of self.new.message ≡ m) (λ e. e ≡ ProtoError.Memory) }
+        // An error is the first fault.
+        ensures fault { IfErr result (λ e. e ≢ ProtoError.Memory → IsFaultOf bytes.now e) }
+        ensures raw { IfOk result (λ _. self.new.bytes ≡ bytes.now) }
+        ensures source { IfOk result (λ _. (self.new.source ≡ src) × (self.new.protocol ≡ protocol)) }
+    {
+        self.set_bytes(alloc, bytes)?;
+        self.source = src;
+        self.protocol = protocol;
+        self.message.clear(alloc);
+        self.read_own_bytes(alloc)
     }
 }

@@ -5,14 +5,14 @@ use Rattle.hickory_base.specs.requests.RequestReading.{IsFaultOf}
 use Rattle.hickory_base.specs.requests.Requests.{ReceivedRequest}
 use Rattle.hickory_base.proofs.server.Request.from_bytes.Goals as goal
 
-pub returns-in_err-read_in_place-clause-only : goal.returns-in_err-read_in_place-clause-only
-returns-in_err-read_in_place-clause-only c = λ m reads.
-    let p = err_from_is_err_and c.from_residual-in_err-read_in_place.result c.from_residual-in_err-read_in_place.ensures.1 in
+pub returns-in_err-read_own_bytes-clause-only : goal.returns-in_err-read_own_bytes-clause-only
+returns-in_err-read_own_bytes-clause-only c = λ m reads.
+    let p = err_from_is_err_and c.from_residual-in_err-read_own_bytes.result c.from_residual-in_err-read_own_bytes.ensures.1 in
     let same : c.new-request.result.bytes ≡ c.args.bytes.items = ap (λ (r : ReceivedRequest). r.bytes) c.new-request.ensures ∙ c.from_vec.ensures in
-    rw (p.1, p.2) (c.in_err-read_in_place.ensures.only m (subst (λ (bytes : List ℕ). Reads bytes m) (sym same) reads))
+    rw (p.1, p.2) (c.in_err-read_own_bytes.ensures.only m (subst (λ (bytes : List ℕ). Reads bytes m) (sym same) reads))
 
-pub returns-in_err-read_in_place-clause-fault : goal.returns-in_err-read_in_place-clause-fault
-returns-in_err-read_in_place-clause-fault c =
-    let p = err_from_is_err_and c.from_residual-in_err-read_in_place.result c.from_residual-in_err-read_in_place.ensures.1 in
+pub returns-in_err-read_own_bytes-clause-fault : goal.returns-in_err-read_own_bytes-clause-fault
+returns-in_err-read_own_bytes-clause-fault c =
+    let p = err_from_is_err_and c.from_residual-in_err-read_own_bytes.result c.from_residual-in_err-read_own_bytes.ensures.1 in
     let same : c.new-request.result.bytes ≡ c.args.bytes.items = ap (λ (r : ReceivedRequest). r.bytes) c.new-request.ensures ∙ c.from_vec.ensures in
-    rw (p.1, p.2) (λ no_want. subst (λ (bytes : List ℕ). IsFaultOf bytes c.in_err-read_in_place.field-0.0) same (c.in_err-read_in_place.ensures.fault no_want))
+    rw (p.1, p.2) (λ no_want. subst (λ (bytes : List ℕ). IsFaultOf bytes c.in_err-read_own_bytes.field-0.0) same (c.in_err-read_own_bytes.ensures.fault no_want))
