@@ -3,7 +3,7 @@
 ghost use Rattle.std.specs.Prelude.{None};
 
 use crate::WRONG;
-use crate::messages::source;
+use crate::messages::{request, source};
 use crate::reply_sizes::ReplySizes;
 use crate::zone::{updatable_zone, zone};
 use hickory_base::server::{Request, RequestHandler};
@@ -48,17 +48,17 @@ fn measured_answer_request<H: ZoneHandler>(
     alloc: Global,
     catalog: &mut Catalog<NoSigner, H>,
     sizes: &mut ReplySizes,
+    request: &mut Request,
     bytes: &[u8],
     rounds: u64,
 ) -> Option<()> {
     let source = source();
     for _ in 0..rounds {
-        let copy = Vec::from_slice(alloc, bytes).ok()?;
-        // Matched where it is: an `Option` of it would be one more copy of the request.
-        match Request::from_bytes(alloc, copy, source, Protocol::Tcp) {
-            Ok(request) => catalog.handle_request(alloc, &request, 0, sizes).ok()?,
-            Err(_) => return None,
-        };
+        // In the place of the one before it, as a server may read each message that comes.
+        request
+            .read_in_place(alloc, bytes, source, Protocol::Tcp)
+            .ok()?;
+        catalog.handle_request(alloc, request, 0, sizes).ok()?;
     }
     Some(())
 }
@@ -73,7 +73,8 @@ fn answer<H: ZoneHandler>(
 ) -> Option<u64> {
     let mut catalog = catalog(alloc, origin, handler)?;
     let mut sizes = ReplySizes::new(alloc);
-    measured_answer_request(alloc, &mut catalog, &mut sizes, bytes, rounds)?;
+    let mut request = request(alloc, bytes)?;
+    measured_answer_request(alloc, &mut catalog, &mut sizes, &mut request, bytes, rounds)?;
     Some(sizes.total())
 }
 

@@ -117,6 +117,38 @@ fn tell_request(
     put.map_err(Fault::from)
 }
 
+/// Reads a request from bytes in the place of another one.
+fn read_in_place(
+    script: &Script,
+    alloc: Global,
+    bytes: &[u8],
+    request: &mut Request,
+) -> Result<(), Fault> {
+    let settings = script.settings;
+    request
+        .read_in_place(alloc, bytes, settings.source, settings.protocol)
+        .map_err(Fault::from)
+}
+
+/// Tells of a request that is read in the place of another one.
+fn tell_request_in_place(
+    script: &Script,
+    alloc: Global,
+    first: &str,
+    digits: &[&str],
+    out: &mut String,
+) -> Result<(), Fault> {
+    let bytes = octets(alloc, digits)?;
+    let mut request = request(script, alloc, &[first])?;
+    let read = read_in_place(script, alloc, bytes.as_slice(), &mut request);
+    let put = match read {
+        Ok(()) => put_request(alloc, &request, out).map_err(Fault::from),
+        Err(e) => Err(e),
+    };
+    drop(request);
+    put
+}
+
 /// Puts a list of records behind a text, under a heading.
 fn put_records(heading: &str, records: &[Record], out: &mut String) -> Result<(), AllocError> {
     writeln!(out, "{heading} {}", records.len())?;
@@ -361,6 +393,9 @@ fn obey_reading(
 ) -> Option<Result<(), Fault>> {
     Some(match words {
         ["request", "as-update", digits @ ..] => tell_update(script, alloc, digits, out),
+        ["request", "over", first, digits @ ..] => {
+            tell_request_in_place(script, alloc, first, digits, out)
+        }
         ["request", digits @ ..] => tell_request(script, alloc, digits, out),
         ["questions", count, digits @ ..] => tell_questions(alloc, count, digits, out),
         ["same", "message", first, "and", second] => compare(script, alloc, first, second, out),
