@@ -1,6 +1,5 @@
 -- Lemmas by the rooms of the code.
 pub mod ResultMaps
-pub mod access
 pub mod requests
 pub mod responses
 pub mod zone_store

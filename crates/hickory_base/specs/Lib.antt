@@ -1,8 +1,4 @@
-pub mod Access
 pub mod Failures
 pub mod requests
 pub mod responses
-pub mod Prefixes
-pub mod Tries
-pub mod TriesFall
 pub mod zone_store

@@ -1,12 +1,12 @@
 //! What the zone service stands on beside the messages themselves: errors, access lists, requests, replies, the sink, the zone store.
 #![tactic(auto)]
 
-pub mod access;
 pub mod errors;
 mod requests;
 mod responses;
 pub mod server;
 pub mod zone_store;
 
+pub use access;
 pub use requests::{message_request, message_sameness, update_request};
 pub use responses::{encoding_sink, message_response};

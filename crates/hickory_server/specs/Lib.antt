@@ -1,3 +1,2 @@
 pub mod Isolation
 pub mod Serving
-pub mod ZoneFiles

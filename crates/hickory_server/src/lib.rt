@@ -3,9 +3,9 @@
 
 pub use hickory_base::{access, zone_store};
 pub use hickory_wire as wire;
+pub use zone_text;
 
 pub mod proto;
 pub mod server;
 pub mod store;
 pub mod zone_handler;
-pub mod zone_text;

@@ -1,0 +1,4 @@
+pub mod Access
+pub mod Prefixes
+pub mod Tries
+pub mod TriesFall

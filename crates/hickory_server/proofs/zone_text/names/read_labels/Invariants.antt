@@ -1,8 +1,0 @@
-use Rattle.std.proofs.Common.{◌≤◌, ◌-◌, length}
-use Rattle.hickory_server.proofs.zone_text.names.read_labels.Given as goal
-
-abbrev pub invariant-labels : goal.invariant-labels
-invariant-labels l = l.place ≤ length l.text
-
-abbrev pub decreases-labels : goal.decreases-labels
-decreases-labels l = length l.text - l.place

@@ -1,5 +1,0 @@
-use Rattle.std.proofs.Common.{◌-◌, length}
-use Rattle.hickory_server.proofs.zone_text.words.quote_place.Given as goal
-
-abbrev pub decreases-bytes : goal.decreases-bytes
-decreases-bytes l = length l.text - l.place

@@ -1,9 +1,0 @@
-use Rattle.std.proofs.Common.{◌-◌, length, All}
-use Rattle.hickory_server.specs.ZoneFiles.{IsZoneRecord}
-use Rattle.hickory_server.proofs.zone_text.zone_file.read_entries.Given as goal
-
-abbrev pub invariant-entries : goal.invariant-entries
-invariant-entries l = All IsZoneRecord l.before.records
-
-abbrev pub decreases-entries : goal.decreases-entries
-decreases-entries l = length l.text - l.place

@@ -1,0 +1,68 @@
+//! Records in text.
+
+ghost use Rattle.std.specs.Prelude.{◌≡◌, true, IfOk};
+ghost use Rattle.hickory_wire.specs.declared.rr.record.Proof.TheVariants.{Indeterminate};
+
+use crate::data::data_of;
+use crate::error::{TextError, TextFault};
+use crate::names::next_name;
+use crate::ttl::ttl_of;
+use crate::words::{Word, Words};
+use hickory_wire::{DNSClass, Proof, Record, RecordType};
+use std::alloc::Global;
+
+/// The type of a field.
+pub(crate) fn type_of(word: &Word<'_>) -> Result<RecordType, TextError> {
+    let unknown = word.fault(TextFault::UnknownType);
+    let text = word.plain_text().ok_or(unknown)?;
+    text.parse::<RecordType>().map_err(|_| unknown)
+}
+
+/// The class of a field.
+pub(crate) fn class_of(word: &Word<'_>) -> Result<DNSClass, TextError> {
+    let unknown = word.fault(TextFault::UnknownClass);
+    let text = word.plain_text().ok_or(unknown)?;
+    text.parse::<DNSClass>().map_err(|_| unknown)
+}
+
+/// Reads a type: its mnemonic, in any letter case, or `TYPE` and a number of 16 bits (RFC 3597 section 5). Blanks may stand around it,
+/// and a comment behind it.
+pub fn read_type(text: &str) -> Result<RecordType, TextError> {
+    let mut words = Words::new(text);
+    let record_type = type_of(&words.field()?)?;
+    words.end()?;
+    Ok(record_type)
+}
+
+/// Reads a class: its mnemonic, in any letter case, or `CLASS` and a number of 16 bits (RFC 3597 section 5). Blanks may stand around it,
+/// and a comment behind it.
+pub fn read_class(text: &str) -> Result<DNSClass, TextError> {
+    let mut words = Words::new(text);
+    let class = class_of(&words.field()?)?;
+    words.end()?;
+    Ok(class)
+}
+
+/// Reads a record from a line of a zone's text (RFC 1035 section 5.1): owner name, TTL in seconds, class, type and data, with blanks
+/// between, as `www.example.com. 3600 IN A 192.0.2.1`. A comment may stand behind it, from `;` on.
+///
+/// All fields have to be there, and names are fully qualified. What data are made of is told at [`read_data`](crate::read_data). Nothing
+/// is known of the record's proof.
+pub fn read_record(alloc: Global, line: &str) -> Result<Record, TextError>
+    ensures owner { IfOk result (λ r. r.name.is_fqdn ≡ true) }
+    ensures unproved { IfOk result (λ r. r.proof ≡ Indeterminate) }
+{
+    let mut words = Words::new(line);
+    let name = next_name(alloc, &mut words, None)?;
+    let ttl = ttl_of(&words.field()?)?;
+    let dns_class = class_of(&words.field()?)?;
+    let record_type = type_of(&words.field()?)?;
+    let rdata = data_of(alloc, record_type, &mut words, None)?;
+    Ok(Record {
+        name,
+        dns_class,
+        ttl,
+        rdata,
+        proof: Proof::Indeterminate,
+    })
+}

@@ -1,0 +1,63 @@
+//! Zone files (RFC 1035 section 5.1).
+
+mod entry;
+mod fault;
+
+ghost use Rattle.std.specs.Prelude.{All, IfOk};
+ghost use Rattle.zone_text.specs.ZoneFiles.{IsZoneRecord};
+
+use crate::error::ZoneFileError;
+use crate::words::Words;
+use crate::zone_file::entry::{Before, Entry, read_entry};
+use crate::zone_file::fault::EntryError;
+use hickory_wire::{Items, Name, Record};
+use std::alloc::Global;
+
+/// Reads the entries one after the other.
+fn read_entries(alloc: Global, text: &[u8], origin: &Name) -> Result<Items<Record>, EntryError>
+    ensures { IfOk result (λ records. All IsZoneRecord records) }
+{
+    let mut before = Before {
+        origin: origin.clone()?,
+        default_ttl: None,
+        records: Items::new(alloc),
+    };
+    let mut place = 0;
+    'entries: while place < text.len() {
+        let words = Words::entry(text, place);
+        match read_entry(alloc, words, &before)? {
+            Entry::Blank => {}
+            Entry::Origin(name) => before.origin = name,
+            Entry::DefaultTtl(ttl) => before.default_ttl = Some(ttl),
+            Entry::Record(record) => before.records.push(record)?,
+        }
+        place = words.entry_end()? + 1;
+    }
+    Ok(before.records)
+}
+
+/// Reads a zone file (RFC 1035 section 5.1): its records in their order.
+///
+/// An entry is a line; parentheses join lines, a comment goes from `;` to the end of its line, and quotes may hold any of these. It is
+/// blank, or `$ORIGIN` and a name, or `$TTL` and a TTL (RFC 2308 section 4), or a record: owner name, TTL, class, type and data. A line
+/// that begins with a blank has the owner name of the record before. TTL and class stand in either order, and either may be left out; the
+/// class is IN. A record without a TTL has that of the last `$TTL`, else that of the record before. A TTL is a number of seconds, or
+/// numbers with a unit behind each, one of `s`, `m`, `h`, `d` and `w` in either letter case. Names, in the data too, that have no dot at
+/// their end are relative to the origin, at first the one that is given, which is taken as fully qualified; `@` is the origin itself. What
+/// data are made of is told at [`read_data`](crate::read_data).
+///
+/// The first fault ends it, with its line; `$INCLUDE` is one. Nothing is asked of the records together: that they make one zone, at the
+/// origin or below it, is for those who use them.
+pub fn read_zone_file(
+    alloc: Global,
+    text: &str,
+    origin: &Name,
+) -> Result<Items<Record>, ZoneFileError>
+    ensures { IfOk result (λ records. All IsZoneRecord records) }
+{
+    let bytes = text.as_bytes();
+    match read_entries(alloc, bytes, origin) {
+        Ok(records) => Ok(records),
+        Err(e) => Err(e.in_file(bytes)),
+    }
+}
