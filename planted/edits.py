@@ -13,9 +13,9 @@ class Edit:
     name: str
     # By file and number of the line, from 0: what stands there after the edit.
     lines: dict = field(default_factory=dict)
-    # The paths of the functions that it changes, as the prover prints them below the crate's name.
+    # The paths of the functions that it changes, as the prover prints them below the crate's name, and of the cycles of calls that these are in.
     functions: set = field(default_factory=set)
-    # The functions, or files of lemmas, whose proof must refuse it: those functions, or what its lines `refused at:` name.
+    # The functions, cycles or files of lemmas whose proof must refuse it: those functions and cycles, or what its lines `refused at:` name.
     judges: set = field(default_factory=set)
     # Whether it is tried by itself: it changes a line that no function holds, as a field of a struct, or is judged by a function that it does not change.
     is_apart: bool = False
@@ -76,9 +76,9 @@ def read_edit(name, text, texts, functions):
     for path, after in made.items():
         for at, row in changed_lines(texts[path], after).items():
             edit.lines[path, at] = row
-            holder = [it.path for it in functions[path] if it.first <= at <= it.last]
-            edit.functions.update(holder)
-            edit.is_apart = edit.is_apart or not holder
+            holders = [it for it in functions[path] if it.first <= at <= it.last]
+            edit.functions.update(path for it in holders for path in (it.path, it.cycle) if path)
+            edit.is_apart = edit.is_apart or not holders
     edit.judges = edit.functions | set(re.findall(r"^refused at: (\S+)$", text, re.M))
     edit.is_apart = edit.is_apart or edit.judges != edit.functions
     if not edit.lines:

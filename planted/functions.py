@@ -5,13 +5,15 @@ from dataclasses import dataclass
 
 @dataclass
 class Function:
-    """A function: its path below the crate, and its first and last line, from 0."""
+    """A function: its path below the crate, its first and last line, from 0, and the path of the proof of the cycle of calls that it is in, if it is in one."""
 
     path: str
     first: int
     last: int
+    cycle: str = ""
 
 
+CYCLE = re.compile(r" *#\[cycle\((\w+)\)\]")
 START = re.compile(r"( *)(?:pub(?:\([^)]*\))? )?(?:unsafe )?(?:extern \"C\" )?fn (\w+)")
 BLOCK = re.compile(r"( *)(?:pub(?:\([^)]*\))? )?(?:impl\b|mod (\w+) \{|trait (\w+))")
 
@@ -78,6 +80,16 @@ def ends_at(rows, first, indent):
     return len(rows) - 1
 
 
+def cycle_above(rows, at, module):
+    """Returns the path of the proof of the cycle that the attributes right above a function name, or nothing."""
+    while at and rows[at - 1].lstrip().startswith("#["):
+        at -= 1
+        found = CYCLE.match(rows[at])
+        if found:
+            return "::".join([*module, f"+{found[1]}"])
+    return ""
+
+
 def homes_of(texts):
     """Returns the module of each struct and enum of a crate, by its name, where one module alone has that name."""
     homes = {}
@@ -101,7 +113,8 @@ def functions_of(path, text, homes, generic):
         if at > until and start:
             until = min(ends_at(rows, at, start[1]), blocks[-1].last if blocks else len(rows))
             above = blocks[-1].path if blocks else "::".join(module_of(path))
-            found.append(Function(f"{above}::{start[2]}".removeprefix("::"), at, until))
+            cycle = cycle_above(rows, at, module_of(path))
+            found.append(Function(f"{above}::{start[2]}".removeprefix("::"), at, until, cycle))
         elif at > until and block:
             name, is_own = block[2] or block[3], True
             if not name:
