@@ -2,6 +2,10 @@
 from dataclasses import dataclass
 
 
+# The first round of a crate proves it whole where one in so many of its functions is changed.
+PART = 4
+
+
 @dataclass
 class Answer:
     """What became of an edit: whether the prover refuses it, as it must, and where, or what is wrong with it."""
@@ -9,6 +13,12 @@ class Answer:
     edit: str
     is_refused: bool
     text: str
+
+
+def begins_whole(edits, count):
+    """Whether the first round proves the whole of a crate of so many functions: where most of it is asked for sooner or later, the later rounds then find it
+    proved. For a few edits less is proved by asking for their functions, which brings along what these call."""
+    return len({path for edit in edits for path in edit.functions}) * PART >= count
 
 
 def together(edits, most):
@@ -93,7 +103,7 @@ class Rounds:
         return [it for it in batch if it not in [edit for edit, _ in bad]]
 
     def run(self, edits, is_whole):
-        """Returns an answer for each of the edits. Where all edits of a crate are tried, `is_whole`, the first round checks the whole crate."""
+        """Returns an answer for each of the edits. Where `is_whole` is set, the first round checks the whole crate."""
         for edit in edits:
             if edit.fault:
                 self.answer(Answer(edit.name, False, edit.fault))
