@@ -22,9 +22,6 @@ pub const REQUEST_USAGE: &str = "request HEX, request as-update HEX, request ove
 /// How `questions` is written.
 pub const QUESTIONS_USAGE: &str = "questions COUNT HEX";
 
-/// How `same message` is written.
-pub const SAME_MESSAGE_USAGE: &str = "same message HEX and HEX";
-
 /// How `rebuild` is written.
 pub const REBUILD_USAGE: &str = "rebuild HEX";
 

@@ -2,7 +2,6 @@
 
 use crate::updatable::{last_updatable, print_code};
 use hickory_base::errors::UpdateFault;
-use hickory_server::zone_text::read_record;
 use hickory_wire::Record;
 use script_values::fault::Fault;
 use script_values::output::Output;
@@ -10,6 +9,7 @@ use script_values::text;
 use script_values::words::behind_word;
 use script_zones::state::Zones;
 use std::alloc::Global;
+use zone_text::read_record;
 
 /// The record of a class and a type that has no data.
 fn without_data(

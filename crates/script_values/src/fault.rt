@@ -1,13 +1,13 @@
 //! Why a line is not obeyed, or the script ends.
 
-use hickory_base::access::IpNetTextError;
+use access::IpNetTextError;
 use hickory_base::errors::CatalogError;
-use hickory_server::zone_text::{TextError, TextFault, ZoneFileError};
 use hickory_wire::{CodeTextError, DecodeError, NameError, ProtoError};
 use std::alloc::{AllocError, AllocFailed};
 use std::net::AddrParseError;
 use std::num::ParseIntError;
 use std::{fmt, io};
+use zone_text::{TextError, TextFault, ZoneFileError};
 
 /// Why a line is not obeyed, or the script ends: the last two end it, after any other it goes on.
 #[derive(Clone, Copy)]

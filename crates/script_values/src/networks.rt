@@ -2,7 +2,7 @@
 
 use crate::fault::Fault;
 use crate::output::Output;
-use hickory_base::access::{AccessControl, IpNet};
+use access::{AccessControl, IpNet};
 use std::alloc::Global;
 use std::net::IpAddr;
 

@@ -1,9 +1,9 @@
 //! What is printed of messages and records.
 
 use crate::output::Output;
-use hickory_server::zone_text::MessageText;
 use hickory_wire::{DecodeError, HeaderCounts, Message, MessageType, Metadata, Record};
 use std::alloc::Global;
+use zone_text::MessageText;
 
 /// How replies are printed.
 #[derive(Clone, Copy, PartialEq, Eq)]

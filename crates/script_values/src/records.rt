@@ -14,8 +14,8 @@ use std::iter;
 /// How `record` is written.
 pub const RECORD_USAGE: &str = "record RECORD, record fits ROOM RECORD";
 
-/// How `same record` is written.
-pub const SAME_USAGE: &str = "same RECORD and RECORD";
+/// How `same` is written.
+pub const SAME_USAGE: &str = "same record RECORD and RECORD, same message HEX and HEX";
 
 /// What parts the records of a line from each other.
 const AND: &str = " and ";

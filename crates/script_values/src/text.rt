@@ -1,9 +1,9 @@
 //! What lines and words of a script stand for, as text of the field's own.
 
 use crate::fault::Fault;
-use hickory_server::zone_text::{TextError, read_name, read_record};
 use hickory_wire::{LowerName, Name, Record};
 use std::alloc::Global;
+use zone_text::{TextError, read_name, read_record};
 
 /// The record of a line. A fault tells the column.
 pub fn record(alloc: Global, line: &str) -> Result<Record, Fault> {

@@ -11,7 +11,7 @@ use script_messages::state::Place;
 use script_values::fault::Fault;
 use script_values::output::Output;
 use script_values::sections::Section;
-use script_values::text::zone_name;
+use script_values::text::{lower_name, zone_name};
 use script_values::words::setting;
 use std::alloc::Global;
 use std::mem;
@@ -262,7 +262,7 @@ fn end_chain(zones: &mut Zones, alloc: Global, apex: &LowerName) -> Result<(), F
 
 /// Serves the handlers since the last such command as the chain of a name.
 fn serve(zones: &mut Zones, alloc: Global, apex: &str, out: &mut Output) -> Result<(), Fault> {
-    let apex = zone_name(alloc, apex)?;
+    let apex = lower_name(alloc, apex)?;
     match end_chain(zones, alloc, &apex) {
         Ok(()) => {
             let chain = mem::replace(&mut zones.chain, Vec::new(alloc));
@@ -274,7 +274,7 @@ fn serve(zones: &mut Zones, alloc: Global, apex: &str, out: &mut Output) -> Resu
 
 /// Takes the chain of a name away.
 fn remove(zones: &mut Zones, alloc: Global, apex: &str) -> Result<(), Fault> {
-    let apex = zone_name(alloc, apex)?;
+    let apex = lower_name(alloc, apex)?;
     match zones.catalog.remove(&apex) {
         None => Err(Fault::NoChain),
         Some(_) => Ok(()),

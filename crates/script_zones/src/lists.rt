@@ -3,7 +3,6 @@
 use crate::state::Zones;
 use crate::zones::close;
 use hickory_base::zone_store::{LookupControlFlow, LookupOptions, ZoneHandler};
-use hickory_server::zone_text::read_data;
 use hickory_store::blocklist::{
     AddError, BlocklistConfig, BlocklistConsultAction, BlocklistZoneHandler, CountedReader,
     ListReader,
@@ -17,6 +16,7 @@ use script_values::output::Output;
 use script_values::text::{lower_name, name, require_final_dot};
 use std::alloc::{AllocError, Global};
 use std::net::{Ipv4Addr, Ipv6Addr};
+use zone_text::read_data;
 
 /// How `blocklist` is written.
 pub const BLOCKLIST_USAGE: &str =

@@ -3,7 +3,6 @@
 use crate::begun::{chain_of, last_begun};
 use crate::state::Zones;
 use hickory_base::zone_store::{AxfrPolicy, InMemoryZoneHandler, ZoneHandler, ZoneType};
-use hickory_server::zone_text::read_zone_file;
 use hickory_wire::{
     LowerName, Message, MessageType, Metadata, OpCode, Record, RecordType, ReplyParts, RrKey,
     encode_message_parts,
@@ -18,6 +17,7 @@ use script_values::text::{lower_name, zone_name};
 use script_values::words::octets;
 use std::alloc::{AllocError, Global};
 use std::{io, str};
+use zone_text::read_zone_file;
 
 /// The type of a zone, by a word.
 pub fn zone_type(word: &str) -> Option<ZoneType> {

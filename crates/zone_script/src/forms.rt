@@ -25,7 +25,7 @@ use script_values::networks::{
     ACCESS_USAGE, ALLOW_USAGE, DENY_USAGE, NETWORK_USAGE, PERMITS_USAGE,
 };
 use script_values::output::Output;
-use script_values::records::RECORD_USAGE;
+use script_values::records::{RECORD_USAGE, SAME_USAGE};
 use script_zones::asking::FIND_USAGE;
 use script_zones::calling::CALL_USAGE;
 use script_zones::chains::{ANSWER_USAGE, PART_USAGE, REMOVE_USAGE, SERVE_USAGE, ZONES_USAGE};
@@ -48,9 +48,6 @@ const ASK_USAGE: &str =
 
 /// How `lookup` is written.
 const LOOKUP_USAGE: &str = "lookup HEX, lookup NAME TYPE [.. reply-do]";
-
-/// How `same` is written.
-const SAME_USAGE: &str = "same record RECORD and RECORD, same message HEX and HEX";
 
 /// Settings.
 const SETTINGS: &[&str] = &[
