@@ -7,6 +7,6 @@ mod responses;
 pub mod server;
 pub mod zone_store;
 
-pub use access;
+pub use access_control as access;
 pub use requests::{message_request, message_sameness, update_request};
 pub use responses::{encoding_sink, message_response};

@@ -8,7 +8,7 @@ use Rattle.hickory_wire.specs.serialize.reading.MessageReading.{Fault, Reads}
 use Rattle.hickory_wire.specs.declared.error.DecodeError.{DecodeError}
 use Rattle.hickory_wire.specs.declared.op.message.Message.{Message}
 use Rattle.hickory_wire.specs.declared.op.query.Query.{Query}
-use Rattle.access.specs.Access.{AccessSets}
+use Rattle.access_control.specs.Access.{AccessSets}
 use Rattle.hickory_base.specs.requests.Questions.{one_query}
 use Rattle.hickory_base.specs.requests.RequestReading.{message_of}
 use Rattle.hickory_base.specs.requests.Requests.{ReceivedRequest}

@@ -7,7 +7,7 @@ use Rattle.std.proofs.lemmas.List.Elements.{Contains-get_or}
 use Rattle.hickory_wire.specs.rr.domain.DomainName.{DomainName}
 use Rattle.hickory_wire.specs.declared.error.ProtoError.{ProtoError}
 use Rattle.hickory_wire.specs.declared.protocol.Protocol.{Protocol}
-use Rattle.access.specs.Access.{AccessSets, IsAllowed, IsLongestMatch, Network, address_of, canonical}
+use Rattle.access_control.specs.Access.{AccessSets, IsAllowed, IsLongestMatch, Network, address_of, canonical}
 use Rattle.hickory_base.specs.requests.RequestReading.{IsFaultOf}
 use Rattle.hickory_catalog.specs.Server.{Server}
 use Rattle.hickory_server.specs.Serving.{LeavesUnserved, Run, RunFailed, Step, denied, handled, next, none, unreadable}

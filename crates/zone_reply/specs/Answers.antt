@@ -10,7 +10,7 @@ use Rattle.hickory_wire.specs.rr.domain.DomainName.{DomainName}
 use Rattle.hickory_wire.specs.declared.error.ProtoError.{ProtoError}
 use Rattle.hickory_wire.specs.declared.protocol.Protocol.{Protocol}
 use Rattle.hickory_base.specs.requests.RequestReading.{IsFaultOf}
-use Rattle.access.specs.Access.{AccessSets, Network}
+use Rattle.access_control.specs.Access.{AccessSets, Network}
 use Rattle.hickory_catalog.specs.Server.{Server}
 use Rattle.hickory_server.specs.Serving.{LeavesUnserved, Step}
 use Rattle.hickory_server.specs.declared.server.serve.Incoming.{Incoming}
