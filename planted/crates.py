@@ -58,6 +58,12 @@ def edits_of(name):
     return [it for it in files_in(f"{ROOT}/planted/{name}") if it.endswith(".edit")]
 
 
+def strays():
+    """Returns the folders of planted/ that have edits and are named as no crate."""
+    table = rows()
+    return [it for it in sorted(os.listdir(f"{ROOT}/planted")) if it not in table and edits_of(it)]
+
+
 def state_of(name):
     """Returns a sum of all that decides how a crate's edits are answered: its text and its row, those of the crates below, its edits, this driver, and the
     toolchain."""
