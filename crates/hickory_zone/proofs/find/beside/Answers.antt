@@ -1,0 +1,16 @@
+use Rattle.std.proofs.Common.{sym, subst}
+use Rattle.std.specs.Option.{option_copied}
+use Rattle.hickory_zone.proofs.lemmas.zones.Beside.{tells}
+use Rattle.hickory_zone.specs.KeysBeside.{IsLast}
+use Rattle.hickory_zone.proofs.find.beside.Goals as goal
+use Rattle.hickory_zone.proofs.find.beside.Goals.{in-Some, in-None}
+
+pub returns : goal.returns
+returns c =
+    let r = c.requires in
+    let b = r.behind in
+    let low : IsLast c.range.result (option_copied c.match-next_back.before) = elim c.match-next_back.branch [
+      | in-Some w ↦ subst (λ o. IsLast c.range.result (option_copied o)) (sym w.before-is) (w.in-Some.field-0-1.now, c.next_back.new.self, w.in-Some.ensures.steps)
+      | in-None w ↦ subst (λ o. IsLast c.range.result (option_copied o)) (sym w.before-is) w.in-None.ensures.steps.0
+    ] in
+    λ origin owners k. tells c.args.sets.now c.args.first.now r.least r.qualified origin owners b.range c.range.result b.whole b.of (c.range.ensures.between tt) (c.range.ensures.in_range tt) k _ _ b.least low

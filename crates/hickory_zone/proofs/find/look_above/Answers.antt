@@ -1,0 +1,37 @@
+use Rattle.std.proofs.Common.{subst, sym}
+use Rattle.hickory_base.specs.zone_store.ZoneSets.{sets_of}
+use Rattle.hickory_wire.specs.rr.domain.NameOrder.{Encloses}
+use Rattle.hickory_zone.proofs.lemmas.zones.Outcomes.{below_cut, below_encloser, if_ok, nothing, within}
+use Rattle.hickory_zone.specs.FoundRecords.{CutAt, IsEncloser}
+use Rattle.hickory_zone.specs.Zones.{Zone}
+use Rattle.hickory_zone.proofs.find.look_above.Goals as goal
+
+pub returns-in_default : goal.returns-in_default
+returns-in_default c =
+    let zone : Zone = record { origin = c.args.origin.now; sets = sets_of c.args.sets.now } in
+    let found = c.in_ok-encloser.ensures c.args.origin.now c.requires.owners in
+    nothing zone c.args.first.now.name c.args.record_type (rw c.in_default.is at found)
+
+pub highest_cut-requires : goal.highest_cut-requires
+highest_cut-requires c =
+    let zone : Zone = record { origin = c.args.origin.now; sets = sets_of c.args.sets.now } in
+    let found = c.in_ok-encloser.ensures c.args.origin.now c.requires.owners in
+    let e : IsEncloser zone.sets c.args.first.now.name c.in-Some.encloser = rw c.in-Some.is at found in
+    subst (λ n. Encloses zone.origin.labels n.labels) (sym c.in_ok-clone.ensures.cases) (within zone c.args.first.now.name c.in-Some.encloser c.requires.owners c.requires.within e)
+
+pub returns-in-Some-highest_cut : goal.returns-in-Some-highest_cut
+returns-in-Some-highest_cut c =
+    let zone : Zone = record { origin = c.args.origin.now; sets = sets_of c.args.sets.now } in
+    let found = c.in_ok-encloser.ensures c.args.origin.now c.requires.owners in
+    let e : IsEncloser zone.sets c.args.first.now.name c.in-Some.encloser = rw c.in-Some.is at found in
+    below_cut zone c.args.first.now.name c.in-Some.encloser c.args.record_type c.highest_cut.result c.in-Some-highest_cut.cut e c.requires.missing c.in-Some-highest_cut.is
+    (subst (λ n. CutAt zone n c.highest_cut.result) c.in_ok-clone.ensures.cases c.highest_cut.ensures)
+
+pub returns : goal.returns
+returns c =
+    let zone : Zone = record { origin = c.args.origin.now; sets = sets_of c.args.sets.now } in
+    let found = c.in_ok-encloser.ensures c.args.origin.now c.requires.owners in
+    let e : IsEncloser zone.sets c.args.first.now.name c.in-Some.encloser = rw c.in-Some.is at found in
+    if_ok c.find_wild.result _ _ (c.find_wild.ensures c.args.origin.now c.requires.owners)
+    (λ f w. below_encloser zone c.args.first.now.name c.in-Some.encloser c.args.record_type c.highest_cut.result f e c.requires.missing c.in_default-highest_cut.is
+    (subst (λ n. CutAt zone n c.highest_cut.result) c.in_ok-clone.ensures.cases c.highest_cut.ensures) c.requires.one_type w)

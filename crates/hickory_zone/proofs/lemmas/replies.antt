@@ -1,0 +1,3 @@
+-- Chains, and the answers that they end in.
+pub mod Finished
+pub mod Follows

@@ -1,0 +1,8 @@
+-- What the keys of a zone tell of its names.
+pub mod Beside
+pub mod Cuts
+pub mod Nodes
+pub mod Outcomes
+pub mod Owners
+pub mod Unique
+pub mod Wild

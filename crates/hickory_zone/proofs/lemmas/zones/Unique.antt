@@ -1,0 +1,46 @@
+-- A zone gives a name and a type at most one answer.
+use Rattle.std.proofs.Common.{◌≡◌, ℕ, suc, Some, inl, inr, refl, sym, ap, ◌∙◌, arith}
+use Rattle.std.proofs.lemmas.Bool.{cases_lt}
+use Rattle.hickory_wire.specs.rr.domain.DomainName.{DomainName}
+use Rattle.hickory_zone.proofs.lemmas.zones.Outcomes.{closest_once}
+use Rattle.hickory_zone.specs.Zones.{Answers, Delegates, Outcome, Records, Zone, ancestor, at_cut, at_node, delegated, denied, matched, referral, rrset, synthesized, wild, wildcard}
+
+module _ (zone : Zone) (name : DomainName) (t : ℕ) where
+  cut_once : (j k : ℕ) → Delegates zone name j → Delegates zone name k → j ≡ k
+  cut_once j k a b = elim (cases_lt j k) [
+    | inl less ↦ absurd (a.highest k less b.cut)
+    | inr more ↦ elim (cases_lt k j) [ inl greater ↦ absurd (b.highest j greater a.cut) | inr same ↦ omega arith ]
+  ]
+
+  same_servers : (j k : ℕ) (rs qs : Records) → j ≡ k → rrset zone.sets (ancestor name j) 2 ≡ Some rs → rrset zone.sets (ancestor name k) 2 ≡ Some qs → rs ≡ qs
+  same_servers j k rs qs e a b = let f : Some rs ≡ Some qs = sym a ∙ ap (λ n. rrset zone.sets (ancestor name n) 2) e ∙ b in cc
+
+  same_source : (j k : ℕ) → suc j ≡ suc k → synthesized name (at_node zone.sets (wildcard (ancestor name (suc j))) t) ≡ synthesized name (at_node zone.sets (wildcard (ancestor name (suc k))) t)
+  same_source j k e = ap (λ n. synthesized name (at_node zone.sets (wildcard (ancestor name n)) t)) e
+
+  pub once : (one other : Outcome) → Answers zone name t one → Answers zone name t other → one ≡ other
+  once one other (delegated {k = j} {servers = rs} d p s) (delegated {k = k} {servers = qs} e q r) = ap referral (same_servers j k rs qs (cut_once j k d e) s r)
+  once one other (delegated {k = j} d p s) (at_cut e ds) = absurd (p (cut_once j 0 d e) ds)
+  once one other (delegated {k = j} d p s) (matched auth x) = absurd (auth j d.cut)
+  once one other (delegated {k = j} d p s) (wild auth c w) = absurd (auth j d.cut)
+  once one other (delegated {k = j} d p s) (denied auth n w) = absurd (auth j d.cut)
+  once one other (at_cut d ds) (delegated {k = k} e q r) = absurd (q (cut_once k 0 e d) ds)
+  once one other (at_cut d ds) (at_cut e fs) = refl
+  once one other (at_cut d ds) (matched auth x) = absurd (auth 0 d.cut)
+  once one other (at_cut d ds) (wild auth c w) = absurd (auth 0 d.cut)
+  once one other (at_cut d ds) (denied auth n w) = absurd (auth 0 d.cut)
+  once one other (matched auth x) (delegated {k = k} e q r) = absurd (auth k e.cut)
+  once one other (matched auth x) (at_cut e fs) = absurd (auth 0 e.cut)
+  once one other (matched auth x) (matched uth y) = refl
+  once one other (matched auth x) (wild uth c w) = absurd (c.longest 0 (omega arith) x)
+  once one other (matched auth x) (denied uth n w) = absurd (n x)
+  once one other (wild auth c w) (delegated {k = k} e q r) = absurd (auth k e.cut)
+  once one other (wild auth c w) (at_cut e fs) = absurd (auth 0 e.cut)
+  once one other (wild auth c w) (matched uth y) = absurd (c.longest 0 (omega arith) y)
+  once one other (wild {k = j} auth c w) (wild {k = k} uth d v) = same_source j k (closest_once zone.sets name (suc j) (suc k) c d)
+  once one other (wild {k = j} auth c w) (denied uth n v) = absurd (v (suc j) c w)
+  once one other (denied auth n w) (delegated {k = k} e q r) = absurd (auth k e.cut)
+  once one other (denied auth n w) (at_cut e fs) = absurd (auth 0 e.cut)
+  once one other (denied auth n w) (matched uth y) = absurd (n y)
+  once one other (denied auth n w) (wild {k = k} uth d v) = absurd (w (suc k) d v)
+  once one other (denied auth n w) (denied uth m v) = refl

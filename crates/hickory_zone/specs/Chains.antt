@@ -1,0 +1,43 @@
+-- Answers with CNAMEs followed (RFC 1034 sections 3.6.2 and 4.3.2, step 3a).
+use Rattle.std.specs.Prelude.{◌≡◌, ℕ, zero, suc, true, [], ◌∷◌, ◌++◌, Option, Some, None}
+use Rattle.std.specs.Option.{IsSomeAnd}
+use Rattle.hickory_wire.specs.rr.domain.DomainName.{DomainName}
+use Rattle.hickory_wire.specs.rr.domain.NameOrder.{Encloses, lower_name}
+use Rattle.hickory_wire.specs.declared.rr.rdata.RData.{RData}
+use Rattle.hickory_wire.specs.declared.rr.rdata.RData.TheVariants as rdata
+use Rattle.hickory_zone.specs.Zones.{Answers, Records, Zone, answer, alias, referral, no_data, no_name}
+
+-- the name that data of a CNAME give
+abbrev pub canonical_in : RData → Option DomainName
+canonical_in (rdata.CNAME name) = Some name
+canonical_in other = None
+
+-- the canonical name that an RRset of CNAME records gives; it has one record (RFC 2181 section 10.1)
+abbrev pub canonical : Records → Option DomainName
+canonical [] = None
+canonical (r ∷ rs) = canonical_in r.rdata
+
+-- The name is one of the zone's: at its apex or below it, and fully qualified.
+pub record IsIn (zone : Zone) (name : DomainName) : Type 0 where
+  pub qualified : name.is_fqdn ≡ true
+  pub within : Encloses zone.origin.labels name.labels
+
+-- How the chain of a name ends: the records asked for stand last; at the servers of a zone below; at a name without such records; at one that does not exist; outside
+-- of the zone, or where no more is followed.
+pub data Ending : Type 0 where
+  answered : Ending
+  referred : Records → Ending
+  without : Ending
+  missing : Ending
+  left_open : Ending
+
+-- The records of the answer section for a name and a type, with at most so many CNAMEs followed, and how they end.
+pub data Chases (zone : Zone) (t : ℕ) : ℕ → DomainName → Records → Ending → Type 0 where
+  found : {left : ℕ} {name : DomainName} {rs : Records} → Answers zone name t (answer rs) → Chases zone t left name rs answered
+  refers : {left : ℕ} {name : DomainName} {servers : Records} → Answers zone name t (referral servers) → Chases zone t left name [] (referred servers)
+  has_none : {left : ℕ} {name : DomainName} → Answers zone name t no_data → Chases zone t left name [] without
+  is_none : {left : ℕ} {name : DomainName} → Answers zone name t no_name → Chases zone t left name [] missing
+  follows : {left : ℕ} {name target : DomainName} {cname rest : Records} {ending : Ending} → Answers zone name t (alias cname) → canonical cname ≡ Some target → IsIn zone target
+      → Chases zone t left (lower_name target) rest ending → Chases zone t (suc left) name (cname ++ rest) ending
+  leaves : {left : ℕ} {name : DomainName} {cname : Records} → Answers zone name t (alias cname) → ¬ (IsSomeAnd (canonical cname) (IsIn zone)) → Chases zone t left name cname left_open
+  stops : {name : DomainName} {cname : Records} → Answers zone name t (alias cname) → Chases zone t zero name cname left_open

@@ -1,0 +1,167 @@
+//! CNAMEs that are followed.
+
+ghost use Rattle.std.specs.Prelude.{◌≡◌, ◌≢◌, ◌++◌, OnOk, IfOk, MatchOption, Some, true};
+ghost use Rattle.std.specs.Option.{IsSomeAnd};
+ghost use Rattle.hickory_base.specs.zone_store.ZoneSets.{sets_of};
+ghost use Rattle.hickory_wire.specs.rr.domain.NameOrder.{Encloses, lower_name};
+ghost use Rattle.hickory_zone.specs.Zones.{AreOwners, Sets, owned_by};
+ghost use Rattle.hickory_wire.specs.rr.domain.DomainName.{DomainName};
+ghost use Rattle.hickory_zone.specs.Chains.{IsIn, canonical};
+ghost use Rattle.hickory_zone.specs.ChainEnds.{Chased, Linked, ending_of};
+
+use crate::find::{Found, look_up};
+use hickory_base::zone_store::RecordSet;
+use hickory_wire::{LowerName, Name, RData, Record, RecordType, RrKey};
+use std::alloc::{AllocError, Global};
+use std::collections::BTreeMap;
+use std::rc::Rc;
+
+/// Puts copies of the records last. Where memory is refused, those of a front of them may have been put.
+pub(crate) fn append_copies(all: &mut Vec<Record>, records: &[Record]) -> Result<(), AllocError>
+    ensures { OnOk result (all.new.items ≡ all.old.items ++ records.now) }
+{
+    for q in records {
+        all.push(q.clone()?)?;
+    }
+    Ok(())
+}
+
+/// A copy of a record, owned by another name.
+fn owned_copy(q: &Record, owner: &Name) -> Result<Record, AllocError>
+    ensures { IfOk result (λ copy. copy ≡ record q.now { name = owner.now }) }
+{
+    let mut copy = q.clone()?;
+    copy.name = owner.clone()?;
+    Ok(copy)
+}
+
+/// Puts copies of the records last, owned by another name. Where memory is refused, those of a front of them may have been put.
+fn append_owned(all: &mut Vec<Record>, owner: &Name, records: &[Record]) -> Result<(), AllocError>
+    ensures { OnOk result (all.new.items ≡ all.old.items ++ owned_by owner.now records.now) }
+{
+    for q in records {
+        all.push(owned_copy(q, owner)?)?;
+    }
+    Ok(())
+}
+
+/// How the chain of CNAMEs of a name ends.
+#[derive(Clone, Copy)]
+pub enum ChainEnd<'z> {
+    /// The records asked for stand last.
+    Answered,
+    /// At the servers of a zone below.
+    Referred(&'z [Record]),
+    /// At a name without such records.
+    Without,
+    /// At a name that does not exist.
+    Missing,
+    /// Outside of the zone, or where no more is followed.
+    LeftOpen,
+}
+
+/// One link of a chain.
+#[derive(Clone, Copy)]
+pub(crate) enum Link<'z> {
+    /// It is the last.
+    End(ChainEnd<'z>),
+    /// These records, or those of a wildcard, lead on.
+    Alias(&'z [Record]),
+}
+
+/// Puts what the zone has for one name last.
+fn append_link<'z>(
+    alloc: Global,
+    origin: &LowerName,
+    sets: &'z BTreeMap<RrKey, Rc<RecordSet>>,
+    first: &RrKey,
+    record_type: RecordType,
+    answers: &mut Vec<Record>,
+) -> Result<Link<'z>, AllocError>
+    requires least { first.now.record_type ≡ 0 }
+    requires qualified { first.now.name.is_fqdn ≡ true }
+    requires owners { AreOwners origin.now (sets_of sets.now) }
+    requires within { Encloses origin.now.labels first.now.name.labels }
+    requires one_type { record_type ≢ 255 }
+    ensures { IfOk result (Linked (record { origin = origin.now; sets = sets_of sets.now }) record_type first.now.name answers.old.items answers.new.items) }
+{
+    match look_up(alloc, origin, sets, first, record_type)? {
+        Found::Answer(records) => {
+            append_copies(answers, records)?;
+            Ok(Link::End(ChainEnd::Answered))
+        }
+        Found::WildAnswer(records) => {
+            append_owned(answers, first.name.as_name(), records)?;
+            Ok(Link::End(ChainEnd::Answered))
+        }
+        Found::Alias(records) => {
+            append_copies(answers, records)?;
+            Ok(Link::Alias(records))
+        }
+        Found::WildAlias(records) => {
+            append_owned(answers, first.name.as_name(), records)?;
+            Ok(Link::Alias(records))
+        }
+        Found::Referral(servers) => Ok(Link::End(ChainEnd::Referred(servers))),
+        Found::NoData => Ok(Link::End(ChainEnd::Without)),
+        Found::NoName => Ok(Link::End(ChainEnd::Missing)),
+    }
+}
+
+/// The canonical name of CNAME records, if the zone of this origin has it.
+fn canonical_within(
+    alloc: Global,
+    origin: &LowerName,
+    cname: &[Record],
+) -> Result<Option<LowerName>, AllocError>
+    ensures { IfOk result (λ found. MatchOption found
+        ((sets : Sets) → ¬ (IsSomeAnd (canonical cname.now) (IsIn (record { origin = origin.now; sets = sets }))))
+        (λ name. (target : DomainName) × (canonical cname.now ≡ Some target) × (name ≡ lower_name target) × (target.is_fqdn ≡ true) × Encloses origin.now.labels name.labels)) }
+{
+    let Some(
+        Record {
+            rdata: RData::CNAME(target),
+            ..
+        },
+    ) = cname.first()
+    else {
+        return Ok(None);
+    };
+    let name = LowerName::new(alloc, target)?;
+    if target.is_fqdn() && origin.zone_of(&name) {
+        Ok(Some(name))
+    } else {
+        Ok(None)
+    }
+}
+
+/// Puts the records of the answer section for a name in the zone last, with at most so many CNAMEs followed.
+pub fn follow<'z>(
+    alloc: Global,
+    origin: &LowerName,
+    sets: &'z BTreeMap<RrKey, Rc<RecordSet>>,
+    first: &RrKey,
+    record_type: RecordType,
+    left: u8,
+    answers: &mut Vec<Record>,
+) -> Result<ChainEnd<'z>, AllocError>
+    requires least { first.now.record_type ≡ 0 }
+    requires qualified { first.now.name.is_fqdn ≡ true }
+    requires owners { AreOwners origin.now (sets_of sets.now) }
+    requires within { Encloses origin.now.labels first.now.name.labels }
+    requires one_type { record_type ≢ 255 }
+    ensures { IfOk result (λ end. Chased (record { origin = origin.now; sets = sets_of sets.now }) record_type left first.now.name answers.old.items answers.new.items (ending_of end)) }
+{
+    let cname = match append_link(alloc, origin, sets, first, record_type, answers)? {
+        Link::End(end) => return Ok(end),
+        Link::Alias(cname) => cname,
+    };
+    if left == 0 {
+        return Ok(ChainEnd::LeftOpen);
+    }
+    let Some(name) = canonical_within(alloc, origin, cname)? else {
+        return Ok(ChainEnd::LeftOpen);
+    };
+    let next = RrKey::new(name, RecordType::new(0));
+    follow(alloc, origin, sets, &next, record_type, left - 1, answers)
+}

@@ -1,0 +1,385 @@
+//! How the names of a zone are found.
+
+ghost use Rattle.std.specs.Prelude.{◌≡◌, ◌≢◌, ◌↔◌, ◌⊎◌, ℕ, IfOk, MatchOption, IsTrue, true, false, cond, Some, None};
+ghost use Rattle.std.specs.Bool.{OnTrue};
+ghost use Rattle.std.specs.Option.{option_copied};
+ghost use Rattle.hickory_base.specs.zone_store.ZoneSets.{sets_of};
+ghost use Rattle.hickory_zone.specs.Zones.{AreOwners, Answers, Exists, Sets, ancestor, Zone, of_sets, rrset, synthesized};
+ghost use Rattle.hickory_zone.specs.FoundRecords.{first_or};
+ghost use Rattle.hickory_zone.specs.KeysBeside.{StandsBehind};
+ghost use Rattle.std.specs.Option.{unwrap_or};
+ghost use Rattle.hickory_wire.specs.rr.domain.DomainName.{DomainName};
+ghost use Rattle.hickory_zone.specs.FoundRecords.{CutAt, WildFound, outcome_of, IsAbove, IsEncloser, Tells};
+ghost use Rattle.hickory_wire.specs.rr.domain.NameOrder.{Encloses};
+
+use crate::wildcards::wildcard_below;
+use hickory_base::zone_store::RecordSet;
+use hickory_wire::{LowerName, Record, RecordType, RrKey};
+use std::alloc::{AllocError, Global};
+use std::collections::BTreeMap;
+use std::rc::Rc;
+
+/// What a name owns that matters to a query.
+#[derive(Clone, Copy)]
+pub(crate) struct Node<'z> {
+    /// The RRset of the type asked for.
+    pub(crate) wanted: Option<&'z [Record]>,
+    /// The RRset of type CNAME.
+    pub(crate) alias: Option<&'z [Record]>,
+    /// The RRset of type NS.
+    pub(crate) servers: Option<&'z [Record]>,
+    /// The first key from the name's first on.
+    pub(crate) behind: Option<&'z RrKey>,
+}
+
+/// The key that was found before, or else this one.
+fn first_key<'z>(found: Option<&'z RrKey>, key: &'z RrKey) -> Option<&'z RrKey>
+    ensures { option_copied result ≡ Some (unwrap_or (option_copied found.entry) key.now) }
+{
+    match found {
+        Some(first) => Some(first),
+        None => Some(key),
+    }
+}
+
+/// The RRset that was found before, or else these records, if they are of the type.
+fn first_or<'z>(
+    found: Option<&'z [Record]>,
+    is_type: bool,
+    records: &'z [Record],
+) -> Option<&'z [Record]>
+    ensures { option_copied result ≡ first_or (option_copied found.entry) (cond is_type (Some records.now) None) }
+{
+    match found {
+        Some(first) => Some(first),
+        None => { if is_type { Some(records) } else { None } }
+    }
+}
+
+/// What the key's name owns. No type is below that of the key.
+fn node_at<'z>(
+    sets: &'z BTreeMap<RrKey, Rc<RecordSet>>,
+    first: &RrKey,
+    record_type: RecordType,
+) -> Node<'z>
+    requires { first.now.record_type ≡ 0 }
+    ensures wanted { option_copied result.wanted ≡ rrset (sets_of sets.now) first.now.name record_type }
+    ensures alias { option_copied result.alias ≡ rrset (sets_of sets.now) first.now.name 5 }
+    ensures servers { option_copied result.servers ≡ rrset (sets_of sets.now) first.now.name 2 }
+    ensures behind { StandsBehind sets.now first.now (option_copied result.behind) }
+{
+    let mut wanted = None;
+    let mut alias = None;
+    let mut servers = None;
+    let mut behind = None;
+    for (key, set) in sets.range(first..) {
+        behind = first_key(behind, key);
+        if first.name != key.name {
+            break;
+        }
+        let records = set.records();
+        wanted = first_or(wanted, record_type == key.record_type, records);
+        alias = first_or(alias, RecordType::CNAME == key.record_type, records);
+        servers = first_or(servers, RecordType::NS == key.record_type, records);
+    }
+    Node {
+        wanted,
+        alias,
+        servers,
+        behind,
+    }
+}
+
+/// The keys on both sides of a name, in their order.
+#[derive(Clone, Copy)]
+pub(crate) struct Neighbours<'z> {
+    /// The last key before the name's first.
+    pub(crate) before: Option<&'z RrKey>,
+    /// The first key from the name's first on.
+    pub(crate) behind: Option<&'z RrKey>,
+}
+
+/// The keys beside the key's name, of which the one behind it is known. No type is below that of the key.
+fn beside<'z>(
+    sets: &'z BTreeMap<RrKey, Rc<RecordSet>>,
+    first: &RrKey,
+    behind: Option<&'z RrKey>,
+) -> Neighbours<'z>
+    requires least { first.now.record_type ≡ 0 }
+    requires qualified { first.now.name.is_fqdn ≡ true }
+    requires behind { StandsBehind sets.now first.now (option_copied behind) }
+    ensures { (origin : DomainName) → AreOwners origin (sets_of sets.now) → Tells (sets_of sets.now) first.now.name result }
+{
+    let before = match sets.range(..first).next_back() {
+        Some((key, _)) => Some(key),
+        None => None,
+    };
+    Neighbours { before, behind }
+}
+
+/// Whether there is a key, and its name is the name or below it.
+fn is_above(name: &LowerName, key: Option<&RrKey>) -> bool
+    ensures { IsTrue result ↔ IsAbove name.now (option_copied key.entry) }
+{
+    match key {
+        Some(key) => name.zone_of(&key.name),
+        None => false,
+    }
+}
+
+/// Takes labels off the name's front until it exists, as the keys beside it tell. Returns whether it does in the end.
+fn keep_closest_encloser(beside: Neighbours<'_>, name: &mut LowerName) -> bool
+    requires { name.old.is_fqdn ≡ true }
+    ensures found { (sets : Sets) → Tells sets name.old beside.entry → OnTrue result (IsEncloser sets name.old name.new) }
+    ensures none { (sets : Sets) → Tells sets name.old beside.entry → result ≡ false → (k : ℕ) → ¬ (Exists sets (ancestor name.old k)) }
+{
+    while !is_above(name, beside.before) && !is_above(name, beside.behind) {
+        if name.as_name().is_root() {
+            return false;
+        }
+        name.remove_first_label();
+    }
+    true
+}
+
+/// The closest encloser of the key's name, which is the name itself where that exists, with the key behind the name known. There is
+/// none where no name above exists.
+fn closest_encloser<'z>(
+    sets: &'z BTreeMap<RrKey, Rc<RecordSet>>,
+    first: &RrKey,
+    behind: Option<&'z RrKey>,
+) -> Result<Option<LowerName>, AllocError>
+    requires least { first.now.record_type ≡ 0 }
+    requires qualified { first.now.name.is_fqdn ≡ true }
+    requires behind { StandsBehind sets.now first.now (option_copied behind) }
+    ensures { (origin : DomainName) → AreOwners origin (sets_of sets.now) → IfOk result
+        (λ found. MatchOption found ((k : ℕ) → ¬ (Exists (sets_of sets.now) (ancestor first.now.name k))) (IsEncloser (sets_of sets.now) first.now.name)) }
+{
+    let mut name = first.name.clone()?;
+    if keep_closest_encloser(beside(sets, first, behind), &mut name) {
+        Ok(Some(name))
+    } else {
+        Ok(None)
+    }
+}
+
+/// The RRset under a key.
+pub(crate) fn set_under<'z>(
+    sets: &'z BTreeMap<RrKey, Rc<RecordSet>>,
+    key: &RrKey,
+) -> Option<&'z [Record]>
+    ensures { option_copied result ≡ rrset (sets_of sets.now) key.now.name key.now.record_type }
+{
+    match sets.get(key) {
+        None => None,
+        Some(set) => Some(set.records()),
+    }
+}
+
+/// Where the authority of a zone ends.
+#[derive(Clone, Copy)]
+pub(crate) struct Delegation<'z> {
+    /// The NS records of the cut.
+    pub(crate) servers: &'z [Record],
+    /// Whether the name itself is cut off, and not one above it.
+    pub(crate) is_at_name: bool,
+}
+
+/// Where the authority of the zone ends above a name in it or at it, if it does.
+fn highest_cut<'z>(
+    sets: &'z BTreeMap<RrKey, Rc<RecordSet>>,
+    origin: &LowerName,
+    name: LowerName,
+) -> Option<Delegation<'z>>
+    requires { Encloses origin.now.labels name.labels }
+    ensures { CutAt (record { origin = origin.now; sets = sets_of sets.now }) name result }
+{
+    let mut key = RrKey::new(name, RecordType::NS);
+    let mut highest = None;
+    let mut is_at_name = true;
+    while !key.name.zone_of(origin) {
+        if let Some(servers) = set_under(sets, &key) {
+            highest = Some(Delegation {
+                servers,
+                is_at_name,
+            });
+        }
+        is_at_name = false;
+        key.name.remove_first_label();
+    }
+    highest
+}
+
+/// The same of a name whose NS records are known.
+fn cut_at<'z>(
+    sets: &'z BTreeMap<RrKey, Rc<RecordSet>>,
+    origin: &LowerName,
+    name: &LowerName,
+    servers: Option<&'z [Record]>,
+) -> Result<Option<Delegation<'z>>, AllocError>
+    requires within { Encloses origin.now.labels name.now.labels }
+    requires servers { option_copied servers ≡ rrset (sets_of sets.now) name.now 2 }
+    ensures { IfOk result (CutAt (record { origin = origin.now; sets = sets_of sets.now }) name.now) }
+{
+    if name.zone_of(origin) {
+        return Ok(None);
+    }
+    let mut parent = name.clone()?;
+    parent.remove_first_label();
+    if let Some(cut) = highest_cut(sets, origin, parent) {
+        return Ok(Some(Delegation {
+            servers: cut.servers,
+            is_at_name: false,
+        }));
+    }
+    match servers {
+        Some(servers) => Ok(Some(Delegation {
+            servers,
+            is_at_name: true,
+        })),
+        None => Ok(None),
+    }
+}
+
+/// What a zone has for a name and a type, where it lies.
+#[derive(Clone, Copy)]
+pub enum Found<'z> {
+    /// The records asked for.
+    Answer(&'z [Record]),
+    /// The CNAME of the name.
+    Alias(&'z [Record]),
+    /// The servers of a zone below.
+    Referral(&'z [Record]),
+    /// Records of a wildcard, which the name asked for is to own.
+    WildAnswer(&'z [Record]),
+    /// The CNAME of a wildcard, which the name asked for is to own.
+    WildAlias(&'z [Record]),
+    /// The name exists, and has no such records.
+    NoData,
+    /// The name does not exist.
+    NoName,
+}
+
+/// What is found at a name that owns this.
+fn found_at(node: Node<'_>) -> Found<'_>
+    ensures { (name : DomainName) → outcome_of name result ≡ of_sets (option_copied node.entry.wanted) (option_copied node.entry.alias) }
+{
+    match node.wanted {
+        Some(records) => Found::Answer(records),
+        None => match node.alias {
+            Some(records) => Found::Alias(records),
+            None => Found::NoData,
+        },
+    }
+}
+
+/// What is found at a name for which a wildcard stands that owns this.
+fn found_wild(node: Node<'_>) -> Found<'_>
+    ensures { (name : DomainName) → outcome_of name result ≡ synthesized name (of_sets (option_copied node.entry.wanted) (option_copied node.entry.alias)) }
+{
+    match node.wanted {
+        Some(records) => Found::WildAnswer(records),
+        None => match node.alias {
+            Some(records) => Found::WildAlias(records),
+            None => Found::NoData,
+        },
+    }
+}
+
+/// Whether records of the type stand at the cut itself, on the side of the zone above (RFC 4035 section 3.1.4.1).
+fn stands_above(cut: Delegation<'_>, record_type: RecordType) -> bool
+    ensures { IsTrue result ↔ (IsTrue cut.entry.is_at_name × (record_type ≡ 43)) }
+{
+    cut.is_at_name && record_type == RecordType::DS
+}
+
+/// What is found at a name that exists.
+fn find_existing<'z>(
+    node: Node<'z>,
+    record_type: RecordType,
+    cut: Option<Delegation<'z>>,
+) -> Found<'z>
+    requires { record_type ≢ 255 }
+    ensures { (zone : Zone) (name : DomainName) → CutAt zone name cut.entry → Exists zone.sets name
+        → option_copied node.entry.wanted ≡ rrset zone.sets name record_type → option_copied node.entry.alias ≡ rrset zone.sets name 5 → Answers zone name record_type (outcome_of name result) }
+{
+    if let Some(cut) = cut {
+        if !stands_above(cut, record_type) {
+            return Found::Referral(cut.servers);
+        }
+    }
+    found_at(node)
+}
+
+/// What is found where a name does not exist, below its closest encloser.
+fn find_wild<'z>(
+    alloc: Global,
+    sets: &'z BTreeMap<RrKey, Rc<RecordSet>>,
+    encloser: &LowerName,
+    record_type: RecordType,
+) -> Result<Found<'z>, AllocError>
+    requires { encloser.now.is_fqdn ≡ true }
+    ensures { (origin : DomainName) → AreOwners origin (sets_of sets.now) → IfOk result (WildFound (sets_of sets.now) encloser.now record_type) }
+{
+    let Some(source) = wildcard_below(alloc, encloser)? else {
+        return Ok(Found::NoName);
+    };
+    let first = RrKey::new(source, RecordType::new(0));
+    let node = node_at(sets, &first, record_type);
+    if is_above(&first.name, node.behind) {
+        Ok(found_wild(node))
+    } else {
+        Ok(Found::NoName)
+    }
+}
+
+/// What the zone has for a name in it that does not exist.
+fn look_above<'z>(
+    alloc: Global,
+    origin: &LowerName,
+    sets: &'z BTreeMap<RrKey, Rc<RecordSet>>,
+    first: &RrKey,
+    record_type: RecordType,
+    behind: Option<&'z RrKey>,
+) -> Result<Found<'z>, AllocError>
+    requires least { first.now.record_type ≡ 0 }
+    requires qualified { first.now.name.is_fqdn ≡ true }
+    requires owners { AreOwners origin.now (sets_of sets.now) }
+    requires within { Encloses origin.now.labels first.now.name.labels }
+    requires one_type { record_type ≢ 255 }
+    requires behind { StandsBehind sets.now first.now (option_copied behind) }
+    requires missing { ¬ (Exists (sets_of sets.now) first.now.name) }
+    ensures { IfOk result (λ found. Answers (record { origin = origin.now; sets = sets_of sets.now }) first.now.name record_type (outcome_of first.now.name found)) }
+{
+    let Some(encloser) = closest_encloser(sets, first, behind)? else {
+        return Ok(Found::NoName);
+    };
+    if let Some(cut) = highest_cut(sets, origin, encloser.clone()?) {
+        return Ok(Found::Referral(cut.servers));
+    }
+    find_wild(alloc, sets, &encloser, record_type)
+}
+
+/// What the zone of this origin has for a name in it and a type (RFC 1034 section 4.3.2). No type is below that of the key.
+pub fn look_up<'z>(
+    alloc: Global,
+    origin: &LowerName,
+    sets: &'z BTreeMap<RrKey, Rc<RecordSet>>,
+    first: &RrKey,
+    record_type: RecordType,
+) -> Result<Found<'z>, AllocError>
+    requires least { first.now.record_type ≡ 0 }
+    requires qualified { first.now.name.is_fqdn ≡ true }
+    requires owners { AreOwners origin.now (sets_of sets.now) }
+    requires within { Encloses origin.now.labels first.now.name.labels }
+    requires one_type { record_type ≢ 255 }
+    ensures { IfOk result (λ found. Answers (record { origin = origin.now; sets = sets_of sets.now }) first.now.name record_type (outcome_of first.now.name found)) }
+{
+    let node = node_at(sets, first, record_type);
+    if is_above(&first.name, node.behind) {
+        let cut = cut_at(sets, origin, &first.name, node.servers)?;
+        Ok(find_existing(node, record_type, cut))
+    } else {
+        look_above(alloc, origin, sets, first, record_type, node.behind)
+    }
+}
