@@ -1,5 +1,6 @@
 -- The records of a zone, what is asked of it, and what it answers.
 pub mod Denials
+pub mod Eithers
 pub mod Lookups
 pub mod RecordSets
 pub mod ZoneAnswers

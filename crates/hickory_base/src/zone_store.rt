@@ -3,12 +3,15 @@
 mod boxed;
 mod conditions;
 mod copies;
+mod eithers;
 mod find;
 mod handler;
 mod in_memory;
 mod lookup;
 mod record_set;
+mod shared;
 
+pub use either::Either;
 pub use handler::{AxfrPolicy, Nsec3QueryInfo, NxProofKind, ZoneHandler, ZoneType};
 pub use in_memory::InMemoryZoneHandler;
 pub use lookup::{
