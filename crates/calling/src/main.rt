@@ -1,0 +1,168 @@
+//! Callers of the library, one module for each thing that a program does with it. The program runs each and prints what came of it;
+//! `docs/CALLING.md` quotes them.
+#![tactic(auto)]
+
+mod fault;
+mod keys;
+mod parked;
+mod serving;
+mod silent;
+mod sizes;
+mod updating;
+mod zone_file;
+
+use crate::fault::Fault;
+use crate::keys::NoKeys;
+use crate::parked::Parked;
+use crate::serving::serve_zone;
+use crate::silent::Silent;
+use crate::sizes::Sizes;
+use crate::updating::change;
+use crate::zone_file::read_zone;
+use hickory_server::proto::{BinDecoder, Header, Items, LowerName, Name, Octets, Protocol};
+use hickory_server::server::serve::{Incoming, Outcome};
+use hickory_server::server::{Request, RequestHandler};
+use hickory_server::store::sqlite::SqliteZoneHandler;
+use hickory_server::zone_handler::{AxfrPolicy, Catalog};
+use hickory_server::zone_text::read_zone_file;
+use std::alloc::Global;
+use std::net::{IpAddr, Ipv4Addr, SocketAddr};
+use std::process::ExitCode;
+
+/// A zone file.
+const ZONE: &str = "\
+$TTL 3600
+@    SOA ns admin 7 3600 1800 604800 86400
+     NS  ns
+ns   A   192.0.2.2
+www  A   192.0.2.1
+";
+
+/// A query for the address of www.example.com.
+const QUERY: [u8; 33] =
+    *b"\x12\x34\x01\x00\x00\x01\x00\x00\x00\x00\x00\x00\x03www\x07example\x03com\x00\x00\x01\x00\x01";
+
+/// The address that messages come from.
+fn source() -> SocketAddr {
+    SocketAddr::new(IpAddr::V4(Ipv4Addr::LOCALHOST), 53)
+}
+
+/// The query as it comes over UDP.
+fn query(alloc: Global) -> Result<Incoming, Fault> {
+    Ok(Incoming {
+        bytes: QUERY.to_vec(alloc)?,
+        src: source(),
+        protocol: Protocol::Udp,
+        now: 0,
+    })
+}
+
+/// The name that all samples serve.
+fn origin(alloc: Global) -> Result<Name, Fault> {
+    Ok(Name::from_ascii(alloc, "example.com.")?)
+}
+
+/// What a zone file's zone answers to the query.
+fn of_zone_file(alloc: Global) -> Result<Outcome, Fault> {
+    let origin = origin(alloc)?;
+    let zone = read_zone(alloc, &origin, ZONE)?;
+    serve_zone(alloc, LowerName::new(alloc, &origin)?, zone, query(alloc)?)
+}
+
+/// What a parked zone answers to the query.
+fn of_parked(alloc: Global) -> Result<Outcome, Fault> {
+    let origin = origin(alloc)?;
+    let zone = Parked {
+        origin: LowerName::new(alloc, &origin)?,
+        address: Ipv4Addr::new(192, 0, 2, 80),
+    };
+    serve_zone(alloc, LowerName::new(alloc, &origin)?, zone, query(alloc)?)
+}
+
+/// What a handler without an answer leads to.
+fn of_silent(alloc: Global) -> Result<Outcome, Fault> {
+    let origin = origin(alloc)?;
+    let zone = Silent {
+        origin: LowerName::new(alloc, &origin)?,
+    };
+    serve_zone(alloc, LowerName::new(alloc, &origin)?, zone, query(alloc)?)
+}
+
+/// What a reply says in its header.
+fn header(reply: &Octets) -> Option<Header> {
+    BinDecoder::new(reply.as_slice()).read_header().ok()
+}
+
+/// A line for what became of a message: the code, the number of answers and the size of its first reply.
+fn line(alloc: Global, name: &str, outcome: &Outcome) -> Result<String, Fault> {
+    let Outcome::Replies(replies) = outcome else {
+        return Ok(format!(in alloc; "{name}: no reply")?);
+    };
+    let Some(reply) = replies.as_slice().first() else {
+        return Ok(format!(in alloc; "{name}: no reply")?);
+    };
+    let Some(header) = header(reply) else {
+        return Ok(format!(in alloc; "{name}: no header")?);
+    };
+    let code = header.metadata.response_code;
+    let answers = header.counts.answers;
+    let size = reply.len();
+    Ok(format!(in alloc; "{name}: {code}, {answers} answers, {size} bytes")?)
+}
+
+/// The sizes of the replies of a server without zones.
+fn reply_sizes(alloc: Global) -> Result<Items<usize>, Fault> {
+    let mut catalog: Catalog<NoKeys, Silent> = Catalog::new(alloc, NoKeys);
+    let mut sink = Sizes {
+        sizes: Items::new(alloc),
+        failures: 0,
+    };
+    let bytes = QUERY.to_vec(alloc)?;
+    let Ok(request) = Request::from_bytes(alloc, bytes, source(), Protocol::Tcp) else {
+        return Err(Fault::Memory);
+    };
+    match catalog.handle_request(alloc, &request, 0, &mut sink) {
+        Ok(_) => Ok(sink.sizes),
+        Err(_) => Err(Fault::Memory),
+    }
+}
+
+/// The zone of the file, as one that can be changed.
+fn updatable(alloc: Global, origin: &Name) -> Result<SqliteZoneHandler<NoKeys>, Fault> {
+    let zone = read_zone(alloc, origin, ZONE)?;
+    Ok(SqliteZoneHandler::new(zone, AxfrPolicy::Deny, false, NoKeys))
+}
+
+/// The serial after an address was added to the zone of the file.
+fn changed(alloc: Global) -> Result<u32, Fault> {
+    let origin = origin(alloc)?;
+    let added = read_zone_file(alloc, "new 60 A 192.0.2.7", &origin)?;
+    let mut zone = updatable(alloc, &origin)?;
+    match change(alloc, &mut zone, added.as_slice()) {
+        Ok(_) => Ok(zone.in_memory().serial()),
+        Err(_) => Err(Fault::Memory),
+    }
+}
+
+/// All lines.
+fn lines(alloc: Global) -> Result<String, Fault> {
+    let zone_file = line(alloc, "zone file", &of_zone_file(alloc)?)?;
+    let parked = line(alloc, "parked", &of_parked(alloc)?)?;
+    let silent = line(alloc, "silent", &of_silent(alloc)?)?;
+    let sizes = reply_sizes(alloc)?;
+    let size = sizes.as_slice().first().copied().unwrap_or(0);
+    let serial = changed(alloc)?;
+    Ok(format!(in alloc; "{zone_file}\n{parked}\n{silent}\nsizes: {size}\nserial: {serial}")?)
+}
+
+fn main(rt: HostRuntime) -> ExitCode {
+    let told = match lines(rt.alloc()) {
+        Ok(lines) => println!(rt; "{lines}"),
+        Err(fault) => eprintln!(rt; "calling: {fault}"),
+    };
+    if told.is_ok() {
+        ExitCode::SUCCESS
+    } else {
+        ExitCode::FAILURE
+    }
+}
