@@ -14,11 +14,12 @@ mod zone_file;
 use crate::fault::Fault;
 use crate::keys::NoKeys;
 use crate::parked::Parked;
-use crate::serving::serve_zone;
+use crate::serving::{serve_datagram, serve_zone};
 use crate::silent::Silent;
 use crate::sizes::Sizes;
 use crate::updating::change;
 use crate::zone_file::read_zone;
+use hickory_server::access::AccessControl;
 use hickory_server::proto::{BinDecoder, Header, Items, LowerName, Name, Octets, Protocol};
 use hickory_server::server::serve::{Incoming, Outcome};
 use hickory_server::server::{Request, RequestHandler};
@@ -67,6 +68,19 @@ fn of_zone_file(alloc: Global) -> Result<Outcome, Fault> {
     let origin = origin(alloc)?;
     let zone = read_zone(alloc, &origin, ZONE)?;
     serve_zone(alloc, LowerName::new(alloc, &origin)?, zone, query(alloc)?)
+}
+
+/// Whether a reply that comes back is dropped by a server without zones.
+fn drops_replies(alloc: Global) -> Result<bool, Fault> {
+    let mut catalog: Catalog<NoKeys, Silent> = Catalog::new(alloc, NoKeys);
+    let mut message = query(alloc)?;
+    if let Some(flags) = message.bytes.get_mut(2) {
+        *flags = 0x81;
+    }
+    let served = serve_datagram(alloc, &AccessControl::new(alloc), &mut catalog, message)?;
+    let is_dropped = served.is_none();
+    drop(served);
+    Ok(is_dropped)
 }
 
 /// What a parked zone answers to the query.
@@ -152,7 +166,10 @@ fn lines(alloc: Global) -> Result<String, Fault> {
     let sizes = reply_sizes(alloc)?;
     let size = sizes.as_slice().first().copied().unwrap_or(0);
     let serial = changed(alloc)?;
-    Ok(format!(in alloc; "{zone_file}\n{parked}\n{silent}\nsizes: {size}\nserial: {serial}")?)
+    let is_dropped = drops_replies(alloc)?;
+    Ok(format!(in alloc;
+        "{zone_file}\n{parked}\n{silent}\nsizes: {size}\nserial: {serial}\ndropped: {is_dropped}"
+    )?)
 }
 
 fn main(rt: HostRuntime) -> ExitCode {

@@ -1,8 +1,8 @@
 //! Serving one message.
 
-ghost use Rattle.std.specs.Prelude.{◌≡◌, IfOk, IfErr};
+ghost use Rattle.std.specs.Prelude.{◌≡◌, IfOk, IfSome, IfNone};
 ghost use Rattle.hickory_catalog.specs.Server.{server_of};
-ghost use Rattle.hickory_server.specs.Serving.{LeavesUnserved, Step};
+ghost use Rattle.hickory_server.specs.Serving.{Step};
 
 use crate::fault::Fault;
 use crate::keys::NoKeys;
@@ -28,15 +28,27 @@ pub fn serve_zone<H: ZoneHandler>(
     Ok(serve(alloc, &AccessControl::new(alloc), &mut catalog, message)?)
 }
 
-/// Serves two messages, the second over the zones as the first left them. Where the first has no outcome the second is not looked at.
-pub fn serve_two<S: ReplySigner, H: ZoneHandler>(
+/// Whether these bytes are a response (RFC 1035 section 4.1.1).
+fn is_response(bytes: &[u8]) -> bool {
+    matches!(bytes.get(2), Some(flags) if *flags >= 0x80)
+}
+
+/// What becomes of a datagram, or nothing where it is a response: two servers that answer responses would answer each other for ever.
+pub fn serve_datagram<S: ReplySigner, H: ZoneHandler>(
     alloc: Global,
     access: &AccessControl,
     catalog: &mut Catalog<S, H>,
-    first: Incoming,
-    second: Incoming,
-) -> Result<(Outcome, Outcome), ServeError> {
-    let one = serve(alloc, access, catalog, first)?;
-    let other = serve(alloc, access, catalog, second)?;
-    Ok((one, other))
+    message: Incoming,
+) -> Result<Option<Outcome>, ServeError>
+    ensures served { IfOk result (λ told. IfSome told (λ outcome.
+        Step access.now (server_of H.ZoneHandler S.signature_for catalog.old) message outcome catalog.new.zones)) }
+    ensures dropped { IfOk result (λ told. IfNone told (catalog.new ≡ catalog.old)) }
+{
+    if is_response(&message.bytes) {
+        return Ok(None);
+    }
+    match serve(alloc, access, catalog, message) {
+        Ok(outcome) => Ok(Some(outcome)),
+        Err(e) => Err(e),
+    }
 }
