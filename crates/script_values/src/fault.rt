@@ -1,6 +1,6 @@
 //! Why a line is not obeyed, or the script ends.
 
-use access::IpNetTextError;
+use access_control::IpNetTextError;
 use hickory_base::errors::CatalogError;
 use hickory_wire::{CodeTextError, DecodeError, NameError, ProtoError};
 use std::alloc::{AllocError, AllocFailed};

@@ -2,7 +2,7 @@
 
 use crate::fault::Fault;
 use crate::output::Output;
-use access::{AccessControl, IpNet};
+use access_control::{AccessControl, IpNet};
 use std::alloc::Global;
 use std::net::IpAddr;
 

@@ -1,6 +1,6 @@
 //! What a script has said of zones and of the server so far.
 
-use access::AccessControl;
+use access_control::AccessControl;
 use hickory_catalog::catalog::Catalog;
 use hickory_wire::LowerName;
 use script_handlers::calls::CallLog;
