@@ -6,7 +6,7 @@ use Rattle.hickory_wire.specs.rr.domain.NameOrder.{lower_name, name_eq}
 use Rattle.hickory_wire.specs.declared.rr.rdata.RData.{RData}
 use Rattle.hickory_wire.specs.declared.rr.rdata.RData.TheVariants as rdata
 use Rattle.hickory_wire.specs.declared.rr.record.Record.{Record}
-use Rattle.hickory_zone.specs.Zones.{Records, Sets, rrset}
+use Rattle.hickory_zone.specs.Zones.{Records, Sets, rrset, type_a, type_aaaa}
 
 -- the host that data name: a server of a zone or a mail exchange
 abbrev pub host_in : RData → Option DomainName
@@ -26,9 +26,9 @@ abbrev pub some_records : Option Records → Records
 some_records None = []
 some_records (Some rs) = rs
 
--- the addresses that the zone has for a host: types A, which is 1, and AAAA, which is 28
+-- the addresses that the zone has for a host
 abbrev pub addresses : Sets → DomainName → Records
-addresses sets host = some_records (rrset sets (lower_name host) 1) ++ some_records (rrset sets (lower_name host) 28)
+addresses sets host = some_records (rrset sets (lower_name host) type_a) ++ some_records (rrset sets (lower_name host) type_aaaa)
 
 -- those of the host that a record names, if none of the records before named it
 abbrev pub first_addresses : Sets → Records → Option DomainName → Records

@@ -4,7 +4,8 @@ use Rattle.std.specs.Option.{IsSomeAnd, option_copied}
 use Rattle.hickory_wire.specs.rr.domain.DomainName.{DomainName}
 use Rattle.hickory_wire.specs.rr.domain.NameOrder.{Encloses}
 use Rattle.hickory_wire.specs.declared.rr.rr_key.RrKey.{RrKey}
-use Rattle.hickory_zone.specs.Zones.{Records, Sets, Zone, Delegates, Exists, HasClosestEncloser, IsAuthoritativeAt, Outcome, answer, alias, referral, no_data, no_name, ancestor, of_sets, owned_by, rrset, synthesized, wildcard}
+use Rattle.hickory_base.specs.zone_store.ZoneAnswers.{records_at}
+use Rattle.hickory_zone.specs.Zones.{Records, Sets, Zone, any_of, at_node, type_ns, Delegates, Exists, HasClosestEncloser, IsAuthoritativeAt, Outcome, answer, alias, referral, no_data, no_name, ancestor, owned_by, rrset, synthesized, wildcard}
 use Rattle.hickory_zone.specs.declared.find.Found.{Found}
 use Rattle.hickory_zone.specs.declared.find.Found.TheVariants as found
 use Rattle.hickory_zone.specs.declared.find.Neighbours.{Neighbours}
@@ -28,7 +29,7 @@ pub record IsEncloser (sets : Sets) (name encloser : DomainName) : Type 0 where
 pub record EndsAt (zone : Zone) (name : DomainName) (cut : Delegation) : Type 0 where
   pub off : ℕ
   pub delegates : Delegates zone name off
-  pub servers : rrset zone.sets (ancestor name off) 2 ≡ Some cut.servers.now
+  pub servers : rrset zone.sets (ancestor name off) type_ns ≡ Some cut.servers.now
   pub at_name : IsTrue cut.is_at_name ↔ (off ≡ 0)
 
 abbrev pub CutAt : Zone → DomainName → Option Delegation → Type 0
@@ -36,19 +37,21 @@ CutAt zone name None = IsAuthoritativeAt zone name
 CutAt zone name (Some cut) = EndsAt zone name cut
 
 -- what it stands for, where this name is asked for
-abbrev pub outcome_of : DomainName → Found → Outcome
-outcome_of name (found.Answer rs) = answer rs.now
-outcome_of name (found.Alias rs) = alias rs.now
-outcome_of name (found.Referral rs) = referral rs.now
-outcome_of name (found.WildAnswer rs) = answer (owned_by name rs.now)
-outcome_of name (found.WildAlias rs) = alias (owned_by name rs.now)
-outcome_of name found.NoData = no_data
-outcome_of name found.NoName = no_name
+abbrev pub outcome_of : Sets → DomainName → Found → Outcome
+outcome_of sets name (found.Answer rs) = answer rs.now
+outcome_of sets name found.Every = any_of (records_at name sets)
+outcome_of sets name (found.Alias rs) = alias rs.now
+outcome_of sets name (found.Referral rs) = referral rs.now
+outcome_of sets name (found.WildAnswer rs) = answer (owned_by name rs.now)
+outcome_of sets name (found.WildEvery key) = synthesized name (any_of (records_at key.now.name sets))
+outcome_of sets name (found.WildAlias rs) = alias (owned_by name rs.now)
+outcome_of sets name found.NoData = no_data
+outcome_of sets name found.NoName = no_name
 
 -- The wildcard below the encloser stands for what does not exist there, if there is one.
 abbrev pub WildFound : Sets → DomainName → ℕ → Found → Type 0
-WildFound sets encloser t found = (Exists sets (wildcard encloser) × ((name : DomainName) → outcome_of name found ≡ synthesized name (of_sets (rrset sets (wildcard encloser) t) (rrset sets (wildcard encloser) 5))))
-    ⊎ ((¬ (Exists sets (wildcard encloser))) × ((name : DomainName) → outcome_of name found ≡ no_name))
+WildFound sets encloser t found = (Exists sets (wildcard encloser) × ((name : DomainName) → outcome_of sets name found ≡ synthesized name (at_node sets (wildcard encloser) t)))
+    ⊎ ((¬ (Exists sets (wildcard encloser))) × ((name : DomainName) → outcome_of sets name found ≡ no_name))
 
 -- the first of two RRsets that there is
 abbrev pub first_or : Option Records → Option Records → Option Records

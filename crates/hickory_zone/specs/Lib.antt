@@ -4,4 +4,5 @@ pub mod Chains
 pub mod FoundRecords
 pub mod KeysBeside
 pub mod Replies
+pub mod WorkedZones
 pub mod Zones

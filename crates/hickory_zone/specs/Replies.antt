@@ -6,7 +6,7 @@ use Rattle.hickory_wire.specs.declared.op.query.Query.{Query}
 use Rattle.hickory_base.specs.requests.Questions.{one_query}
 use Rattle.hickory_base.specs.requests.Requests.{ReceivedRequest}
 use Rattle.hickory_base.specs.zone_store.Lookups.{Flow}
-use Rattle.hickory_base.specs.zone_store.ZoneAnswers.{MemoryZone, any_answer, no_data, no_name}
+use Rattle.hickory_base.specs.zone_store.ZoneAnswers.{MemoryZone, no_data, no_name}
 use Rattle.hickory_base.specs.declared.errors.LookupError.{LookupError}
 use Rattle.hickory_base.specs.declared.errors.LookupError.TheVariants.{Memory, ResponseCode}
 use Rattle.hickory_base.specs.declared.zone_store.lookup.AuthLookup.{AuthLookup}
@@ -33,12 +33,14 @@ reply_of sets (r ∷ rs) without = Ok (lookup.Records (r ∷ rs) [])
 reply_of sets (r ∷ rs) missing = Ok (lookup.Records (r ∷ rs) [])
 reply_of sets (r ∷ rs) left_open = Ok (lookup.Records (r ∷ rs) [])
 
--- What is answered for a name and a type, but for want of memory: outside of the zone it is Refused, which is 5; any type, which is 255, has all records of the name; and
--- at most eight CNAMEs are followed.
+-- how many CNAMEs are followed
+abbrev pub most_aliases : ℕ
+most_aliases = 8
+
+-- What is answered for a name and a type, but for want of memory: outside of the zone it is Refused, which is 5.
 pub data StandardAnswer (zone : Zone) (name : DomainName) (t : ℕ) : Result AuthLookup LookupError → Type 0 where
   elsewhere : ¬ (IsIn zone name) → StandardAnswer zone name t (Err (ResponseCode 5))
-  any_type : IsIn zone name → t ≡ 255 → StandardAnswer zone name t (any_answer zone.sets name)
-  one_type : {rs : Records} {ending : Ending} → IsIn zone name → ¬ (t ≡ 255) → Chases zone t 8 name rs ending → StandardAnswer zone name t (reply_of zone.sets rs ending)
+  inside : {rs : Records} {ending : Ending} → IsIn zone name → Chases zone t most_aliases [] name rs ending → StandardAnswer zone name t (reply_of zone.sets rs ending)
 
 -- the same or want of memory
 abbrev pub IsStandard : Zone → DomainName → ℕ → Result AuthLookup LookupError → Type 0

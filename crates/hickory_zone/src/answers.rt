@@ -1,6 +1,6 @@
 //! The zone as a handler of the catalog.
 
-ghost use Rattle.std.specs.Prelude.{◌≡◌, ◌≢◌, ◌↔◌, IfOk, IfSome, Err, None, IsTrue};
+ghost use Rattle.std.specs.Prelude.{◌≡◌, ◌↔◌, IfOk, IfSome, Err, None, IsTrue};
 ghost use Rattle.std.specs.List.{All};
 ghost use Rattle.std.specs.BTreeMap.{keys};
 ghost use Rattle.hickory_base.specs.zone_store.ZoneAnswers.{OrMemory, no_data};
@@ -18,8 +18,7 @@ use crate::chains::{ChainEnd, append_copies, follow};
 use crate::find::{Found, look_up};
 use hickory_base::errors::{DnsError, LookupError};
 use hickory_base::zone_store::{
-    AuthLookup, InMemoryZoneHandler, LookupControlFlow, LookupOptions, RecordSet, StoredAnswer,
-    ZoneHandler,
+    AuthLookup, InMemoryZoneHandler, RecordSet, StoredAnswer, ZoneHandler,
 };
 use hickory_wire::{Items, LowerName, Record, RecordType, ResponseCode, RrKey};
 use std::alloc::{AllocError, Global};
@@ -120,8 +119,8 @@ fn is_in(origin: &LowerName, name: &LowerName) -> bool
     name.as_name().is_fqdn() && origin.zone_of(name)
 }
 
-/// What the zone answers for a name in it and one type.
-fn answer_one(
+/// What the zone answers for a name in it and a type.
+fn answer_within(
     alloc: Global,
     zone: &InMemoryZoneHandler,
     name: &LowerName,
@@ -129,7 +128,6 @@ fn answer_one(
 ) -> Result<AuthLookup, LookupError>
     requires owners { AreOwners zone.now.origin zone.now.sets }
     requires within { IsIn (zone_of zone.now) name.now }
-    requires one_type { record_type ≢ 255 }
     ensures { IsStandard (zone_of zone.now) name.now record_type result }
 {
     let sets = zone.records();
@@ -160,15 +158,7 @@ pub fn answer(
     if !is_in(zone.origin(), name) {
         return Err(LookupError::ResponseCode(ResponseCode::REFUSED));
     }
-    if record_type != RecordType::ANY {
-        return answer_one(alloc, zone, name, record_type);
-    }
-    let options = LookupOptions { dnssec_ok: false };
-    match zone.lookup(alloc, name, record_type, None, options) {
-        LookupControlFlow::Continue(result) => result,
-        LookupControlFlow::Break(result) => result,
-        LookupControlFlow::Skip => Err(LookupError::Memory),
-    }
+    answer_within(alloc, zone, name, record_type)
 }
 
 /// Whether a record names no host.
@@ -197,14 +187,14 @@ pub fn stored<'z>(
     requires owners { AreOwners zone.now.origin zone.now.sets }
     ensures { IfSome result (λ answer. StandardAnswer (zone_of zone.now) first.now.name record_type (stored_result answer)) }
 {
-    if record_type == RecordType::ANY || !is_in(zone.origin(), &first.name) {
+    if !is_in(zone.origin(), &first.name) {
         return None;
     }
-    stored_one(alloc, zone, first, record_type)
+    stored_within(alloc, zone, first, record_type)
 }
 
-/// The same of one type and a name in the zone.
-fn stored_one<'z>(
+/// The same of a name in the zone.
+fn stored_within<'z>(
     alloc: Global,
     zone: &'z InMemoryZoneHandler,
     first: &RrKey,
@@ -213,7 +203,6 @@ fn stored_one<'z>(
     requires least { first.now.record_type ≡ 0 }
     requires owners { AreOwners zone.now.origin zone.now.sets }
     requires within { IsIn (zone_of zone.now) first.now.name }
-    requires one_type { record_type ≢ 255 }
     ensures { IfSome result (λ answer. StandardAnswer (zone_of zone.now) first.now.name record_type (stored_result answer)) }
 {
     match look_up(alloc, zone.origin(), zone.records(), first, record_type) {

@@ -1,13 +1,18 @@
 //! CNAMEs that are followed.
 
-ghost use Rattle.std.specs.Prelude.{◌≡◌, ◌≢◌, ◌++◌, OnOk, IfOk, MatchOption, Some, true};
+ghost use Rattle.std.specs.Prelude.{◌≡◌, ◌++◌, OnOk, IfOk, MatchOption, Some, true, cond};
+ghost use Rattle.std.specs.List.{list_any};
 ghost use Rattle.std.specs.Option.{IsSomeAnd};
+ghost use Rattle.hickory_base.specs.zone_store.ZoneAnswers.{records_at};
+ghost use Rattle.hickory_base.specs.zone_store.ZoneRecords.{is_at};
 ghost use Rattle.hickory_base.specs.zone_store.ZoneSets.{sets_of};
 ghost use Rattle.hickory_wire.specs.rr.domain.NameOrder.{Encloses, lower_name};
 ghost use Rattle.hickory_zone.specs.Zones.{AreOwners, Sets, owned_by};
 ghost use Rattle.hickory_wire.specs.rr.domain.DomainName.{DomainName};
-ghost use Rattle.hickory_zone.specs.Chains.{IsIn, canonical};
-ghost use Rattle.hickory_zone.specs.ChainEnds.{Chased, Linked, ending_of};
+ghost use Rattle.hickory_zone.specs.Chains.{IsIn, canonical, is_owner_among};
+ghost use Rattle.hickory_zone.specs.ChainEnds.{Chased, IsAllPut, Linked, ending_of};
+ghost use Rattle.hickory_zone.specs.declared.chains.ChainEnd.TheVariants.{Answered, Without};
+ghost use Rattle.hickory_zone.specs.declared.chains.Link.TheVariants.{End};
 
 use crate::find::{Found, look_up};
 use hickory_base::zone_store::RecordSet;
@@ -56,7 +61,7 @@ pub enum ChainEnd<'z> {
     Without,
     /// At a name that does not exist.
     Missing,
-    /// Outside of the zone, or where no more is followed.
+    /// Outside of the zone, at a name that the chain has been at, or where no more is followed.
     LeftOpen,
 }
 
@@ -67,6 +72,68 @@ pub(crate) enum Link<'z> {
     End(ChainEnd<'z>),
     /// These records, or those of a wildcard, lead on.
     Alias(&'z [Record]),
+}
+
+/// Puts copies of all records of the key's name last. No type is below that of the key. Where memory is refused, those of a front of
+/// them may have been put.
+fn append_name(
+    sets: &BTreeMap<RrKey, Rc<RecordSet>>,
+    first: &RrKey,
+    all: &mut Vec<Record>,
+) -> Result<(), AllocError>
+    requires { first.now.record_type ≡ 0 }
+    ensures { OnOk result (all.new.items ≡ all.old.items ++ records_at first.now.name (sets_of sets.now)) }
+{
+    for (key, set) in sets.range(first..) {
+        if first.name != key.name {
+            return Ok(());
+        }
+        append_copies(all, set.records())?;
+    }
+    Ok(())
+}
+
+/// The end of a chain at a name that was asked for records of any type, and has some or none.
+fn end_at_all<'z>(has_some: bool) -> Link<'z>
+    ensures { result ≡ cond has_some (End Answered) (End Without) }
+{
+    if has_some {
+        Link::End(ChainEnd::Answered)
+    } else {
+        Link::End(ChainEnd::Without)
+    }
+}
+
+/// Puts copies of all records of the key's name last. No type is below that of the key.
+fn append_all<'z>(
+    sets: &BTreeMap<RrKey, Rc<RecordSet>>,
+    first: &RrKey,
+    answers: &mut Vec<Record>,
+) -> Result<Link<'z>, AllocError>
+    requires { first.now.record_type ≡ 0 }
+    ensures { IfOk result (IsAllPut (records_at first.now.name (sets_of sets.now)) answers.old.items answers.new.items) }
+{
+    let before = answers.len();
+    append_name(sets, first, answers)?;
+    Ok(end_at_all(before < answers.len()))
+}
+
+/// Puts copies of all records of the key's name last, owned by another name.
+fn append_all_owned<'z>(
+    alloc: Global,
+    sets: &BTreeMap<RrKey, Rc<RecordSet>>,
+    key: &RrKey,
+    owner: &Name,
+    answers: &mut Vec<Record>,
+) -> Result<Link<'z>, AllocError>
+    ensures { IfOk result (IsAllPut (owned_by owner.now (records_at key.now.name (sets_of sets.now))) answers.old.items answers.new.items) }
+{
+    let first = RrKey::new(key.name.clone()?, RecordType::new(0));
+    let mut all = Vec::new(alloc);
+    append_name(sets, &first, &mut all)?;
+    let before = answers.len();
+    append_owned(answers, owner, all.as_slice())?;
+    Ok(end_at_all(before < answers.len()))
 }
 
 /// Puts what the zone has for one name last.
@@ -82,7 +149,6 @@ fn append_link<'z>(
     requires qualified { first.now.name.is_fqdn ≡ true }
     requires owners { AreOwners origin.now (sets_of sets.now) }
     requires within { Encloses origin.now.labels first.now.name.labels }
-    requires one_type { record_type ≢ 255 }
     ensures { IfOk result (Linked (record { origin = origin.now; sets = sets_of sets.now }) record_type first.now.name answers.old.items answers.new.items) }
 {
     match look_up(alloc, origin, sets, first, record_type)? {
@@ -94,6 +160,8 @@ fn append_link<'z>(
             append_owned(answers, first.name.as_name(), records)?;
             Ok(Link::End(ChainEnd::Answered))
         }
+        Found::Every => append_all(sets, first, answers),
+        Found::WildEvery(key) => append_all_owned(alloc, sets, key, first.name.as_name(), answers),
         Found::Alias(records) => {
             append_copies(answers, records)?;
             Ok(Link::Alias(records))
@@ -135,7 +203,22 @@ fn canonical_within(
     }
 }
 
-/// Puts the records of the answer section for a name in the zone last, with at most so many CNAMEs followed.
+/// Whether the record has this owner name.
+fn is_owned(q: &Record, name: &LowerName) -> bool
+    ensures { result ≡ is_at name.now q.now }
+{
+    name.as_name() == &q.name
+}
+
+/// Whether one of the records has this owner name.
+fn is_owner_among(name: &LowerName, records: &[Record]) -> bool
+    ensures { result ≡ list_any (is_at name.now) records.now }
+{
+    records.iter().any(|q| is_owned(q, name))
+}
+
+/// Puts the records of the answer section for a name in the zone last, with at most so many CNAMEs followed. The records of a chain
+/// that led here stand there.
 pub fn follow<'z>(
     alloc: Global,
     origin: &LowerName,
@@ -149,7 +232,6 @@ pub fn follow<'z>(
     requires qualified { first.now.name.is_fqdn ≡ true }
     requires owners { AreOwners origin.now (sets_of sets.now) }
     requires within { Encloses origin.now.labels first.now.name.labels }
-    requires one_type { record_type ≢ 255 }
     ensures { IfOk result (λ end. Chased (record { origin = origin.now; sets = sets_of sets.now }) record_type left first.now.name answers.old.items answers.new.items (ending_of end)) }
 {
     let cname = match append_link(alloc, origin, sets, first, record_type, answers)? {
@@ -162,6 +244,9 @@ pub fn follow<'z>(
     let Some(name) = canonical_within(alloc, origin, cname)? else {
         return Ok(ChainEnd::LeftOpen);
     };
+    if is_owner_among(&name, answers.as_slice()) {
+        return Ok(ChainEnd::LeftOpen);
+    }
     let next = RrKey::new(name, RecordType::new(0));
     follow(alloc, origin, sets, &next, record_type, left - 1, answers)
 }

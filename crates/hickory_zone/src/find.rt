@@ -1,12 +1,13 @@
 //! How the names of a zone are found.
 
-ghost use Rattle.std.specs.Prelude.{◌≡◌, ◌≢◌, ◌↔◌, ◌⊎◌, ℕ, IfOk, MatchOption, IsTrue, true, false, cond, Some, None};
+ghost use Rattle.std.specs.Prelude.{◌≡◌, ◌↔◌, ◌⊎◌, ℕ, IfOk, MatchOption, IsTrue, true, false, cond, Some, None};
 ghost use Rattle.std.specs.Bool.{OnTrue};
 ghost use Rattle.std.specs.Option.{option_copied};
-ghost use Rattle.hickory_base.specs.zone_store.ZoneSets.{sets_of};
-ghost use Rattle.hickory_zone.specs.Zones.{AreOwners, Answers, Exists, Sets, ancestor, Zone, of_sets, rrset, synthesized};
+ghost use Rattle.hickory_base.specs.zone_store.ZoneAnswers.{records_at};
+ghost use Rattle.hickory_base.specs.zone_store.ZoneSets.{has_name, sets_of};
+ghost use Rattle.hickory_zone.specs.Zones.{AreOwners, Answers, Exists, Sets, any_of, ancestor, at_node, Zone, of_sets, rrset, synthesized, type_any, type_cname, type_ds, type_ns};
 ghost use Rattle.hickory_zone.specs.FoundRecords.{first_or};
-ghost use Rattle.hickory_zone.specs.KeysBeside.{StandsBehind};
+ghost use Rattle.hickory_zone.specs.KeysBeside.{SharedMap, StandsBehind};
 ghost use Rattle.std.specs.Option.{unwrap_or};
 ghost use Rattle.hickory_wire.specs.rr.domain.DomainName.{DomainName};
 ghost use Rattle.hickory_zone.specs.FoundRecords.{CutAt, WildFound, outcome_of, IsAbove, IsEncloser, Tells};
@@ -64,8 +65,8 @@ fn node_at<'z>(
 ) -> Node<'z>
     requires { first.now.record_type ≡ 0 }
     ensures wanted { option_copied result.wanted ≡ rrset (sets_of sets.now) first.now.name record_type }
-    ensures alias { option_copied result.alias ≡ rrset (sets_of sets.now) first.now.name 5 }
-    ensures servers { option_copied result.servers ≡ rrset (sets_of sets.now) first.now.name 2 }
+    ensures alias { option_copied result.alias ≡ rrset (sets_of sets.now) first.now.name type_cname }
+    ensures servers { option_copied result.servers ≡ rrset (sets_of sets.now) first.now.name type_ns }
     ensures behind { StandsBehind sets.now first.now (option_copied result.behind) }
 {
     let mut wanted = None;
@@ -218,7 +219,7 @@ fn cut_at<'z>(
     servers: Option<&'z [Record]>,
 ) -> Result<Option<Delegation<'z>>, AllocError>
     requires within { Encloses origin.now.labels name.now.labels }
-    requires servers { option_copied servers ≡ rrset (sets_of sets.now) name.now 2 }
+    requires servers { option_copied servers ≡ rrset (sets_of sets.now) name.now type_ns }
     ensures { IfOk result (CutAt (record { origin = origin.now; sets = sets_of sets.now }) name.now) }
 {
     if name.zone_of(origin) {
@@ -246,12 +247,16 @@ fn cut_at<'z>(
 pub enum Found<'z> {
     /// The records asked for.
     Answer(&'z [Record]),
+    /// All records of the name, of whatever type, if it has any.
+    Every,
     /// The CNAME of the name.
     Alias(&'z [Record]),
     /// The servers of a zone below.
     Referral(&'z [Record]),
     /// Records of a wildcard, which the name asked for is to own.
     WildAnswer(&'z [Record]),
+    /// All records of the wildcard whose key this is, which the name asked for is to own.
+    WildEvery(&'z RrKey),
     /// The CNAME of a wildcard, which the name asked for is to own.
     WildAlias(&'z [Record]),
     /// The name exists, and has no such records.
@@ -262,7 +267,7 @@ pub enum Found<'z> {
 
 /// What is found at a name that owns this.
 fn found_at(node: Node<'_>) -> Found<'_>
-    ensures { (name : DomainName) → outcome_of name result ≡ of_sets (option_copied node.entry.wanted) (option_copied node.entry.alias) }
+    ensures { (sets : Sets) (name : DomainName) → outcome_of sets name result ≡ of_sets (option_copied node.entry.wanted) (option_copied node.entry.alias) }
 {
     match node.wanted {
         Some(records) => Found::Answer(records),
@@ -275,7 +280,7 @@ fn found_at(node: Node<'_>) -> Found<'_>
 
 /// What is found at a name for which a wildcard stands that owns this.
 fn found_wild(node: Node<'_>) -> Found<'_>
-    ensures { (name : DomainName) → outcome_of name result ≡ synthesized name (of_sets (option_copied node.entry.wanted) (option_copied node.entry.alias)) }
+    ensures { (sets : Sets) (name : DomainName) → outcome_of sets name result ≡ synthesized name (of_sets (option_copied node.entry.wanted) (option_copied node.entry.alias)) }
 {
     match node.wanted {
         Some(records) => Found::WildAnswer(records),
@@ -286,11 +291,69 @@ fn found_wild(node: Node<'_>) -> Found<'_>
     }
 }
 
+/// Whether records of any type are asked for.
+fn is_any(record_type: RecordType) -> bool
+    ensures { IsTrue result ↔ (record_type ≡ type_any) }
+{
+    record_type == RecordType::ANY
+}
+
+/// Whether the key has this name.
+fn is_of(name: &LowerName, key: &RrKey) -> bool
+    ensures { result ≡ has_name name.now key.now }
+{
+    name == &key.name
+}
+
+/// What is found for any type at a name for which a wildcard stands, whose first key this is.
+fn find_wild_any<'z>(first: &RrKey, behind: Option<&'z RrKey>) -> Found<'z>
+    requires { first.now.record_type ≡ 0 }
+    ensures { (sets : SharedMap) → StandsBehind sets first.now (option_copied behind.entry)
+        → (name : DomainName) → outcome_of (sets_of sets) name result ≡ synthesized name (any_of (records_at first.now.name (sets_of sets))) }
+{
+    match behind {
+        None => Found::NoData,
+        Some(key) => {
+            if is_of(&first.name, key) {
+                Found::WildEvery(key)
+            } else {
+                Found::NoData
+            }
+        }
+    }
+}
+
+/// What is found at a name for which a wildcard stands, whose first key this is and that owns this.
+fn find_at_wildcard<'z>(first: &RrKey, node: Node<'z>, record_type: RecordType) -> Found<'z>
+    requires { first.now.record_type ≡ 0 }
+    ensures { (sets : SharedMap) → StandsBehind sets first.now (option_copied node.entry.behind)
+        → option_copied node.entry.wanted ≡ rrset (sets_of sets) first.now.name record_type → option_copied node.entry.alias ≡ rrset (sets_of sets) first.now.name type_cname
+        → (name : DomainName) → outcome_of (sets_of sets) name result ≡ synthesized name (at_node (sets_of sets) first.now.name record_type) }
+{
+    if is_any(record_type) {
+        find_wild_any(first, node.behind)
+    } else {
+        found_wild(node)
+    }
+}
+
 /// Whether records of the type stand at the cut itself, on the side of the zone above (RFC 4035 section 3.1.4.1).
 fn stands_above(cut: Delegation<'_>, record_type: RecordType) -> bool
-    ensures { IsTrue result ↔ (IsTrue cut.entry.is_at_name × (record_type ≡ 43)) }
+    ensures { IsTrue result ↔ (IsTrue cut.entry.is_at_name × (record_type ≡ type_ds)) }
 {
     cut.is_at_name && record_type == RecordType::DS
+}
+
+/// What is found at a name of the zone's own that exists and owns this.
+fn found_at_existing(node: Node<'_>, record_type: RecordType) -> Found<'_>
+    ensures { (sets : Sets) (name : DomainName) → option_copied node.entry.wanted ≡ rrset sets name record_type → option_copied node.entry.alias ≡ rrset sets name type_cname
+        → outcome_of sets name result ≡ at_node sets name record_type }
+{
+    if is_any(record_type) {
+        Found::Every
+    } else {
+        found_at(node)
+    }
 }
 
 /// What is found at a name that exists.
@@ -299,16 +362,15 @@ fn find_existing<'z>(
     record_type: RecordType,
     cut: Option<Delegation<'z>>,
 ) -> Found<'z>
-    requires { record_type ≢ 255 }
     ensures { (zone : Zone) (name : DomainName) → CutAt zone name cut.entry → Exists zone.sets name
-        → option_copied node.entry.wanted ≡ rrset zone.sets name record_type → option_copied node.entry.alias ≡ rrset zone.sets name 5 → Answers zone name record_type (outcome_of name result) }
+        → option_copied node.entry.wanted ≡ rrset zone.sets name record_type → option_copied node.entry.alias ≡ rrset zone.sets name type_cname → Answers zone name record_type (outcome_of zone.sets name result) }
 {
     if let Some(cut) = cut {
         if !stands_above(cut, record_type) {
             return Found::Referral(cut.servers);
         }
     }
-    found_at(node)
+    found_at_existing(node, record_type)
 }
 
 /// What is found where a name does not exist, below its closest encloser.
@@ -327,7 +389,7 @@ fn find_wild<'z>(
     let first = RrKey::new(source, RecordType::new(0));
     let node = node_at(sets, &first, record_type);
     if is_above(&first.name, node.behind) {
-        Ok(found_wild(node))
+        Ok(find_at_wildcard(&first, node, record_type))
     } else {
         Ok(Found::NoName)
     }
@@ -346,10 +408,9 @@ fn look_above<'z>(
     requires qualified { first.now.name.is_fqdn ≡ true }
     requires owners { AreOwners origin.now (sets_of sets.now) }
     requires within { Encloses origin.now.labels first.now.name.labels }
-    requires one_type { record_type ≢ 255 }
     requires behind { StandsBehind sets.now first.now (option_copied behind) }
     requires missing { ¬ (Exists (sets_of sets.now) first.now.name) }
-    ensures { IfOk result (λ found. Answers (record { origin = origin.now; sets = sets_of sets.now }) first.now.name record_type (outcome_of first.now.name found)) }
+    ensures { IfOk result (λ found. Answers (record { origin = origin.now; sets = sets_of sets.now }) first.now.name record_type (outcome_of (sets_of sets.now) first.now.name found)) }
 {
     let Some(encloser) = closest_encloser(sets, first, behind)? else {
         return Ok(Found::NoName);
@@ -372,8 +433,7 @@ pub fn look_up<'z>(
     requires qualified { first.now.name.is_fqdn ≡ true }
     requires owners { AreOwners origin.now (sets_of sets.now) }
     requires within { Encloses origin.now.labels first.now.name.labels }
-    requires one_type { record_type ≢ 255 }
-    ensures { IfOk result (λ found. Answers (record { origin = origin.now; sets = sets_of sets.now }) first.now.name record_type (outcome_of first.now.name found)) }
+    ensures { IfOk result (λ found. Answers (record { origin = origin.now; sets = sets_of sets.now }) first.now.name record_type (outcome_of (sets_of sets.now) first.now.name found)) }
 {
     let node = node_at(sets, first, record_type);
     if is_above(&first.name, node.behind) {

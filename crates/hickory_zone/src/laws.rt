@@ -1,8 +1,31 @@
-//! What follows from the definitions alone: each law is what an empty function ensures.
+//! What follows from the definitions alone: each law is what a function ensures that does nothing.
 
-ghost use Rattle.hickory_zone.specs.Zones.{OneAnswer};
+ghost use Rattle.std.specs.Prelude.{◌≡◌, ◌∷◌, []};
+ghost use Rattle.hickory_zone.specs.Chains.{OneChain};
+ghost use Rattle.hickory_zone.specs.Zones.{OneAnswer, type_a, type_aaaa, type_any, type_cname, type_ds, type_ns};
+
+use hickory_wire::RecordType;
 
 /// A zone gives a name and a type at most one answer.
 pub fn answers_once()
     ensures { OneAnswer }
 {}
+
+/// A chain of aliases has one answer section and one ending.
+pub fn chains_once()
+    ensures { OneChain }
+{}
+
+/// The types that the definitions name.
+pub fn named_types() -> [RecordType; 6]
+    ensures { result ≡ type_a ∷ type_ns ∷ type_cname ∷ type_aaaa ∷ type_ds ∷ type_any ∷ [] }
+{
+    [
+        RecordType::A,
+        RecordType::NS,
+        RecordType::CNAME,
+        RecordType::AAAA,
+        RecordType::DS,
+        RecordType::ANY,
+    ]
+}

@@ -8,6 +8,7 @@ mod chains;
 mod find;
 pub mod laws;
 mod wildcards;
+pub mod worked;
 
 pub use additionals::append_additionals;
 pub use answers::{answer, are_owners, stored};

@@ -1,3 +1,5 @@
 -- Chains, and the answers that they end in.
+pub mod AllPut
 pub mod Finished
 pub mod Follows
+pub mod OneChain

@@ -1,8 +1,10 @@
 -- What the keys of a zone tell of its names.
 pub mod Beside
 pub mod Cuts
+pub mod Every
 pub mod Nodes
 pub mod Outcomes
 pub mod Owners
 pub mod Unique
 pub mod Wild
+pub mod Written

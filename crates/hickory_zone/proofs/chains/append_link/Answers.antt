@@ -1,8 +1,12 @@
-use Rattle.std.proofs.Common.{◌++◌, [], sym, ap, ◌∙◌}
+use Rattle.std.proofs.Common.{◌++◌, [], sym, ap, subst, ◌∙◌}
 use Rattle.std.proofs.lemmas.List.{append-nil}
 use Rattle.hickory_base.specs.zone_store.ZoneSets.{sets_of}
 use Rattle.hickory_zone.specs.Chains.{found, has_none, is_none, refers}
-use Rattle.hickory_zone.specs.Zones.{Answers, Zone, answer, no_data, no_name, owned_by, referral}
+use Rattle.hickory_base.specs.zone_store.ZoneAnswers.{records_at}
+use Rattle.hickory_zone.specs.ChainEnds.{IsAllPut}
+use Rattle.hickory_zone.proofs.lemmas.replies.AllPut.{all_linked, all_owned_linked}
+use Rattle.hickory_zone.proofs.lemmas.zones.Outcomes.{if_ok}
+use Rattle.hickory_zone.specs.Zones.{Answers, Records, Zone, answer, any_of, no_data, no_name, owned_by, referral, synthesized}
 use Rattle.hickory_zone.proofs.chains.append_link.Goals as goal
 
 pub returns-in_ok-append_copies-in-Answer : goal.returns-in_ok-append_copies-in-Answer
@@ -39,3 +43,21 @@ returns-in-NoName c =
     let zone : Zone = record { origin = c.args.origin.now; sets = sets_of c.args.sets.now } in
     let says : Answers zone c.args.first.now.name c.args.record_type no_name = rw c.in-NoName.is at c.in_ok-records.ensures in
     record { added = []; put = sym (append-nil c.args.answers.now.items); says = λ left. is_none says }
+
+pub returns-in-Every : goal.returns-in-Every
+returns-in-Every c =
+    let zone : Zone = record { origin = c.args.origin.now; sets = sets_of c.args.sets.now } in
+    let name = c.args.first.now.name in
+    let says : Answers zone name c.args.record_type (any_of (records_at name zone.sets)) = rw c.in-Every.is at c.in_ok-records.ensures in
+    if_ok c.append_all.result _ _ c.append_all.ensures (λ end put. all_linked zone c.args.record_type name c.args.answers.now.items c.append_all.new.answers.items end (records_at name zone.sets) says put)
+
+pub returns-in-WildEvery : goal.returns-in-WildEvery
+returns-in-WildEvery c =
+    let zone : Zone = record { origin = c.args.origin.now; sets = sets_of c.args.sets.now } in
+    let name = c.args.first.now.name in
+    let old = c.args.answers.now.items in
+    let new = c.append_all_owned.new.answers.items in
+    let rs : Records = records_at c.in-WildEvery.key.now.name zone.sets in
+    let says : Answers zone name c.args.record_type (synthesized name (any_of rs)) = rw c.in-WildEvery.is at c.in_ok-records.ensures in
+    if_ok c.append_all_owned.result _ _ c.append_all_owned.ensures
+    (λ end put. all_owned_linked zone c.args.record_type name old new end rs says (subst (λ n. IsAllPut (owned_by n rs) old new end) c.as_name-in-WildEvery.ensures.name put))

@@ -1,9 +1,8 @@
-use Rattle.std.proofs.Common.{◌≡◌, false, sym, ap, ◌∙◌}
-use Rattle.std.specs.Option.{option_copied}
+use Rattle.std.proofs.Common.{◌≡◌, false, sym, ◌∙◌}
 use Rattle.std.proofs.lemmas.Bool.{false≢true}
 use Rattle.hickory_zone.proofs.lemmas.zones.Outcomes.{above_cut, referred, uncut}
 use Rattle.hickory_zone.specs.FoundRecords.{outcome_of}
-use Rattle.hickory_zone.specs.Zones.{of_sets, rrset}
+use Rattle.hickory_zone.specs.Zones.{at_node}
 use Rattle.hickory_zone.proofs.find.find_existing.Goals as goal
 use Rattle.hickory_zone.proofs.find.find_existing.Goals.{in-Some+else-not-stands_above, in_default}
 
@@ -15,9 +14,8 @@ returns-then-not-stands_above c =
 pub returns : goal.returns
 returns c =
     λ zone name at x wanted alias.
-    let is : outcome_of name c.found_at.result ≡ of_sets (rrset zone.sets name c.args.record_type) (rrset zone.sets name 5) =
-    c.found_at.ensures name ∙ ap (λ w. of_sets w (option_copied c.args.node.alias)) wanted ∙ ap (of_sets (rrset zone.sets name c.args.record_type)) alias in
+    let is : outcome_of zone.sets name c.found_at_existing.result ≡ at_node zone.sets name c.args.record_type = c.found_at_existing.ensures zone.sets name wanted alias in
     elim c.match-cut.branch [
-      | in-Some+else-not-stands_above w ↦ above_cut zone name c.args.record_type c.args.cut at w.in-Some.cut (outcome_of name c.found_at.result) w.in-Some.is (w.stands_above.ensures.0 w.if-not-stands_above.false) c.requires is
-      | in_default w ↦ uncut zone name c.args.record_type c.args.cut at (outcome_of name c.found_at.result) w.in_default.is x c.requires is
+      | in-Some+else-not-stands_above w ↦ above_cut zone name c.args.record_type c.args.cut at w.in-Some.cut (outcome_of zone.sets name c.found_at_existing.result) w.in-Some.is (w.stands_above.ensures.0 w.if-not-stands_above.false) is
+      | in_default w ↦ uncut zone name c.args.record_type c.args.cut at (outcome_of zone.sets name c.found_at_existing.result) w.in_default.is x is
     ]

@@ -34,4 +34,4 @@ returns c =
     let e : IsEncloser zone.sets c.args.first.now.name c.in-Some.encloser = rw c.in-Some.is at found in
     if_ok c.find_wild.result _ _ (c.find_wild.ensures c.args.origin.now c.requires.owners)
     (λ f w. below_encloser zone c.args.first.now.name c.in-Some.encloser c.args.record_type c.highest_cut.result f e c.requires.missing c.in_default-highest_cut.is
-    (subst (λ n. CutAt zone n c.highest_cut.result) c.in_ok-clone.ensures.cases c.highest_cut.ensures) c.requires.one_type w)
+    (subst (λ n. CutAt zone n c.highest_cut.result) c.in_ok-clone.ensures.cases c.highest_cut.ensures) w)

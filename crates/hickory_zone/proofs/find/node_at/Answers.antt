@@ -45,4 +45,4 @@ returns-clause-behind c =
           (sym (met_at_break (option_copied c.loop-key.behind) (option_copied w.first_key-behind.result) (w.in-Some.key.now, w.in-Some.set.now) c.next.new.self c.loop-key.key-iterator w.in-Some.ensures.steps w.first_key-behind.ensures))
           c.loop-key.invariant.behind)
     ] in
-    record { range = c.range-key-items.result; whole = c.range-key-items.ensures.between tt; of = c.range-key-items.ensures.in_range tt; least = subst (λ es. IsFirst es (option_copied c.match-next.behind)) c.into_iter-key-iterator.ensures.into_iter_gives range }
+    record { ordered = c.range-key-items.ensures.ordered; range = c.range-key-items.result; whole = c.range-key-items.ensures.between tt; of = c.range-key-items.ensures.in_range tt; least = subst (λ es. IsFirst es (option_copied c.match-next.behind)) c.into_iter-key-iterator.ensures.into_iter_gives range }

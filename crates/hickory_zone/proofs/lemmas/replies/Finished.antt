@@ -1,12 +1,9 @@
 -- From what a chain gave to what the zone answers.
 use Rattle.std.proofs.Common.{◌≡◌, ℕ, true, [], ◌++◌, inl, inr, Result, Ok, refl, sym, ap, subst, ◌∙◌}
-use Rattle.std.specs.Prelude.{◌≢◌, ◌==◌}
-use Rattle.std.proofs.Common.{arith, cond}
-use Rattle.std.proofs.lemmas.Bool.Decides.{nat_tests}
 use Rattle.hickory_wire.specs.rr.domain.DomainName.{DomainName}
 use Rattle.hickory_base.specs.declared.errors.LookupError.{LookupError}
 use Rattle.hickory_base.specs.declared.zone_store.lookup.AuthLookup.{AuthLookup}
-use Rattle.hickory_base.specs.zone_store.ZoneAnswers.{MemoryZone, OrMemory, any_answer, no_data as nothing_there, no_name as nobody_there, set_answer, zone_answer}
+use Rattle.hickory_base.specs.zone_store.ZoneAnswers.{MemoryZone, OrMemory, no_data as nothing_there, no_name as nobody_there}
 use Rattle.std.proofs.Common.{◌∷◌, None}
 use Rattle.std.specs.List.{AllByRecursion}
 use Rattle.hickory_wire.specs.declared.rr.rdata.RData.{RData}
@@ -15,7 +12,7 @@ use Rattle.hickory_base.specs.declared.zone_store.lookup.AuthLookup.TheVariants 
 use Rattle.hickory_zone.specs.Additionals.{additionals_from, first_addresses, host_in}
 use Rattle.hickory_zone.specs.Chains.{Chases, Ending, IsIn, found, has_none, is_none}
 use Rattle.hickory_zone.specs.ChainEnds.{Chased}
-use Rattle.hickory_zone.specs.Replies.{IsStandard, StandardAnswer, any_type, one_type, reply_of, zone_of}
+use Rattle.hickory_zone.specs.Replies.{IsStandard, StandardAnswer, inside, reply_of, zone_of}
 use Rattle.hickory_zone.specs.Zones.{Answers, Outcome, Records, Sets, Zone, answer, no_data, no_name}
 
 pub zone_is : (zone : MemoryZone) (origin : DomainName) (sets : Sets) → origin ≡ zone.origin → sets ≡ zone.sets → (let z : Zone = record { origin = origin; sets = sets } in z) ≡ zone_of zone
@@ -26,33 +23,29 @@ or_memory zone name t expected result s (inl same) = inl (subst (StandardAnswer 
 or_memory zone name t expected result s (inr none) = inr none
 
 pub finished : (zone : MemoryZone) (name first : DomainName) (t : ℕ) (origin : DomainName) (sets : Sets) (old new : Records) (e : Ending) (result : Result AuthLookup LookupError) → origin ≡ zone.origin → sets ≡ zone.sets → first ≡ name → old ≡ []
-    → IsIn (zone_of zone) name → t ≢ 255 → Chased (record { origin = origin; sets = sets }) t 8 first old new e → OrMemory (reply_of sets new e) result → IsStandard (zone_of zone) name t result
-finished zone name first t origin sets old new e result o s f none within one x made =
-    let c : Chases (zone_of zone) t 8 name x.added e = subst (λ (n : DomainName). Chases (zone_of zone) t 8 n x.added e) f (subst (λ (z : Zone). Chases z t 8 first x.added e) (zone_is zone origin sets o s) x.chases) in
+    → IsIn (zone_of zone) name → Chased (record { origin = origin; sets = sets }) t 8 first old new e → OrMemory (reply_of sets new e) result → IsStandard (zone_of zone) name t result
+finished zone name first t origin sets old new e result o s f none within x made =
+    let c : Chases (zone_of zone) t 8 [] name x.added e =
+    subst (λ (b : Records). Chases (zone_of zone) t 8 b name x.added e) none
+    (subst (λ (n : DomainName). Chases (zone_of zone) t 8 old n x.added e) f (subst (λ (z : Zone). Chases z t 8 old first x.added e) (zone_is zone origin sets o s) x.chases)) in
     let all : new ≡ x.added = x.put ∙ ap (λ (rs : Records). rs ++ x.added) none in
-    or_memory (zone_of zone) name t (reply_of zone.sets new e) result (one_type within one (subst (λ (rs : Records). Chases (zone_of zone) t 8 name rs e) (sym all) c))
+    or_memory (zone_of zone) name t (reply_of zone.sets new e) result (inside within (subst (λ (rs : Records). Chases (zone_of zone) t 8 [] name rs e) (sym all) c))
     (subst (λ (d : Sets). OrMemory (reply_of d new e) result) s made)
-
-pub any_found : (zone : MemoryZone) (name : DomainName) (t : ℕ) (result : Result AuthLookup LookupError) → IsIn (zone_of zone) name → t ≡ 255 → OrMemory (zone_answer zone.sets name t) result → IsStandard (zone_of zone) name t result
-any_found zone name t result within any made =
-    let asked : (t == 255) ≡ true = grind (arith, nat_tests) in
-    or_memory (zone_of zone) name t (any_answer zone.sets name) result (any_type within any)
-    (subst (λ r. OrMemory r result) (ap (λ b. cond b (any_answer zone.sets name) (set_answer zone.sets name t)) asked) made)
 
 -- records that name no host need no additionals
 no_additionals : (sets : Sets) (before rs : Records) → AllByRecursion (λ (q : Record RData). host_in q.rdata ≡ None) rs → additionals_from sets before rs ≡ []
 no_additionals sets before [] h = refl
 no_additionals sets before (r ∷ rs) h = ap (λ o. first_addresses sets before o ++ additionals_from sets (before ++ r ∷ []) rs) h.0 ∙ no_additionals sets (before ++ r ∷ []) rs h.1
 
-module _ (zone : MemoryZone) (name : DomainName) (t : ℕ) (within : IsIn (zone_of zone) name) (one : t ≢ 255) (origin : DomainName) (sets : Sets) (o : origin ≡ zone.origin) (s : sets ≡ zone.sets) where
+module _ (zone : MemoryZone) (name : DomainName) (t : ℕ) (within : IsIn (zone_of zone) name) (origin : DomainName) (sets : Sets) (o : origin ≡ zone.origin) (s : sets ≡ zone.sets) where
   moved : (outcome : Outcome) → Answers (record { origin = origin; sets = sets }) name t outcome → Answers (zone_of zone) name t outcome
   moved outcome a = subst (λ (z : Zone). Answers z name t outcome) (zone_is zone origin sets o s) a
 
   pub lent : (rs : Records) → Answers (record { origin = origin; sets = sets }) name t (answer rs) → AllByRecursion (λ (q : Record RData). host_in q.rdata ≡ None) rs → StandardAnswer (zone_of zone) name t (Ok (lookup.Records rs []))
-  lent rs a h = subst (λ more. StandardAnswer (zone_of zone) name t (Ok (lookup.Records rs more))) (no_additionals zone.sets [] rs h) (one_type within one (found (moved (answer rs) a)))
+  lent rs a h = subst (λ more. StandardAnswer (zone_of zone) name t (Ok (lookup.Records rs more))) (no_additionals zone.sets [] rs h) (inside within (found (moved (answer rs) a)))
 
   pub lent_no_data : Answers (record { origin = origin; sets = sets }) name t no_data → StandardAnswer (zone_of zone) name t nothing_there
-  lent_no_data a = one_type within one (has_none (moved no_data a))
+  lent_no_data a = inside within (has_none (moved no_data a))
 
   pub lent_no_name : Answers (record { origin = origin; sets = sets }) name t no_name → StandardAnswer (zone_of zone) name t nobody_there
-  lent_no_name a = one_type within one (is_none (moved no_name a))
+  lent_no_name a = inside within (is_none (moved no_name a))

@@ -19,9 +19,9 @@ use Rattle.hickory_wire.specs.declared.rr.rr_key.RrKey.{RrKey}
 use Rattle.hickory_base.proofs.lemmas.zone_store.ZoneByName.{key_total, keys-shared}
 use Rattle.hickory_base.specs.zone_store.ZoneSets.{sets_of}
 use Rattle.hickory_zone.proofs.lemmas.names.Between.{between, encloses_up_to}
-use Rattle.hickory_zone.proofs.lemmas.zones.Owners.{Entry, SharedMap, IsHeld, all_held, all_keys, names_up_to}
+use Rattle.hickory_zone.proofs.lemmas.zones.Owners.{Entry, IsHeld, all_held, all_keys, names_up_to}
 use Rattle.hickory_zone.specs.FoundRecords.{IsAbove}
-use Rattle.hickory_zone.specs.KeysBeside.{IsFirst, IsLast}
+use Rattle.hickory_zone.specs.KeysBeside.{IsFirst, IsLast, SharedMap}
 use Rattle.hickory_zone.specs.Zones.{AreOwners, IsOwner, Exists, ancestor}
 
 pub encloses_drop : (k : ℕ) (ls : List (List ℕ)) → Encloses (drop k ls) ls

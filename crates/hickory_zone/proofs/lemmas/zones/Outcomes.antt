@@ -13,6 +13,7 @@ use Rattle.hickory_wire.specs.rr.domain.NameHash.{equal_is}
 use Rattle.hickory_wire.specs.rr.domain.NameOrder.{Encloses, SameName, lower_label, lower_labels, name_cmp}
 use Rattle.hickory_wire.specs.declared.rr.rr_key.RrKey.{RrKey}
 use Rattle.hickory_base.proofs.lemmas.zone_store.ZoneByName.{eq_then}
+use Rattle.hickory_base.specs.zone_store.ZoneAnswers.{records_at}
 use Rattle.hickory_base.specs.zone_store.ZoneSets.{is_key}
 use Rattle.hickory_zone.proofs.lemmas.zones.Beside.{encloses_drop}
 use Rattle.hickory_zone.proofs.lemmas.names.Between.{same_of}
@@ -21,7 +22,7 @@ use Rattle.hickory_zone.proofs.lemmas.names.Enclosers.{ancestor-ancestor}
 use Rattle.hickory_zone.specs.declared.find.Delegation.{Delegation}
 use Rattle.hickory_zone.specs.declared.find.Found.{Found}
 use Rattle.hickory_zone.specs.FoundRecords.{CutAt, EndsAt, IsEncloser, WildFound, outcome_of}
-use Rattle.hickory_zone.specs.Zones.{Answers, delegated, at_cut, matched, wild, denied, AreOwners, Delegates, Exists, HasClosestEncloser, IsAuthoritativeAt, IsCut, IsOwner, Outcome, Records, Sets, Zone, ancestor, at_node, no_name, of_sets, referral, rrset, synthesized, wildcard}
+use Rattle.hickory_zone.specs.Zones.{Answers, delegated, at_cut, matched, wild, denied, AreOwners, Delegates, Exists, HasClosestEncloser, IsAuthoritativeAt, IsCut, IsOwner, Outcome, Records, Sets, Zone, ancestor, any_of, at_node, no_name, of_sets, referral, rrset, synthesized, type_any, type_cname, type_ds, wildcard}
 
 and_first : (a b : Bool) → (a && b) ≡ true → a ≡ true
 and_first true b h = refl
@@ -100,14 +101,10 @@ module _ (zone : Zone) (q : DomainName) (t : ℕ) where
     pub refers : (cut : Delegation) → 0 < k → CutAt zone (ancestor q k) (Some cut) → Answers zone q t (referral cut.servers.now)
     refers cut more e = let r = cut_above cut e in delegated r.0 (λ zeros. absurd (omega arith)) r.1
 
-  pub wild_or_not : (k : ℕ) (found : Found) → HasClosestEncloser zone.sets q k → 0 < k → IsAuthoritativeAt zone (ancestor q k) → t ≢ 255 → WildFound zone.sets (ancestor q k) t found → Answers zone q t (outcome_of q found)
-  wild_or_not zero found closest more auth one w = absurd (omega arith)
-  wild_or_not (suc k) found closest more auth one (inl w) =
-      let any : (t == 255) ≡ false = grind (arith, nat_tests) in
-      let source : DomainName = wildcard (ancestor q (suc k)) in
-      let node : at_node zone.sets source t ≡ of_sets (rrset zone.sets source t) (rrset zone.sets source 5) = rw any refl in
-      subst (Answers zone q t) (ap (synthesized q) node ∙ sym (w.1 q)) (wild (authoritative (suc k) closest auth) closest w.0)
-  wild_or_not (suc k) found closest more auth one (inr w) =
+  pub wild_or_not : (k : ℕ) (found : Found) → HasClosestEncloser zone.sets q k → 0 < k → IsAuthoritativeAt zone (ancestor q k) → WildFound zone.sets (ancestor q k) t found → Answers zone q t (outcome_of zone.sets q found)
+  wild_or_not zero found closest more auth w = absurd (omega arith)
+  wild_or_not (suc k) found closest more auth (inl w) = subst (Answers zone q t) (sym (w.1 q)) (wild (authoritative (suc k) closest auth) closest w.0)
+  wild_or_not (suc k) found closest more auth (inr w) =
       subst (Answers zone q t) (sym (w.1 q))
       (denied (authoritative (suc k) closest auth) (closest.longest 0 (omega arith))
       (λ j h. subst (λ n. ¬ (Exists zone.sets (wildcard (ancestor q n)))) (closest_once zone.sets q (suc k) j closest h) w.0))
@@ -138,9 +135,12 @@ encloser_within zone q k owners within closest =
     empty_of [] h = refl
     empty_of (x ∷ xs) h = absurd (omega arith)
 
--- what stands at a name that exists
-pub at_existing : (zone : Zone) (q : DomainName) (t : ℕ) → t ≢ 255 → at_node zone.sets q t ≡ of_sets (rrset zone.sets q t) (rrset zone.sets q 5)
-at_existing zone q t one = let any : (t == 255) ≡ false = grind (arith, nat_tests) in rw any refl
+-- what stands at a name, for one type and for any
+pub at_one : (sets : Sets) (q : DomainName) (t : ℕ) → t ≢ type_any → at_node sets q t ≡ of_sets (rrset sets q t) (rrset sets q type_cname)
+at_one sets q t one = let any : (t == 255) ≡ false = grind (arith, nat_tests) in ap (λ b. cond b (any_of (records_at q sets)) (of_sets (rrset sets q t) (rrset sets q type_cname))) any
+
+pub at_any : (sets : Sets) (q : DomainName) (t : ℕ) → t ≡ type_any → any_of (records_at q sets) ≡ at_node sets q t
+at_any sets q t any = let asked : (t == 255) ≡ true = grind (arith, nat_tests) in ap (λ b. cond b (any_of (records_at q sets)) (of_sets (rrset sets q t) (rrset sets q type_cname))) (sym asked)
 
 -- the encloser of a name that does not exist is above it
 is_above : (sets : Sets) (q encloser : DomainName) (e : IsEncloser sets q encloser) → ¬ (Exists sets q) → 0 < e.off
@@ -154,18 +154,18 @@ module _ (zone : Zone) (q : DomainName) (t : ℕ) (cut : Option Delegation) (at 
   ends d e = subst (CutAt zone q) e at
 
   -- a name at a cut or below it
-  pub referred : (d : Delegation) → cut ≡ Some d → ¬ (IsTrue d.is_at_name × (t ≡ 43)) → Answers zone q t (referral d.servers.now)
+  pub referred : (d : Delegation) → cut ≡ Some d → ¬ (IsTrue d.is_at_name × (t ≡ type_ds)) → Answers zone q t (referral d.servers.now)
   referred d e other = let x = ends d e in delegated x.delegates (λ zeros ds. other (x.at_name.1 zeros, ds)) x.servers
 
   -- a name at a cut, where records of the zone above are asked for
-  pub above_cut : (d : Delegation) (o : Outcome) → cut ≡ Some d → IsTrue d.is_at_name × (t ≡ 43) → t ≢ 255 → o ≡ of_sets (rrset zone.sets q t) (rrset zone.sets q 5) → Answers zone q t o
-  above_cut d o e asked one is =
+  pub above_cut : (d : Delegation) (o : Outcome) → cut ≡ Some d → IsTrue d.is_at_name × (t ≡ type_ds) → o ≡ at_node zone.sets q t → Answers zone q t o
+  above_cut d o e asked is =
       let x = ends d e in
-      subst (Answers zone q t) (at_existing zone q t one ∙ sym is) (at_cut (subst (Delegates zone q) (x.at_name.0 asked.0) x.delegates) asked.1)
+      subst (Answers zone q t) (sym is) (at_cut (subst (Delegates zone q) (x.at_name.0 asked.0) x.delegates) asked.1)
 
   -- any other name that exists
-  pub uncut : (o : Outcome) → cut ≡ None → Exists zone.sets q → t ≢ 255 → o ≡ of_sets (rrset zone.sets q t) (rrset zone.sets q 5) → Answers zone q t o
-  uncut o e x one is = subst (Answers zone q t) (at_existing zone q t one ∙ sym is) (matched (subst (CutAt zone q) e at) x)
+  pub uncut : (o : Outcome) → cut ≡ None → Exists zone.sets q → o ≡ at_node zone.sets q t → Answers zone q t o
+  uncut o e x is = subst (Answers zone q t) (sym is) (matched (subst (CutAt zone q) e at) x)
 
 pub if_ok : {X E : Type 0} (r : Result X E) (P Q : X → Type 0) → IfOk r P → ((x : X) → P x → Q x) → IfOk r Q
 if_ok (Ok x) P Q h f = f x h
@@ -173,9 +173,9 @@ if_ok (Err e) P Q h f = h
 
 -- what is found below the closest encloser of a name that does not exist
 pub below_encloser : (zone : Zone) (q encloser : DomainName) (t : ℕ) (cut : Option Delegation) (found : Found) (e : IsEncloser zone.sets q encloser) → ¬ (Exists zone.sets q) → cut ≡ None → CutAt zone encloser cut
-    → t ≢ 255 → WildFound zone.sets encloser t found → Answers zone q t (outcome_of q found)
-below_encloser zone q encloser t cut found e apart none at one w =
-    wild_or_not zone q t e.off found e.closest (is_above zone.sets q encloser e apart) (subst (λ (n : DomainName). CutAt zone n None) e.is (subst (CutAt zone encloser) none at)) one
+    → WildFound zone.sets encloser t found → Answers zone q t (outcome_of zone.sets q found)
+below_encloser zone q encloser t cut found e apart none at w =
+    wild_or_not zone q t e.off found e.closest (is_above zone.sets q encloser e apart) (subst (λ (n : DomainName). CutAt zone n None) e.is (subst (CutAt zone encloser) none at))
     (subst (λ (n : DomainName). WildFound zone.sets n t found) e.is w)
 
 -- where the zone is cut above a name that does not exist

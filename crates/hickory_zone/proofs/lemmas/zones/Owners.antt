@@ -3,7 +3,7 @@ use Rattle.std.proofs.Common.{◌≡◌, Bool, true, false, cond, List, [], ◌�
 use Rattle.std.specs.Prelude.{is_some, slice_index_or, IfSome, slice_get}
 use Rattle.std.specs.List.{All, Contains}
 use Rattle.std.specs.Map.{keys_of, lookup}
-use Rattle.std.specs.BTreeMap.{BTreeMap, is_at}
+use Rattle.std.specs.BTreeMap.{is_at}
 use Rattle.std.specs.BTreeMap.Range.{IsLeBy, IsRangeOf, entries_between, range_contains}
 use Rattle.std.specs.declared.alloc.Global.{Global}
 use Rattle.std.specs.declared.ops.Bound.TheVariants.{Included, Unbounded}
@@ -24,11 +24,8 @@ use Rattle.hickory_base.specs.zone_store.ZoneSets.{sets_of}
 use Rattle.hickory_zone.proofs.lemmas.names.Between.{between, encloses_up_to}
 use Rattle.std.specs.Prelude.{◌↔◌}
 use Rattle.hickory_zone.specs.FoundRecords.{IsAbove}
-use Rattle.hickory_zone.specs.KeysBeside.{StandsBehind}
+use Rattle.hickory_zone.specs.KeysBeside.{SharedMap, StandsBehind}
 use Rattle.hickory_zone.specs.Zones.{AreOwners, IsOwner, Exists}
-
-abbrev pub SharedMap : Type 0
-SharedMap = BTreeMap RrKey (Rc RecordSet Global)
 
 abbrev pub Entry : Type 0
 Entry = RrKey × Rc RecordSet Global

@@ -3,24 +3,22 @@ use Rattle.std.proofs.Common.{◌≡◌, ℕ, true, inl, inr, Option, refl, sym,
 use Rattle.hickory_wire.specs.rr.domain.DomainName.{DomainName}
 use Rattle.hickory_wire.specs.declared.rr.rr_key.RrKey.{RrKey}
 use Rattle.hickory_base.specs.zone_store.ZoneSets.{sets_of}
-use Rattle.hickory_zone.proofs.lemmas.zones.Owners.{SharedMap, exists_behind}
+use Rattle.hickory_zone.proofs.lemmas.zones.Owners.{exists_behind}
 use Rattle.hickory_zone.specs.declared.find.Found.{Found}
 use Rattle.hickory_zone.specs.declared.find.Found.TheVariants as found
 use Rattle.hickory_zone.specs.FoundRecords.{IsAbove, WildFound, outcome_of}
-use Rattle.hickory_zone.specs.KeysBeside.{StandsBehind}
-use Rattle.hickory_zone.specs.Zones.{AreOwners, Exists, Records, of_sets, rrset, synthesized, wildcard}
+use Rattle.hickory_zone.specs.KeysBeside.{SharedMap, StandsBehind}
+use Rattle.hickory_zone.specs.Zones.{AreOwners, Exists, at_node, synthesized, wildcard}
 
 module _ (sets : SharedMap) (encloser : DomainName) (t : ℕ) (first : RrKey) (behind : Option RrKey) (is : first.name ≡ wildcard encloser) (least : first.record_type ≡ 0) (qualified : encloser.is_fqdn ≡ true) (b : StandsBehind sets first behind) where
   marked : first.name.is_fqdn ≡ true
   marked = ap (λ (d : DomainName). d.is_fqdn) is ∙ qualified
 
-  pub stands : (found : Found) (wanted alias : Option Records) → IsAbove first.name behind → wanted ≡ rrset (sets_of sets) first.name t → alias ≡ rrset (sets_of sets) first.name 5
-      → ((name : DomainName) → outcome_of name found ≡ synthesized name (of_sets wanted alias)) → (origin : DomainName) → AreOwners origin (sets_of sets) → WildFound (sets_of sets) encloser t found
-  stands found wanted alias above w a says origin owners = inl (
+  pub stands : (found : Found) → IsAbove first.name behind → ((name : DomainName) → outcome_of (sets_of sets) name found ≡ synthesized name (at_node (sets_of sets) first.name t))
+      → (origin : DomainName) → AreOwners origin (sets_of sets) → WildFound (sets_of sets) encloser t found
+  stands found above says origin owners = inl (
     subst (Exists (sets_of sets)) is ((exists_behind sets first behind origin least marked owners b).1 above),
-    λ name. says name
-        ∙ ap (synthesized name)
-        (ap (λ o. of_sets o alias) (w ∙ ap (λ n. rrset (sets_of sets) n t) is) ∙ ap (of_sets (rrset (sets_of sets) (wildcard encloser) t)) (a ∙ ap (λ n. rrset (sets_of sets) n 5) is)),
+    λ name. says name ∙ ap (λ (n : DomainName). synthesized name (at_node (sets_of sets) n t)) is,
   )
 
   pub none_stands : ¬ (IsAbove first.name behind) → (origin : DomainName) → AreOwners origin (sets_of sets) → WildFound (sets_of sets) encloser t found.NoName
