@@ -1,5 +1,5 @@
 -- Worked examples: the zone of RFC 4592 section 2.2.1, one of delegations and aliases, and what is asked of them, written out by hand.
-use Rattle.std.specs.Prelude.{ℕ, List, [], ◌∷◌, codes}
+use Rattle.std.specs.Prelude.{ℕ, [], ◌∷◌, codes}
 use Rattle.hickory_wire.specs.rr.domain.DomainName.{DomainName}
 use Rattle.hickory_wire.specs.worked.Worked.{named, record_of}
 use Rattle.hickory_wire.specs.declared.rr.rdata.RData.{RData}

@@ -1,5 +1,5 @@
 -- From what a chain gave to what the zone answers.
-use Rattle.std.proofs.Common.{◌≡◌, ℕ, true, [], ◌++◌, inl, inr, Result, Ok, refl, sym, ap, subst, ◌∙◌}
+use Rattle.std.proofs.Common.{◌≡◌, ℕ, [], ◌++◌, inl, inr, Result, Ok, refl, sym, ap, subst, ◌∙◌}
 use Rattle.hickory_wire.specs.rr.domain.DomainName.{DomainName}
 use Rattle.hickory_base.specs.declared.errors.LookupError.{LookupError}
 use Rattle.hickory_base.specs.declared.zone_store.lookup.AuthLookup.{AuthLookup}

@@ -1,5 +1,5 @@
 -- All records of a name, by the first key from the name on.
-use Rattle.std.proofs.Common.{◌≡◌, ◌∷◌, [], true, false, cond, Option, Some, None, sym, ap, ◌∙◌}
+use Rattle.std.proofs.Common.{◌≡◌, ◌∷◌, [], true, false, cond, Option, Some, None, ap, ◌∙◌}
 use Rattle.std.specs.List.{flat_map}
 use Rattle.std.specs.Ordering.{is_eq}
 use Rattle.std.proofs.lemmas.List.Elements.{filter_agree}

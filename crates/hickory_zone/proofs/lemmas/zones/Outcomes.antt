@@ -22,7 +22,7 @@ use Rattle.hickory_zone.proofs.lemmas.names.Enclosers.{ancestor-ancestor}
 use Rattle.hickory_zone.specs.declared.find.Delegation.{Delegation}
 use Rattle.hickory_zone.specs.declared.find.Found.{Found}
 use Rattle.hickory_zone.specs.FoundRecords.{CutAt, EndsAt, IsEncloser, WildFound, outcome_of}
-use Rattle.hickory_zone.specs.Zones.{Answers, delegated, at_cut, matched, wild, denied, AreOwners, Delegates, Exists, HasClosestEncloser, IsAuthoritativeAt, IsCut, IsOwner, Outcome, Records, Sets, Zone, ancestor, any_of, at_node, no_name, of_sets, referral, rrset, synthesized, type_any, type_cname, type_ds, wildcard}
+use Rattle.hickory_zone.specs.Zones.{Answers, delegated, at_cut, matched, wild, denied, AreOwners, Delegates, Exists, HasClosestEncloser, IsAuthoritativeAt, IsCut, IsOwner, Outcome, Records, Sets, Zone, ancestor, any_of, at_node, no_name, of_sets, referral, rrset, type_any, type_cname, type_ds, wildcard}
 
 and_first : (a b : Bool) → (a && b) ≡ true → a ≡ true
 and_first true b h = refl
