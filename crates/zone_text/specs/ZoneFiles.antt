@@ -1,10 +1,11 @@
 -- The records of a zone file (RFC 1035 section 5.1).
-use Rattle.std.specs.Prelude.{◌≡◌, ℕ, ◌<◌, ◌⊎◌, ◌-◌, ◌++◌, ◌∷◌, [], true, List, length, get_or, Option, Some, None}
+use Rattle.std.specs.Prelude.{◌≡◌, ℕ, ◌<◌, ◌≤◌, ◌⊎◌, ◌-◌, ◌++◌, ◌∷◌, [], true, List, length, get_or, Option, Some, None}
 use Rattle.hickory_wire.specs.declared.rr.rdata.RData.{RData}
 use Rattle.hickory_wire.specs.declared.rr.record.Record.{Record}
 use Rattle.hickory_wire.specs.declared.rr.record.Proof.TheVariants.{Indeterminate}
 use Rattle.hickory_wire.specs.rr.RecordData.{type_of}
 use Rattle.hickory_wire.specs.rr.domain.DomainName.{DomainName}
+use Rattle.hickory_wire.specs.serialize.writing.RecordSize.{data_len}
 use Rattle.zone_text.specs.declared.zone_file.entry.Entry.{Entry}
 use Rattle.zone_text.specs.declared.zone_file.entry.Entry.TheVariants as entry
 
@@ -16,11 +17,12 @@ pub record IsZoneType (number : ℕ) : Type 0 where
   pub not_meta : (number < 128) ⊎ (255 < number)
 
 -- What every record of a zone file is: its owner name is fully qualified, its class IN, which is 1 (RFC 1035 section 3.2.4), its type one of
--- zones, and of its proof nothing is known.
+-- zones, its data no longer than their length can tell (RFC 1035 section 3.2.1), and of its proof nothing is known.
 pub record IsZoneRecord (r : Record RData) : Type 0 where
   pub qualified : r.name.is_fqdn ≡ true
   pub class_in : r.dns_class ≡ 1
   pub stored : IsZoneType (type_of r.rdata)
+  pub fits : data_len r.rdata ≤ 65535
   pub unproved : r.proof ≡ Indeterminate
 
 -- a blank that parts fields: a space, a tab, or a byte that ends lines (RFC 1035 section 5.1)

@@ -1,14 +1,17 @@
 //! The data of records in text.
 
-ghost use Rattle.std.specs.Prelude.{◌≡◌, IfOk};
+ghost use Rattle.std.specs.Prelude.{◌≡◌, ◌≤◌, IfOk, IfSome};
 ghost use Rattle.hickory_wire.specs.rr.RecordData.{type_of};
+ghost use Rattle.hickory_wire.specs.serialize.writing.RecordSize.{data_len};
 
 use crate::error::{TextError, TextFault};
 use crate::escapes::{MAX_STRING_LEN, read_string};
 use crate::generic::read_generic;
 use crate::names::next_name;
 use crate::words::{Word, Words};
-use hickory_wire::{Boxed, Items, MX, Name, Octets, RData, RecordType, SOA};
+use hickory_wire::{
+    Boxed, DNSClass, Items, MX, Name, Octets, Proof, RData, Record, RecordType, SOA,
+};
 use std::alloc::Global;
 use std::net::{Ipv4Addr, Ipv6Addr};
 
@@ -125,6 +128,31 @@ fn form(
     }
 }
 
+/// What a record of the root takes whose data have all the bytes that their length can tell: its name has one byte, and type, class, TTL and length
+/// have ten (RFC 1035 section 3.2.1).
+const MOST_OF_ROOT: usize = 1 + 10 + 65_535;
+
+/// Data whose length has 16 bits, or `None` where they have more.
+fn fitting(rdata: RData) -> Option<RData>
+    ensures { IfSome result (λ fitting. (fitting ≡ rdata) × (data_len rdata ≤ 65535)) }
+{
+    let record = Record {
+        name: Name::root(),
+        dns_class: DNSClass::IN,
+        ttl: 0,
+        rdata,
+        proof: Proof::Indeterminate,
+    };
+    let fits = record.fits(MOST_OF_ROOT);
+    let Record { rdata, .. } = record;
+    if fits {
+        Some(rdata)
+    } else {
+        drop(rdata);
+        None
+    }
+}
+
 /// The data that stand next, to the end of the line or the entry. Names that are not fully qualified are relative to the origin, and
 /// without one a fault.
 pub(crate) fn data_of(
@@ -133,7 +161,8 @@ pub(crate) fn data_of(
     words: &mut Words<'_>,
     origin: Option<&Name>,
 ) -> Result<RData, TextError>
-    ensures { IfOk result (λ rdata. type_of rdata ≡ record_type) }
+    ensures form { IfOk result (λ rdata. type_of rdata ≡ record_type) }
+    ensures fits { IfOk result (λ rdata. data_len rdata ≤ 65535) }
 {
     let mut ahead = *words;
     let word = ahead.field()?;
@@ -144,7 +173,7 @@ pub(crate) fn data_of(
         form(alloc, record_type, words, origin)?
     };
     words.end()?;
-    Ok(rdata)
+    fitting(rdata).ok_or(word.fault(TextFault::DataTooLong))
 }
 
 /// Reads the data of a record of this type (RFC 1035 section 5.1).
@@ -152,9 +181,10 @@ pub(crate) fn data_of(
 /// A and AAAA have an address, NS, CNAME and PTR a name, MX a number and a name, SOA two names and five numbers, TXT one or more
 /// character strings, in quotes or not. Names are fully qualified. Data of any type may be `\#`, their length, and two hexadecimal digits
 /// for each byte, which blanks may stand between; of a type that has no form of its own here they have to be (RFC 3597 section 5).
-/// Then no bytes are `RData::Update0`, but for an OPT record, and names may not be compressed.
+/// Then no bytes are `RData::Update0`, but for an OPT record, and names may not be compressed. Data have at most 65,535 bytes.
 pub fn read_data(alloc: Global, record_type: RecordType, text: &str) -> Result<RData, TextError>
-    ensures { IfOk result (λ rdata. type_of rdata ≡ record_type) }
+    ensures form { IfOk result (λ rdata. type_of rdata ≡ record_type) }
+    ensures fits { IfOk result (λ rdata. data_len rdata ≤ 65535) }
 {
     data_of(alloc, record_type, &mut Words::new(text), None)
 }

@@ -66,6 +66,9 @@ pub enum TextFault {
     /// The bytes are no data of that type without compression.
     #[error("the bytes are no data of the type")]
     WrongData,
+    /// The data have more bytes than their length can tell (RFC 1035 section 3.2.1).
+    #[error("the data have more than 65535 bytes")]
+    DataTooLong,
     /// Data of the type are written as `\#`, a length and hexadecimal digits alone (RFC 3597 section 5).
     #[error("data of the type are written with \\#")]
     NoTextForm,

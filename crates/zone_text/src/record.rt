@@ -1,6 +1,7 @@
 //! Records in text.
 
-ghost use Rattle.std.specs.Prelude.{◌≡◌, true, IfOk};
+ghost use Rattle.std.specs.Prelude.{◌≡◌, ◌≤◌, true, IfOk};
+ghost use Rattle.hickory_wire.specs.serialize.writing.RecordSize.{data_len};
 ghost use Rattle.hickory_wire.specs.declared.rr.record.Proof.TheVariants.{Indeterminate};
 
 use crate::data::data_of;
@@ -51,6 +52,7 @@ pub fn read_class(text: &str) -> Result<DNSClass, TextError> {
 pub fn read_record(alloc: Global, line: &str) -> Result<Record, TextError>
     ensures owner { IfOk result (λ r. r.name.is_fqdn ≡ true) }
     ensures unproved { IfOk result (λ r. r.proof ≡ Indeterminate) }
+    ensures fits { IfOk result (λ r. data_len r.rdata ≤ 65535) }
 {
     let mut words = Words::new(line);
     let name = next_name(alloc, &mut words, None)?;

@@ -1,7 +1,8 @@
 //! One entry of a zone file (RFC 1035 section 5.1).
 
-ghost use Rattle.std.specs.Prelude.{◌≡◌, ◌↔◌, All, IfOk, IsTrue, true};
+ghost use Rattle.std.specs.Prelude.{◌≡◌, ◌↔◌, ◌≤◌, All, IfOk, IsTrue, true};
 ghost use Rattle.hickory_wire.specs.rr.RecordData.{type_of};
+ghost use Rattle.hickory_wire.specs.serialize.writing.RecordSize.{data_len};
 ghost use Rattle.zone_text.specs.ZoneFiles.{EndsInDot, HasBlankAt, IsEntryAt, IsLastOwner, IsNoRecord, IsRelativeTo, IsZoneRecord, IsZoneType, ttl_in_force};
 
 use crate::data::data_of;
@@ -111,7 +112,8 @@ fn zone_data(
     words: &mut Words<'_>,
     origin: &Name,
 ) -> Result<RData, EntryError>
-    ensures { IfOk result (λ rdata. IsZoneType (type_of rdata)) }
+    ensures stored { IfOk result (λ rdata. IsZoneType (type_of rdata)) }
+    ensures fits { IfOk result (λ rdata. data_len rdata ≤ 65535) }
 {
     let record_type = type_of(word)?;
     if !is_zone_type(record_type) {
