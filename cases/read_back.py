@@ -12,7 +12,8 @@ before, letter case kept, the message has the very same bytes.
 Beside a revision a message says what it said. Where one of the two was cut, its sections are fronts of those of the other, and both counts of
 records are told.
 
-The last line is 'N passed, M failed', counted in outputs; the line above it has the number of messages.
+The last line is 'N passed, M failed', counted in outputs; the line above it has the number of messages. The status is 1 where M is not 0. It runs
+no program: `run` compares these outputs with what the programs print.
 """
 import os
 import re

@@ -8,5 +8,3 @@ mod base;
 mod catalog;
 #[cfg(test)]
 mod store;
-#[cfg(test)]
-mod wire;

@@ -31,31 +31,42 @@ fn offsets(alloc: Global) -> Result<[usize; 2], Fail> {
         additionals: nothing.iter(),
         signature: None,
     };
-    emit_message_parts(&mut encoder, parts)?;
-    Ok([first, encoder.offset()])
+    let written = emit_message_parts(&mut encoder, parts);
+    let offsets = [first, encoder.offset()];
+    drop(encoder);
+    match written {
+        Ok(_) => Ok(offsets),
+        Err(e) => Err(Fail::from(e)),
+    }
 }
 
 #[test]
 fn an_encoder_tells_how_far_it_is(rt: HostRuntime) -> Result<(), Fail> {
-    assert_eq!(rt; offsets(rt.alloc())?, [0, 33]);
+    let found = offsets(rt.alloc())?;
+    assert_eq!(rt; found, [0, 33]);
     Ok(())
 }
 
-/// A record whose text has 256 bytes, one more than a string has in a message.
-fn long_text(alloc: Global) -> Result<Record, Fail> {
+/// A text of 256 bytes, one more than a string has in a message.
+fn long_text(alloc: Global) -> Result<RData, Fail> {
     let mut strings = Items::new(alloc);
     strings.push(Octets::from_slice(alloc, &[b'a'; 256])?)?;
+    Ok(RData::TXT(strings))
+}
+
+/// A record of the root with that text.
+fn long_record(alloc: Global) -> Result<Record, Fail> {
     Ok(Record {
-        name: Name::from_ascii(alloc, "a.")?,
+        name: Name::root(),
         dns_class: DNSClass::IN,
         ttl: 3600,
-        rdata: RData::TXT(strings),
+        rdata: long_text(alloc)?,
         proof: Proof::Indeterminate,
     })
 }
 
-/// Why a reply with these answers cannot be written under a limit.
-fn refusal(alloc: Global, limit: u16, answers: &[Record]) -> Option<ProtoError> {
+/// Whether a reply with these answers cannot be written under a limit, since a string is too long.
+fn is_refused(alloc: Global, limit: u16, answers: &[Record]) -> bool {
     let nothing: &[Record] = &[];
     let mut bytes = Vec::new(alloc);
     let mut encoder = BinEncoder::new(alloc, &mut bytes);
@@ -71,16 +82,26 @@ fn refusal(alloc: Global, limit: u16, answers: &[Record]) -> Option<ProtoError> 
         additionals: nothing.iter(),
         signature: None,
     };
-    emit_message_parts(&mut encoder, parts).err()
+    let written = emit_message_parts(&mut encoder, parts);
+    drop(encoder);
+    matches!(written, Err(ProtoError::CharacterDataTooLong))
+}
+
+/// Whether the long text is refused where there is room for it, and where there is not.
+fn are_refused(alloc: Global) -> Result<[bool; 2], Fail> {
+    let answers = [long_record(alloc)?];
+    let refused = [
+        is_refused(alloc, 512, &answers),
+        is_refused(alloc, 20, &answers),
+    ];
+    drop(answers);
+    Ok(refused)
 }
 
 #[test]
 fn a_long_string_has_no_form_even_where_it_does_not_fit(rt: HostRuntime) -> Result<(), Fail> {
-    let answers = [long_text(rt.alloc())?];
-    for limit in [512, 20] {
-        let found = refusal(rt.alloc(), limit, &answers);
-        assert_eq!(rt; found, Some(ProtoError::CharacterDataTooLong));
-    }
+    let refused = are_refused(rt.alloc())?;
+    assert_eq!(rt; refused, [true; 2]);
     Ok(())
 }
 
@@ -102,10 +123,17 @@ fn encoded(alloc: Global, answers: &[Record]) -> Result<Vec<u8>, ProtoError> {
     Ok(bytes)
 }
 
+/// What a reply with the long text is encoded as.
+fn encoded_long(alloc: Global) -> Result<Vec<u8>, Fail> {
+    let answers = [long_record(alloc)?];
+    let bytes = encoded(alloc, &answers);
+    drop(answers);
+    Ok(bytes?)
+}
+
 #[test]
 fn what_has_no_form_is_a_server_failure(rt: HostRuntime) -> Result<(), Fail> {
-    let answers = [long_text(rt.alloc())?];
-    let bytes = encoded(rt.alloc(), &answers)?;
+    let bytes = encoded_long(rt.alloc())?;
     assert_eq!(rt;
         bytes.as_slice(),
         b"\x00\x07\x80\x02\x00\x00\x00\x00\x00\x00\x00\x00".as_slice()
