@@ -1,5 +1,3 @@
 -- Lemmas by the rooms of the code.
-pub mod op
-pub mod rr
 pub mod serialize
 pub mod worked

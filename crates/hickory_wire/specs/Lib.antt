@@ -1,5 +1,2 @@
-pub mod op
-pub mod rr
 pub mod serialize
-pub mod text
 pub mod worked

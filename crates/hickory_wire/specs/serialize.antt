@@ -1,4 +1,2 @@
 -- Values and the bytes that they stand in.
-pub mod layout
-pub mod reading
 pub mod writing

@@ -1,4 +1,4 @@
-//! From bytes to values, and from values to bytes.
+//! Messages in bytes.
 
 pub mod reading;
 pub mod writing;

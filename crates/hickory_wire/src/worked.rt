@@ -1,21 +1,21 @@
 //! Worked examples: what the definitions say of bytes that were decoded by hand.
 //!
 //! The functions do nothing. Their contracts are the examples, and hold by the definitions alone.
-#![tactic(auto, unfolding(crate::specs::serialize::reading::NameReading::name, crate::specs::serialize::reading::NameReading::labels_from, crate::specs::serialize::reading::NameReading::labels_within, crate::specs::serialize::reading::RecordReading::question, crate::specs::serialize::reading::RecordReading::resource, crate::specs::serialize::reading::RecordReading::record_data, crate::specs::serialize::reading::RecordReading::form, crate::specs::serialize::reading::RecordReading::mx, crate::specs::serialize::reading::RecordReading::soa, crate::specs::serialize::reading::RecordReading::string, crate::specs::serialize::reading::RecordReading::strings_until, crate::specs::serialize::reading::RecordReading::strings_within, crate::specs::serialize::reading::RecordReading::options_of, crate::specs::serialize::reading::RecordReading::options_within, crate::specs::serialize::reading::RecordReading::tsig, crate::specs::serialize::reading::RecordReading::counted_octets, crate::specs::serialize::reading::SectionReading::header, crate::specs::serialize::reading::SectionReading::items, crate::specs::serialize::reading::SectionReading::section_record, crate::specs::serialize::reading::SectionReading::add_record, crate::specs::serialize::reading::SectionReading::additionals_after, crate::specs::serialize::reading::MessageReading::message))]
+#![tactic(auto, unfolding(wire_messages::specs::serialize::reading::NameReading::name, wire_messages::specs::serialize::reading::NameReading::labels_from, wire_messages::specs::serialize::reading::NameReading::labels_within, wire_messages::specs::serialize::reading::RecordReading::question, wire_messages::specs::serialize::reading::RecordReading::resource, wire_messages::specs::serialize::reading::RecordReading::record_data, wire_messages::specs::serialize::reading::RecordReading::form, wire_messages::specs::serialize::reading::RecordReading::mx, wire_messages::specs::serialize::reading::RecordReading::soa, wire_messages::specs::serialize::reading::RecordReading::string, wire_messages::specs::serialize::reading::RecordReading::strings_until, wire_messages::specs::serialize::reading::RecordReading::strings_within, wire_messages::specs::serialize::reading::RecordReading::options_of, wire_messages::specs::serialize::reading::RecordReading::options_within, wire_messages::specs::serialize::reading::RecordReading::tsig, wire_messages::specs::serialize::reading::RecordReading::counted_octets, wire_messages::specs::serialize::reading::SectionReading::header, wire_messages::specs::serialize::reading::SectionReading::items, wire_messages::specs::serialize::reading::SectionReading::section_record, wire_messages::specs::serialize::reading::SectionReading::add_record, wire_messages::specs::serialize::reading::SectionReading::additionals_after, wire_reading::specs::serialize::reading::MessageReading::message))]
 
 ghost use Rattle.std.specs.Prelude.{◌≡◌, ◌∷◌, [], ◌++◌, ℕ, codes, replicate, Err, None, Some};
 ghost use Rattle.hickory_wire.specs.serialize.writing.Decoding.{IsDecodable, decoded_message};
-ghost use Rattle.hickory_wire.specs.rr.domain.DomainName.{DomainName};
-ghost use Rattle.hickory_wire.specs.serialize.layout.HeaderLayout.{HeaderAt, header_octets};
-ghost use Rattle.hickory_wire.specs.serialize.layout.MessageLayout.{MessageAt};
-ghost use Rattle.hickory_wire.specs.serialize.reading.MessageReading.{message, Fault, Reads};
-ghost use Rattle.hickory_wire.specs.serialize.layout.NameLayout.{NameAt, NameFault};
-ghost use Rattle.hickory_wire.specs.serialize.reading.NameReading.{name};
-ghost use Rattle.hickory_wire.specs.serialize.layout.QuestionLayout.{QuestionAt};
-ghost use Rattle.hickory_wire.specs.serialize.layout.RecordLayout.{RecordAt};
-ghost use Rattle.hickory_wire.specs.serialize.reading.RecordReading.{resource};
-ghost use Rattle.hickory_wire.specs.serialize.writing.Reply.{opt_record, size_limit};
-ghost use Rattle.hickory_wire.specs.serialize.reading.SectionReading.{header, section_record, add_record, additionals_after, no_additionals};
+ghost use Rattle.wire_names.specs.rr.domain.DomainName.{DomainName};
+ghost use Rattle.wire_messages.specs.serialize.layout.HeaderLayout.{HeaderAt, header_octets};
+ghost use Rattle.wire_reading.specs.serialize.layout.WholeMessage.{MessageAt};
+ghost use Rattle.wire_reading.specs.serialize.reading.MessageReading.{message, Fault, Reads};
+ghost use Rattle.wire_messages.specs.serialize.layout.NameLayout.{NameAt, NameFault};
+ghost use Rattle.wire_messages.specs.serialize.reading.NameReading.{name};
+ghost use Rattle.wire_messages.specs.serialize.layout.QuestionLayout.{QuestionAt};
+ghost use Rattle.wire_messages.specs.serialize.layout.RecordLayout.{RecordAt};
+ghost use Rattle.wire_messages.specs.serialize.reading.RecordReading.{resource};
+ghost use Rattle.wire_messages.specs.serialize.writing.Reply.{opt_record, size_limit};
+ghost use Rattle.wire_messages.specs.serialize.reading.SectionReading.{header, section_record, add_record, additionals_after, no_additionals};
 ghost use Rattle.hickory_wire.specs.worked.Worked.{ReadsAs, MeetsFault, root, www_name, record_of, com_name, a_com_name, b_a_com_name};
 ghost use Rattle.hickory_wire.specs.worked.Worked.{pointers_in_a_circle, pointer_to_itself, pointer_to_its_labels, pointer_ahead, pointer_to_later_name, pointer_into_header, name_from_header, reserved_code_01, reserved_code_10, longest_name_bytes, longest_name, longest_through_pointer, longest_name_through_pointer, too_long_name, too_long_through_pointer, label_missing, label_cut, end_missing, pointer_cut, names_by_pointers};
 ghost use Rattle.hickory_wire.specs.worked.Worked.{a_record, address, a_record_of_five, a_record_cut, a_record_empty, aaaa_record, long_address, ns_record, cname_record_with_more, exchange, mx_record, soa_record, soa, txt_record, txt_record_with_more, null_record, unknown_record, opt_version_one, opt_malformed, opt_with_nsid, nsid, tsig_empty, tsig_zeros, zero_signature, tsig_bad_time, bad_time, signature_record, sig_empty};
@@ -25,10 +25,10 @@ ghost use Rattle.hickory_wire.specs.worked.Worked.{www_query, www_question, aski
 ghost use Rattle.hickory_wire.specs.worked.WorkedLists.{additions_left_out, five_lists, five_lists_cut, five_lists_in_full, five_lists_truncated, five_lists_whole, formless_and_large};
 ghost use Rattle.hickory_wire.specs.worked.WorkedPointers.{mail_reply, mail_bytes, large_reply, large_bytes, additional_alone};
 ghost use Rattle.hickory_wire.specs.worked.WorkedReplies.{www_answer, www_answer_bytes, www_answer_again, first_owner, www_reply, www_reply_in_full, www_reply_compressed, www_reply_cut, serv_fail, one_answer, answer_left_out, opt_alone, signature_alone, dnssec_ok_reply, dnssec_ok_bytes, bad_version_reply, bad_version_bytes, signed_reply, signed_bytes, long_reply, one_of_three, long_reply_cut, hundred_answers, thirty_of_hundred, thirty_answers, formless_reply};
-ghost use Rattle.hickory_wire.specs.serialize.writing.Writing.{Written, Encoded, PutsRepeating, written_header, fallback_header};
-ghost use Rattle.hickory_wire.specs.declared.error.DecodeError.TheVariants as decode_error;
-ghost use Rattle.hickory_wire.specs.declared.protocol.Protocol.TheVariants as protocol;
-ghost use Rattle.hickory_wire.specs.declared.rr.rdata.RData.TheVariants as rdata;
+ghost use Rattle.wire_writing.specs.serialize.writing.Writing.{Written, Encoded, PutsRepeating, written_header, fallback_header};
+ghost use Rattle.wire_names.specs.declared.error.DecodeError.TheVariants as decode_error;
+ghost use Rattle.wire_messages.specs.declared.protocol.Protocol.TheVariants as protocol;
+ghost use Rattle.wire_messages.specs.declared.rr.rdata.RData.TheVariants as rdata;
 
 /// What names are read as.
 pub fn worked_names()

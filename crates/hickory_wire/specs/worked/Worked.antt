@@ -1,24 +1,24 @@
 -- Worked examples: bytes written out by hand from the RFCs, and the values that stand in them.
 use Rattle.std.specs.Prelude.{◌≡◌, ℕ, List, [], ◌∷◌, ◌++◌, true, false, replicate, Option, Some, None, Ok, Err, codes}
-use Rattle.hickory_wire.specs.rr.Addresses.{ipv4_of}
-use Rattle.hickory_wire.specs.serialize.reading.Cursor.{Cursor}
-use Rattle.hickory_wire.specs.rr.domain.DomainName.{DomainName}
-use Rattle.hickory_wire.specs.op.EdnsFields.{EdnsFields}
-use Rattle.hickory_wire.specs.op.Metadata.{bare_metadata}
-use Rattle.hickory_wire.specs.serialize.reading.Reading.{Read}
-use Rattle.hickory_wire.specs.serialize.reading.SectionReading.{Additionals, no_additionals}
-use Rattle.hickory_wire.specs.declared.op.edns.EdnsOption.{EdnsOption}
-use Rattle.hickory_wire.specs.declared.error.DecodeError.{DecodeError}
-use Rattle.hickory_wire.specs.declared.op.header.Header.{Header}
-use Rattle.hickory_wire.specs.declared.op.header.MessageType.TheVariants as message_type
-use Rattle.hickory_wire.specs.declared.op.header.Metadata.{Metadata}
-use Rattle.hickory_wire.specs.declared.op.message.Message.{Message}
-use Rattle.hickory_wire.specs.declared.op.query.Query.{Query}
-use Rattle.hickory_wire.specs.declared.rr.rdata.RData.{RData}
-use Rattle.hickory_wire.specs.declared.rr.rdata.RData.TheVariants as rdata
-use Rattle.hickory_wire.specs.declared.rr.record.Proof.TheVariants.{Indeterminate}
-use Rattle.hickory_wire.specs.declared.rr.record.Record.{Record}
-use Rattle.hickory_wire.specs.declared.rr.tsig.TSIG.{TSIG}
+use Rattle.wire_messages.specs.rr.Addresses.{ipv4_of}
+use Rattle.wire_messages.specs.serialize.reading.Cursor.{Cursor}
+use Rattle.wire_names.specs.rr.domain.DomainName.{DomainName}
+use Rattle.wire_messages.specs.op.EdnsFields.{EdnsFields}
+use Rattle.wire_messages.specs.op.Metadata.{bare_metadata}
+use Rattle.wire_messages.specs.serialize.reading.Reading.{Read}
+use Rattle.wire_messages.specs.serialize.reading.SectionReading.{Additionals, no_additionals}
+use Rattle.wire_messages.specs.declared.op.edns.EdnsOption.{EdnsOption}
+use Rattle.wire_names.specs.declared.error.DecodeError.{DecodeError}
+use Rattle.wire_messages.specs.declared.op.header.Header.{Header}
+use Rattle.wire_messages.specs.declared.op.header.MessageType.TheVariants as message_type
+use Rattle.wire_messages.specs.declared.op.header.Metadata.{Metadata}
+use Rattle.wire_reading.specs.declared.op.message.Message.{Message}
+use Rattle.wire_messages.specs.declared.op.query.Query.{Query}
+use Rattle.wire_messages.specs.declared.rr.rdata.RData.{RData}
+use Rattle.wire_messages.specs.declared.rr.rdata.RData.TheVariants as rdata
+use Rattle.wire_messages.specs.declared.rr.record.Proof.TheVariants.{Indeterminate}
+use Rattle.wire_messages.specs.declared.rr.record.Record.{Record}
+use Rattle.wire_messages.specs.declared.rr.tsig.TSIG.{TSIG}
 
 -- a place in bytes
 abbrev pub at : List ℕ → ℕ → Cursor

@@ -1,13 +1,13 @@
 -- A reply with all five lists, the SOA behind the authorities, and what may be written of it.
 use Rattle.std.specs.Prelude.{List, ℕ, [], ◌∷◌, ◌++◌, replicate, true, Some, None}
-use Rattle.hickory_wire.specs.serialize.writing.Reply.{Reply}
+use Rattle.wire_messages.specs.serialize.writing.Reply.{Reply}
 use Rattle.hickory_wire.specs.worked.Worked.{root, record_of, address, a_record, response, tsig_zeros, signature_record}
 use Rattle.hickory_wire.specs.worked.WorkedReplies.{all_of, cut_to, dnssec_ok_fields, plain_reply, too_long_string}
-use Rattle.hickory_wire.specs.serialize.writing.Writing.{Fronts}
-use Rattle.hickory_wire.specs.declared.rr.rdata.RData.{RData}
-use Rattle.hickory_wire.specs.declared.rr.rdata.RData.TheVariants as rdata
-use Rattle.hickory_wire.specs.declared.rr.record.Record.{Record}
-use Rattle.hickory_wire.specs.declared.rr.rdata.SOA.{SOA}
+use Rattle.wire_writing.specs.serialize.writing.Writing.{Fronts}
+use Rattle.wire_messages.specs.declared.rr.rdata.RData.{RData}
+use Rattle.wire_messages.specs.declared.rr.rdata.RData.TheVariants as rdata
+use Rattle.wire_messages.specs.declared.rr.record.Record.{Record}
+use Rattle.wire_messages.specs.declared.rr.rdata.SOA.{SOA}
 
 -- records of the root: . 0 IN NS ., an SOA of zeros, and . 0 IN PTR .
 abbrev pub root_server : Record RData

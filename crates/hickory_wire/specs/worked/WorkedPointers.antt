@@ -1,13 +1,13 @@
 -- Worked examples: replies with names by pointers, and behind a record that was left out, by hand from RFC 1035 section 4.1.4.
 use Rattle.std.specs.Prelude.{ℕ, List, [], ◌∷◌, codes, true, None}
-use Rattle.hickory_wire.specs.rr.domain.DomainName.{DomainName}
-use Rattle.hickory_wire.specs.serialize.writing.Reply.{Reply}
+use Rattle.wire_names.specs.rr.domain.DomainName.{DomainName}
+use Rattle.wire_messages.specs.serialize.writing.Reply.{Reply}
 use Rattle.hickory_wire.specs.worked.Worked.{record_of, address, letters, response}
 use Rattle.hickory_wire.specs.worked.WorkedReplies.{all_of, cut_to, fronts_with, plain_reply}
-use Rattle.hickory_wire.specs.serialize.writing.Writing.{Fronts}
-use Rattle.hickory_wire.specs.declared.rr.rdata.RData.{RData}
-use Rattle.hickory_wire.specs.declared.rr.rdata.RData.TheVariants as rdata
-use Rattle.hickory_wire.specs.declared.rr.record.Record.{Record}
+use Rattle.wire_writing.specs.serialize.writing.Writing.{Fronts}
+use Rattle.wire_messages.specs.declared.rr.rdata.RData.{RData}
+use Rattle.wire_messages.specs.declared.rr.rdata.RData.TheVariants as rdata
+use Rattle.wire_messages.specs.declared.rr.record.Record.{Record}
 
 abbrev pub example_name : DomainName
 example_name = record { labels = codes "example" ∷ codes "com" ∷ []; is_fqdn = true }

@@ -1,15 +1,15 @@
 -- Worked examples: replies, and the bytes that they may be written as, by hand from the RFCs.
 use Rattle.std.specs.Prelude.{ℕ, zero, suc, List, [], ◌∷◌, ◌++◌, true, false, replicate, Option, Some, None}
-use Rattle.hickory_wire.specs.rr.Addresses.{ipv4_of}
-use Rattle.hickory_wire.specs.op.EdnsFields.{EdnsFields}
-use Rattle.hickory_wire.specs.serialize.writing.OwnerNames.{OwnerPlace}
-use Rattle.hickory_wire.specs.serialize.writing.Reply.{Reply}
+use Rattle.wire_messages.specs.rr.Addresses.{ipv4_of}
+use Rattle.wire_messages.specs.op.EdnsFields.{EdnsFields}
+use Rattle.wire_writing.specs.serialize.writing.OwnerNames.{OwnerPlace}
+use Rattle.wire_messages.specs.serialize.writing.Reply.{Reply}
 use Rattle.hickory_wire.specs.worked.Worked.{root, www_name, record_of, address, letters, response, saying, tsig_zeros, signature_record}
-use Rattle.hickory_wire.specs.serialize.writing.Writing.{ListFront, Fronts}
-use Rattle.hickory_wire.specs.declared.op.header.Metadata.{Metadata}
-use Rattle.hickory_wire.specs.declared.rr.rdata.RData.{RData}
-use Rattle.hickory_wire.specs.declared.rr.rdata.RData.TheVariants as rdata
-use Rattle.hickory_wire.specs.declared.rr.record.Record.{Record}
+use Rattle.wire_writing.specs.serialize.writing.Writing.{ListFront, Fronts}
+use Rattle.wire_messages.specs.declared.op.header.Metadata.{Metadata}
+use Rattle.wire_messages.specs.declared.rr.rdata.RData.{RData}
+use Rattle.wire_messages.specs.declared.rr.rdata.RData.TheVariants as rdata
+use Rattle.wire_messages.specs.declared.rr.record.Record.{Record}
 
 -- an authoritative response with RD
 abbrev pub www_metadata : Metadata

@@ -1,25 +1,7 @@
 -- Lemmas of what was written: it stands, keeps the limit and reads back.
-pub mod Chained
-pub mod CompressedData
-pub mod CompressedForms
-pub mod FirstPlaces
 pub mod FiveLists
-pub mod FormLengths
-pub mod FullForms
-pub mod LinkedNotes
-pub mod Lookups
-pub mod NameSteps
-pub mod NotedRuns
-pub mod OctetLengths
-pub mod QuestionSteps
-pub mod QuestionsMoved
 pub mod ReadingBack
-pub mod RecordLists
 pub mod RepliesEncoded
-pub mod SameBytes
-pub mod StoredNotes
-pub mod WholeLists
-pub mod WritingFaults
 pub mod WrittenAdditionals
 pub mod WrittenItems
 pub mod WrittenMessage

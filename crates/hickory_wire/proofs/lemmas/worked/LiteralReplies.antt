@@ -1,18 +1,18 @@
 -- Records that are written out, put behind any bytes.
 use Rattle.std.proofs.Common.{◌≡◌, ℕ, zero, suc, ◌+◌, ◌*◌, ◌<◌, ◌≤◌, true, leb, List, [], ◌∷◌, ◌++◌, length, get_or, take, drop, replicate, codes, None, refl, sym, ap, ◌∙◌, arith, append_assoc, length-append, subst}
 use Rattle.std.proofs.lemmas.List.{get_or-append-add, append-nil}
-use Rattle.hickory_wire.specs.serialize.layout.Bytes.{BytesAt}
-use Rattle.hickory_wire.specs.rr.domain.DomainName.{IsLabel}
-use Rattle.hickory_wire.specs.serialize.layout.NameLayout.{LabelsAt, NameAt}
-use Rattle.hickory_wire.specs.serialize.layout.NameLayout.LabelsAt.{at_end, at_label, at_pointer}
+use Rattle.wire_names.specs.serialize.layout.Bytes.{BytesAt}
+use Rattle.wire_names.specs.rr.domain.DomainName.{IsLabel}
+use Rattle.wire_messages.specs.serialize.layout.NameLayout.{LabelsAt, NameAt}
+use Rattle.wire_messages.specs.serialize.layout.NameLayout.LabelsAt.{at_end, at_label, at_pointer}
 use Rattle.hickory_wire.specs.worked.Worked.{root, record_of, address, a_record, www_name}
 use Rattle.hickory_wire.specs.worked.WorkedReplies.{www_answer, www_answer_bytes, answer_by_pointer, repeated, all_of, fronts_with, www_reply, www_reply_in_full}
-use Rattle.hickory_wire.specs.serialize.writing.Writing.{Puts, PutsAll, PutsRepeating, ListWritten, ListsWritten, whole, Written, header_and_questions}
-use Rattle.hickory_wire.specs.serialize.writing.OwnerNames.{OwnerPlace, RepeatsOwner}
-use Rattle.hickory_wire.specs.serialize.writing.Writing.ListsWritten.{none_left, next_list}
-use Rattle.hickory_wire.specs.declared.rr.rdata.RData.{RData}
-use Rattle.hickory_wire.specs.declared.rr.record.Record.{Record}
-use Rattle.hickory_wire.proofs.lemmas.serialize.layout.Stable.{NameAt-keeps, KeepsFrom-append}
+use Rattle.wire_writing.specs.serialize.writing.Writing.{Puts, PutsAll, PutsRepeating, ListWritten, ListsWritten, whole, Written, header_and_questions}
+use Rattle.wire_writing.specs.serialize.writing.OwnerNames.{OwnerPlace, RepeatsOwner}
+use Rattle.wire_writing.specs.serialize.writing.Writing.ListsWritten.{none_left, next_list}
+use Rattle.wire_messages.specs.declared.rr.rdata.RData.{RData}
+use Rattle.wire_messages.specs.declared.rr.record.Record.{Record}
+use Rattle.wire_messages.proofs.lemmas.serialize.layout.Stable.{NameAt-keeps, KeepsFrom-append}
 use Rattle.hickory_wire.proofs.lemmas.worked.Literals.{stands, is_label}
 
 -- of a list with no records nothing is put

@@ -2,14 +2,14 @@
 use Rattle.std.proofs.Common.{◌≡◌, ℕ, ◌+◌, ◌*◌, ◌≤◌, true, ◌&&◌, leb, List, [], ◌∷◌, length, get_or, take, drop, refl, sym, ap, ◌∙◌, arith}
 use Rattle.std.proofs.lemmas.Bool.{leb-true, and_parts}
 use Rattle.std.proofs.lemmas.List.{get_or-drop, get_or-take}
-use Rattle.hickory_wire.specs.serialize.layout.Bytes.{BytesAt}
-use Rattle.hickory_wire.specs.rr.domain.DomainName.{IsLabel}
-use Rattle.hickory_wire.specs.serialize.layout.NameLayout.{LabelsAt, NameAt, LabelsFault}
-use Rattle.hickory_wire.specs.serialize.layout.NameLayout.LabelsAt.{at_end, at_label, at_pointer}
-use Rattle.hickory_wire.specs.serialize.layout.NameLayout.LabelsFault.{after_label, after_pointer}
-use Rattle.hickory_wire.specs.serialize.layout.RecordLayout.{OctetsAt}
+use Rattle.wire_names.specs.serialize.layout.Bytes.{BytesAt}
+use Rattle.wire_names.specs.rr.domain.DomainName.{IsLabel}
+use Rattle.wire_messages.specs.serialize.layout.NameLayout.{LabelsAt, NameAt, LabelsFault}
+use Rattle.wire_messages.specs.serialize.layout.NameLayout.LabelsAt.{at_end, at_label, at_pointer}
+use Rattle.wire_messages.specs.serialize.layout.NameLayout.LabelsFault.{after_label, after_pointer}
+use Rattle.wire_messages.specs.serialize.layout.RecordLayout.{OctetsAt}
 use Rattle.hickory_wire.specs.worked.Worked.{root}
-use Rattle.hickory_wire.specs.declared.error.DecodeError.{DecodeError}
+use Rattle.wire_names.specs.declared.error.DecodeError.{DecodeError}
 
 -- a text, by what is cut out of the bytes
 pub stands : (bytes : List ℕ) (place : ℕ) (text : List ℕ) → leb (place + length text) (length bytes) ≡ true → take (length text) (drop place bytes) ≡ text → BytesAt bytes place text

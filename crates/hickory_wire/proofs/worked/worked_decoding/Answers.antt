@@ -1,9 +1,9 @@
 -- Every premise under which the reply reads back.
 use Rattle.std.proofs.Common.{codes, refl, arith}
-use Rattle.hickory_wire.specs.serialize.reading.MessageReading.{message}
-use Rattle.hickory_wire.specs.serialize.reading.NameReading.{name, labels_from, labels_within}
-use Rattle.hickory_wire.specs.serialize.reading.RecordReading.{question, resource, record_data, form}
-use Rattle.hickory_wire.specs.serialize.reading.SectionReading.{header, items, section_record, additionals_after}
+use Rattle.wire_reading.specs.serialize.reading.MessageReading.{message}
+use Rattle.wire_messages.specs.serialize.reading.NameReading.{name, labels_from, labels_within}
+use Rattle.wire_messages.specs.serialize.reading.RecordReading.{question, resource, record_data, form}
+use Rattle.wire_messages.specs.serialize.reading.SectionReading.{header, items, section_record, additionals_after}
 use Rattle.hickory_wire.specs.worked.Worked.{at}
 use Rattle.hickory_wire.specs.worked.WorkedReplies.{www_reply_in_full}
 use Rattle.hickory_wire.proofs.lemmas.worked.Literals.{stands, end_at, label_at}

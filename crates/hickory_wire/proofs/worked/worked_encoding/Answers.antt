@@ -2,10 +2,10 @@
 use Rattle.std.proofs.Common.{◌++◌, [], refl, arith}
 use Rattle.hickory_wire.specs.worked.Worked.{a_record}
 use Rattle.hickory_wire.specs.worked.WorkedReplies.{all_of, fronts_with, formless_reply, too_long_string}
-use Rattle.hickory_wire.specs.serialize.writing.Writing.{header_and_questions}
-use Rattle.hickory_wire.specs.serialize.writing.Writing.Encoded.{written, too_large, formless}
-use Rattle.hickory_wire.specs.serialize.writing.Writing.ListsWritten.{stuck_list}
-use Rattle.hickory_wire.specs.declared.error.ProtoError.TheVariants.{CharacterDataTooLong}
+use Rattle.wire_writing.specs.serialize.writing.Writing.{header_and_questions}
+use Rattle.wire_writing.specs.serialize.writing.Writing.Encoded.{written, too_large, formless}
+use Rattle.wire_writing.specs.serialize.writing.Writing.ListsWritten.{stuck_list}
+use Rattle.wire_names.specs.declared.error.ProtoError.TheVariants.{CharacterDataTooLong}
 use Rattle.hickory_wire.proofs.lemmas.worked.LiteralReplies.{www_written, one_owner, put_address}
 use Rattle.hickory_wire.proofs.worked.worked_encoding.Goals as goal
 

@@ -1,22 +1,22 @@
 -- A reply with all five lists, each record put in full behind the one before.
 use Rattle.std.proofs.Common.{◌≡◌, ℕ, ◌+◌, ◌^◌, ◌<◌, ◌≤◌, List, [], ◌++◌, length, None, refl, sym, subst, arith}
 use Rattle.std.proofs.lemmas.List.Elements.{All-from_recursion}
-use Rattle.hickory_wire.specs.rr.domain.DomainName.{IsLabel, AreLabels}
-use Rattle.hickory_wire.specs.serialize.writing.FullForm.{HasNames, record_octets}
-use Rattle.hickory_wire.specs.serialize.layout.FieldRanges.{IsRecordInRange}
-use Rattle.hickory_wire.specs.serialize.layout.MessageLayout.{tsig_record}
-use Rattle.hickory_wire.specs.serialize.writing.RecordSize.{data_len, unwritable_reason, full_size}
-use Rattle.hickory_wire.specs.serialize.writing.Reply.{opt_record}
+use Rattle.wire_names.specs.rr.domain.DomainName.{IsLabel, AreLabels}
+use Rattle.wire_messages.specs.serialize.writing.FullForm.{HasNames, record_octets}
+use Rattle.wire_messages.specs.serialize.layout.FieldRanges.{IsRecordInRange}
+use Rattle.wire_messages.specs.serialize.layout.MessageLayout.{tsig_record}
+use Rattle.wire_messages.specs.serialize.writing.RecordSize.{data_len, unwritable_reason, full_size}
+use Rattle.wire_messages.specs.serialize.writing.Reply.{opt_record}
 use Rattle.hickory_wire.specs.worked.Worked.{root, record_of, address, signature_record}
 use Rattle.hickory_wire.specs.worked.WorkedLists.{five_lists, formless_and_large, root_authority, root_pointer, root_server}
 use Rattle.hickory_wire.specs.worked.WorkedReplies.{all_of, fronts_with, dnssec_ok_fields, too_long_string}
-use Rattle.hickory_wire.specs.serialize.writing.Writing.{Puts, header_and_questions}
-use Rattle.hickory_wire.specs.serialize.writing.Writing.Encoded.{formless}
-use Rattle.hickory_wire.specs.serialize.writing.Writing.ListsWritten.{none_left, next_list, stuck_list}
-use Rattle.hickory_wire.specs.declared.error.ProtoError.TheVariants.{CharacterDataTooLong}
-use Rattle.hickory_wire.specs.declared.rr.rdata.RData.{RData}
-use Rattle.hickory_wire.specs.declared.rr.record.Record.{Record}
-use Rattle.hickory_wire.proofs.lemmas.serialize.writing.FullForms.{puts_full}
+use Rattle.wire_writing.specs.serialize.writing.Writing.{Puts, header_and_questions}
+use Rattle.wire_writing.specs.serialize.writing.Writing.Encoded.{formless}
+use Rattle.wire_writing.specs.serialize.writing.Writing.ListsWritten.{none_left, next_list, stuck_list}
+use Rattle.wire_names.specs.declared.error.ProtoError.TheVariants.{CharacterDataTooLong}
+use Rattle.wire_messages.specs.declared.rr.rdata.RData.{RData}
+use Rattle.wire_messages.specs.declared.rr.record.Record.{Record}
+use Rattle.wire_writing.proofs.lemmas.serialize.writing.FullForms.{puts_full}
 use Rattle.hickory_wire.proofs.worked.worked_lists.Goals as goal
 
 no_labels : AreLabels []

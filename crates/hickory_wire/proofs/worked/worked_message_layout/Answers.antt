@@ -1,10 +1,10 @@
 -- A query and its OPT record, section after section.
 use Rattle.std.proofs.Common.{◌∷◌, [], refl, arith}
-use Rattle.hickory_wire.specs.op.Metadata.{bare_metadata}
+use Rattle.wire_messages.specs.op.Metadata.{bare_metadata}
 use Rattle.hickory_wire.specs.worked.Worked.{root, record_of, saying}
-use Rattle.hickory_wire.specs.rr.RecordData.OptionsOf.{well_formed}
-use Rattle.hickory_wire.specs.declared.op.header.MessageType.TheVariants as message_type
-use Rattle.hickory_wire.specs.declared.rr.rdata.RData.TheVariants as rdata
+use Rattle.wire_messages.specs.rr.RecordData.OptionsOf.{well_formed}
+use Rattle.wire_messages.specs.declared.op.header.MessageType.TheVariants as message_type
+use Rattle.wire_messages.specs.declared.rr.rdata.RData.TheVariants as rdata
 use Rattle.hickory_wire.proofs.lemmas.worked.Literals.{stands, root_at, octets_at}
 use Rattle.hickory_wire.proofs.worked.worked_message_layout.Goals as goal
 

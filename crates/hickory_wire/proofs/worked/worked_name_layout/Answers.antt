@@ -1,6 +1,6 @@
 -- Names and their faults, by the rules of the layout.
 use Rattle.std.proofs.Common.{◌∷◌, [], codes, refl, arith}
-use Rattle.hickory_wire.specs.serialize.layout.NameLayout.LabelsFault.{byte_missing, code_unknown, label_missing, too_long, pointer_missing, not_prior}
+use Rattle.wire_messages.specs.serialize.layout.NameLayout.LabelsFault.{byte_missing, code_unknown, label_missing, too_long, pointer_missing, not_prior}
 use Rattle.hickory_wire.specs.worked.Worked as worked
 use Rattle.hickory_wire.specs.worked.Worked.{letters}
 use Rattle.hickory_wire.proofs.lemmas.worked.Literals.{stands, is_label, end_at, label_at, pointer_at, fault_behind_label, fault_behind_pointer}

@@ -1,6 +1,6 @@
 -- An answer behind one of the same owner name.
 use Rattle.std.proofs.Common.{◌≡◌, ℕ, ◌≤◌, List, ◌++◌, codes, get_or, refl, ap, arith}
-use Rattle.hickory_wire.specs.serialize.writing.Writing.{Puts}
+use Rattle.wire_writing.specs.serialize.writing.Writing.{Puts}
 use Rattle.hickory_wire.specs.worked.WorkedReplies.{www_answer, www_answer_bytes, www_answer_again, www_reply_compressed}
 use Rattle.hickory_wire.proofs.lemmas.worked.Literals.{stands, octets_at, end_at, label_at, pointer_at}
 use Rattle.hickory_wire.proofs.lemmas.worked.LiteralReplies.{put_answer}

@@ -1,8 +1,8 @@
 -- An exchange that ends in a pointer, and an additional behind an answer that was left out.
 use Rattle.std.proofs.Common.{◌≡◌, [], drop, codes, refl, arith}
-use Rattle.hickory_wire.specs.serialize.writing.RecordSize.{full_size}
-use Rattle.hickory_wire.specs.serialize.writing.Writing.{Puts, header_and_questions}
-use Rattle.hickory_wire.specs.serialize.writing.Writing.ListsWritten.{none_left, next_list}
+use Rattle.wire_messages.specs.serialize.writing.RecordSize.{full_size}
+use Rattle.wire_writing.specs.serialize.writing.Writing.{Puts, header_and_questions}
+use Rattle.wire_writing.specs.serialize.writing.Writing.ListsWritten.{none_left, next_list}
 use Rattle.hickory_wire.specs.worked.WorkedPointers.{mail_answer, mail_reply, mail_bytes, large_answer, net_address, large_reply, large_bytes}
 use Rattle.hickory_wire.proofs.lemmas.worked.Literals.{stands, octets_at, end_at, label_at, pointer_at}
 use Rattle.hickory_wire.proofs.lemmas.worked.LiteralReplies.{body_of, four_empty, no_records, one_owner}

@@ -1,9 +1,9 @@
 -- Resource records, field after field.
 use Rattle.std.proofs.Common.{◌≡◌, ◌∷◌, [], List, codes, refl, arith}
 use Rattle.std.specs.List.{AllByRecursion, flat_map}
-use Rattle.hickory_wire.specs.rr.RecordData.{option_octets, IsOption}
-use Rattle.hickory_wire.specs.rr.RecordData.OptionsOf.{well_formed, malformed}
-use Rattle.hickory_wire.specs.declared.op.edns.EdnsOption.{EdnsOption}
+use Rattle.wire_messages.specs.rr.RecordData.{option_octets, IsOption}
+use Rattle.wire_messages.specs.rr.RecordData.OptionsOf.{well_formed, malformed}
+use Rattle.wire_messages.specs.declared.op.edns.EdnsOption.{EdnsOption}
 use Rattle.hickory_wire.proofs.lemmas.worked.Literals.{stands, root_at, octets_at, end_at, label_at, pointer_at}
 use Rattle.hickory_wire.proofs.worked.worked_record_layout.Goals as goal
 

@@ -1,14 +1,14 @@
 -- Replies, one list of records after the other.
 use Rattle.std.proofs.Common.{◌≡◌, ℕ, List, [], ◌∷◌, ◌++◌, length, drop, take, replicate, codes, None, refl, sym, ap, arith}
-use Rattle.hickory_wire.specs.serialize.layout.MessageLayout.{tsig_record}
-use Rattle.hickory_wire.specs.serialize.writing.Reply.{opt_record}
+use Rattle.wire_messages.specs.serialize.layout.MessageLayout.{tsig_record}
+use Rattle.wire_messages.specs.serialize.writing.Reply.{opt_record}
 use Rattle.hickory_wire.specs.worked.Worked.{a_record, signature_record}
 use Rattle.hickory_wire.specs.worked.WorkedReplies.{www_answer, www_answer_bytes, www_reply, www_reply_in_full, www_reply_compressed, dnssec_ok_fields, dnssec_ok_reply, dnssec_ok_bytes, bad_version_fields, bad_version_reply, bad_version_bytes, signed_reply, signed_bytes, long_reply, hundred_answers, thirty_answers}
-use Rattle.hickory_wire.specs.serialize.writing.Writing.{Puts, PutsRepeating, ListFront, ListWritten, ListsWritten, cut, ending_of, header_and_questions}
-use Rattle.hickory_wire.specs.serialize.writing.Writing.ListsWritten.{none_left, next_list}
-use Rattle.hickory_wire.specs.serialize.writing.RecordSize.{full_size}
-use Rattle.hickory_wire.specs.declared.rr.rdata.RData.{RData}
-use Rattle.hickory_wire.specs.declared.rr.record.Record.{Record}
+use Rattle.wire_writing.specs.serialize.writing.Writing.{Puts, PutsRepeating, ListFront, ListWritten, ListsWritten, cut, ending_of, header_and_questions}
+use Rattle.wire_writing.specs.serialize.writing.Writing.ListsWritten.{none_left, next_list}
+use Rattle.wire_messages.specs.serialize.writing.RecordSize.{full_size}
+use Rattle.wire_messages.specs.declared.rr.rdata.RData.{RData}
+use Rattle.wire_messages.specs.declared.rr.record.Record.{Record}
 use Rattle.hickory_wire.proofs.lemmas.worked.Literals.{stands, root_at, octets_at, end_at, label_at, pointer_at}
 use Rattle.hickory_wire.proofs.lemmas.worked.LiteralReplies.{no_records, three_empty, four_empty, answered_once, put_answer, put_again, all_put, none_before, one_owner, put_address, body_of, www_written}
 use Rattle.hickory_wire.proofs.worked.worked_replies.Goals as goal

@@ -1,20 +1,20 @@
 -- What reading gives of a reply that was written.
 use Rattle.std.specs.Prelude.{◌≡◌, ℕ, zero, suc, ◌%◌, ◌<◌, ◌^◌, List, ◌++◌, length, take, map, ◌||◌, Option, None, option_map, IfSome}
 use Rattle.std.specs.List.{AllByRecursion}
-use Rattle.hickory_wire.specs.op.EdnsFields.{EdnsFields}
-use Rattle.hickory_wire.specs.serialize.layout.MessageLayout.{ItemsAt, IsPlainRecord, high_code, with_high_code}
-use Rattle.hickory_wire.specs.serialize.layout.QuestionLayout.{QuestionAt, IsFormedQuestion}
-use Rattle.hickory_wire.specs.serialize.layout.FieldRanges.{IsReadAsItsType}
-use Rattle.hickory_wire.specs.serialize.layout.NameLayout.{IsFullyQualified}
-use Rattle.hickory_wire.specs.serialize.writing.Reply.{Reply}
-use Rattle.hickory_wire.specs.serialize.writing.Writing.{Fronts, header_and_questions, is_any_cut}
-use Rattle.hickory_wire.specs.declared.op.header.Metadata.{Metadata}
-use Rattle.hickory_wire.specs.declared.op.message.Message.{Message}
-use Rattle.hickory_wire.specs.declared.op.query.Query.{Query}
-use Rattle.hickory_wire.specs.declared.rr.rdata.RData.{RData}
-use Rattle.hickory_wire.specs.declared.rr.record.Proof.TheVariants.{Indeterminate}
-use Rattle.hickory_wire.specs.declared.rr.record.Record.{Record}
-use Rattle.hickory_wire.specs.declared.rr.tsig.TSIG.{TSIG}
+use Rattle.wire_messages.specs.op.EdnsFields.{EdnsFields}
+use Rattle.wire_messages.specs.serialize.layout.MessageLayout.{ItemsAt, IsPlainRecord, high_code, with_high_code}
+use Rattle.wire_messages.specs.serialize.layout.QuestionLayout.{QuestionAt, IsFormedQuestion}
+use Rattle.wire_messages.specs.serialize.layout.FieldRanges.{IsReadAsItsType}
+use Rattle.wire_messages.specs.serialize.layout.NameLayout.{IsFullyQualified}
+use Rattle.wire_messages.specs.serialize.writing.Reply.{Reply}
+use Rattle.wire_writing.specs.serialize.writing.Writing.{Fronts, header_and_questions, is_any_cut}
+use Rattle.wire_messages.specs.declared.op.header.Metadata.{Metadata}
+use Rattle.wire_reading.specs.declared.op.message.Message.{Message}
+use Rattle.wire_messages.specs.declared.op.query.Query.{Query}
+use Rattle.wire_messages.specs.declared.rr.rdata.RData.{RData}
+use Rattle.wire_messages.specs.declared.rr.record.Proof.TheVariants.{Indeterminate}
+use Rattle.wire_messages.specs.declared.rr.record.Record.{Record}
+use Rattle.wire_messages.specs.declared.rr.tsig.TSIG.{TSIG}
 
 -- the record as it is read: nothing is known of its proof
 abbrev pub without_proof : {R : Type 0} → Record R → Record R

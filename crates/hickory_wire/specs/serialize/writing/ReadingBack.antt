@@ -2,12 +2,12 @@
 use Rattle.std.specs.Prelude.{List, length}
 use Rattle.std.specs.List.{AllByRecursion}
 use Rattle.hickory_wire.specs.serialize.writing.Decoding.{IsDecodable, without_proof}
-use Rattle.hickory_wire.specs.serialize.writing.FullForm.{record_octets}
-use Rattle.hickory_wire.specs.serialize.layout.RecordLayout.{RecordAt}
-use Rattle.hickory_wire.specs.serialize.writing.Reply.{Reply, reply_lists}
-use Rattle.hickory_wire.specs.declared.op.query.Query.{Query}
-use Rattle.hickory_wire.specs.declared.rr.rdata.RData.{RData}
-use Rattle.hickory_wire.specs.declared.rr.record.Record.{Record}
+use Rattle.wire_messages.specs.serialize.writing.FullForm.{record_octets}
+use Rattle.wire_messages.specs.serialize.layout.RecordLayout.{RecordAt}
+use Rattle.wire_messages.specs.serialize.writing.Reply.{Reply, reply_lists}
+use Rattle.wire_messages.specs.declared.op.query.Query.{Query}
+use Rattle.wire_messages.specs.declared.rr.rdata.RData.{RData}
+use Rattle.wire_messages.specs.declared.rr.record.Record.{Record}
 
 -- A record that reads back as itself: of its octets in full, standing alone, just this record is read (RFC 1035 section 4.1.3).
 abbrev pub ReadsBack : Record RData → Type 0

@@ -3,20 +3,20 @@ use Rattle.std.specs.Prelude.{◌≡◌, ℕ, ◌+◌, ◌<◌, ◌||◌, List, 
 use Rattle.std.specs.Borrow.{Bor}
 use Rattle.std.specs.Option.{option_copied}
 use Rattle.hickory_wire.specs.serialize.writing.Decoding.{IsDecodable, decoded_message}
-use Rattle.hickory_wire.specs.serialize.writing.Endings.{Front, GivesRecords}
-use Rattle.hickory_wire.specs.serialize.layout.MessageLayout.{MessageAt}
-use Rattle.hickory_wire.specs.serialize.reading.MessageReading.{Reads}
-use Rattle.hickory_wire.specs.serialize.writing.Reply.{Reply, reply_lists}
-use Rattle.hickory_wire.specs.serialize.writing.Writing.{ListFront, ListsWritten, OwnersRepeat, Fronts, fronts_list, is_any_cut, Written, GetsStuck, Encoded, written_header}
-use Rattle.hickory_wire.specs.declared.error.ProtoError.{ProtoError}
-use Rattle.hickory_wire.specs.declared.error.ProtoError.TheVariants.{MaxSizeExceeded}
-use Rattle.hickory_wire.specs.declared.op.header.Header.{Header}
-use Rattle.hickory_wire.specs.declared.op.header.Metadata.{Metadata}
+use Rattle.wire_writing.specs.serialize.writing.Endings.{Front, GivesRecords}
+use Rattle.wire_reading.specs.serialize.layout.WholeMessage.{MessageAt}
+use Rattle.wire_reading.specs.serialize.reading.MessageReading.{Reads}
+use Rattle.wire_messages.specs.serialize.writing.Reply.{Reply, reply_lists}
+use Rattle.wire_writing.specs.serialize.writing.Writing.{ListFront, ListsWritten, OwnersRepeat, Fronts, fronts_list, is_any_cut, Written, GetsStuck, Encoded, written_header}
+use Rattle.wire_names.specs.declared.error.ProtoError.{ProtoError}
+use Rattle.wire_names.specs.declared.error.ProtoError.TheVariants.{MaxSizeExceeded}
+use Rattle.wire_messages.specs.declared.op.header.Header.{Header}
+use Rattle.wire_messages.specs.declared.op.header.Metadata.{Metadata}
 use Rattle.hickory_wire.specs.declared.serialize.writing.message_encoder.ReplyParts.{ReplyParts}
 use Rattle.hickory_wire.specs.declared.serialize.writing.message_encoder.Sections.{Sections}
-use Rattle.hickory_wire.specs.declared.op.query.Query.{Query}
-use Rattle.hickory_wire.specs.declared.rr.rdata.RData.{RData}
-use Rattle.hickory_wire.specs.declared.rr.record.Record.{Record}
+use Rattle.wire_messages.specs.declared.op.query.Query.{Query}
+use Rattle.wire_messages.specs.declared.rr.rdata.RData.{RData}
+use Rattle.wire_messages.specs.declared.rr.record.Record.{Record}
 
 -- the records of the four lists
 pub record RecordLists : Type 0 where

@@ -2,26 +2,26 @@
 
 ghost use Rattle.std.specs.Prelude.{◌≡◌, ◌≤◌, ◌+◌, ◌⊎◌, ◌↔◌, ◌++◌, ℕ, List, [], length, replicate, slice_range, take, None, Ok};
 ghost use Rattle.std.specs.List.{AllByRecursion, flat_map};
-ghost use Rattle.hickory_wire.specs.serialize.layout.Bytes.{AreBytes, BytesAt, KeepsFrom};
-ghost use Rattle.hickory_wire.specs.serialize.reading.Cursor.{Cursor};
-ghost use Rattle.hickory_wire.specs.rr.domain.DomainName.{AreLabels, name_len};
-ghost use Rattle.hickory_wire.specs.serialize.writing.FullForm.{HasNames, record_octets};
-ghost use Rattle.hickory_wire.specs.serialize.layout.FieldRanges.{IsReadAsItsType, IsRecordInRange};
-ghost use Rattle.hickory_wire.specs.serialize.layout.MessageLayout.{ItemsAt};
-ghost use Rattle.hickory_wire.specs.serialize.layout.NameLayout.{IsFullyQualified};
-ghost use Rattle.hickory_wire.specs.serialize.writing.QuestionForm.{question_octets};
-ghost use Rattle.hickory_wire.specs.serialize.layout.QuestionLayout.{QuestionAt, IsFormedQuestion};
+ghost use Rattle.wire_names.specs.serialize.layout.Bytes.{AreBytes, BytesAt, KeepsFrom};
+ghost use Rattle.wire_messages.specs.serialize.reading.Cursor.{Cursor};
+ghost use Rattle.wire_names.specs.rr.domain.DomainName.{AreLabels, name_len};
+ghost use Rattle.wire_messages.specs.serialize.writing.FullForm.{HasNames, record_octets};
+ghost use Rattle.wire_messages.specs.serialize.layout.FieldRanges.{IsReadAsItsType, IsRecordInRange};
+ghost use Rattle.wire_messages.specs.serialize.layout.MessageLayout.{ItemsAt};
+ghost use Rattle.wire_messages.specs.serialize.layout.NameLayout.{IsFullyQualified};
+ghost use Rattle.wire_messages.specs.serialize.writing.QuestionForm.{question_octets};
+ghost use Rattle.wire_messages.specs.serialize.layout.QuestionLayout.{QuestionAt, IsFormedQuestion};
 ghost use Rattle.hickory_wire.specs.serialize.writing.ReadingBack.{ReadsBack};
-ghost use Rattle.hickory_wire.specs.rr.RecordData.{OptionsOf};
-ghost use Rattle.hickory_wire.specs.serialize.layout.RecordLayout.{FormAt, IsFormedRecord, RecordAt};
-ghost use Rattle.hickory_wire.specs.serialize.reading.RecordReading.{options_of, question, resource};
-ghost use Rattle.hickory_wire.specs.serialize.writing.RecordSize.{unwritable_reason, full_size};
-ghost use Rattle.hickory_wire.specs.declared.op.edns.EdnsOption.{EdnsOption};
-ghost use Rattle.hickory_wire.specs.declared.op.query.Query.{Query};
-ghost use Rattle.hickory_wire.specs.declared.rr.rdata.RData.{RData};
-ghost use Rattle.hickory_wire.specs.declared.rr.rdata.RData.TheVariants.{OPT};
-ghost use Rattle.hickory_wire.specs.declared.rr.record.Proof.TheVariants.{Indeterminate};
-ghost use Rattle.hickory_wire.specs.declared.rr.record.Record.{Record};
+ghost use Rattle.wire_messages.specs.rr.RecordData.{OptionsOf};
+ghost use Rattle.wire_messages.specs.serialize.layout.RecordLayout.{FormAt, IsFormedRecord, RecordAt};
+ghost use Rattle.wire_messages.specs.serialize.reading.RecordReading.{options_of, question, resource};
+ghost use Rattle.wire_messages.specs.serialize.writing.RecordSize.{unwritable_reason, full_size};
+ghost use Rattle.wire_messages.specs.declared.op.edns.EdnsOption.{EdnsOption};
+ghost use Rattle.wire_messages.specs.declared.op.query.Query.{Query};
+ghost use Rattle.wire_messages.specs.declared.rr.rdata.RData.{RData};
+ghost use Rattle.wire_messages.specs.declared.rr.rdata.RData.TheVariants.{OPT};
+ghost use Rattle.wire_messages.specs.declared.rr.record.Proof.TheVariants.{Indeterminate};
+ghost use Rattle.wire_messages.specs.declared.rr.record.Record.{Record};
 
 /// A record and a question stay where they are when bytes are put behind them or bytes below their floor change.
 pub fn form_keeps()

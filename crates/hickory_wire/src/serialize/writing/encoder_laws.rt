@@ -1,17 +1,17 @@
 //! Laws of replies that are written, each the contract of a function with nothing to do.
 
 ghost use Rattle.std.specs.Prelude.{◌≡◌, ◌+◌, ℕ, List, ◌<◌, ◌≤◌, ◌^◌, length, max};
-ghost use Rattle.hickory_wire.specs.serialize.layout.Bytes.{AreBytes};
+ghost use Rattle.wire_names.specs.serialize.layout.Bytes.{AreBytes};
 ghost use Rattle.hickory_wire.specs.serialize.writing.Decoding.{IsDecodable, decoded_message};
-ghost use Rattle.hickory_wire.specs.serialize.layout.MessageLayout.{MessageAt};
-ghost use Rattle.hickory_wire.specs.serialize.reading.MessageReading.{Reads};
+ghost use Rattle.wire_reading.specs.serialize.layout.WholeMessage.{MessageAt};
+ghost use Rattle.wire_reading.specs.serialize.reading.MessageReading.{Reads};
 ghost use Rattle.hickory_wire.specs.serialize.writing.ReadingBack.{ReplyReadsBack};
-ghost use Rattle.hickory_wire.specs.serialize.writing.Reply.{Reply};
-ghost use Rattle.hickory_wire.specs.serialize.writing.WholeReply.{FitsWhole, IsWhole};
-ghost use Rattle.hickory_wire.specs.serialize.writing.Writing.{Encoded, Fronts, GetsStuck, Written, written_header};
-ghost use Rattle.hickory_wire.specs.declared.error.ProtoError.{ProtoError};
-ghost use Rattle.hickory_wire.specs.declared.op.header.Header.{Header};
-ghost use Rattle.hickory_wire.specs.declared.op.query.Query.{Query};
+ghost use Rattle.wire_messages.specs.serialize.writing.Reply.{Reply};
+ghost use Rattle.wire_writing.specs.serialize.writing.WholeReply.{FitsWhole, IsWhole};
+ghost use Rattle.wire_writing.specs.serialize.writing.Writing.{Encoded, Fronts, GetsStuck, Written, written_header};
+ghost use Rattle.wire_names.specs.declared.error.ProtoError.{ProtoError};
+ghost use Rattle.wire_messages.specs.declared.op.header.Header.{Header};
+ghost use Rattle.wire_messages.specs.declared.op.query.Query.{Query};
 
 /// A reply has at most as many bytes as the limit, and what stands in its place has twelve.
 pub fn what_is_written_keeps_the_limit()

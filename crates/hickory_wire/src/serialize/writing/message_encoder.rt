@@ -2,27 +2,27 @@
 
 ghost use Rattle.std.specs.Prelude.{◌≡◌, ℕ, ◌+◌, ◌≤◌, ◌<◌, ◌↔◌, ◌≢◌, ◌++◌, [], length, replicate, OnOk, OnErr, IfOk, IfErr, IsTrue};
 ghost use Rattle.std.specs.Iterator.{IsFinite};
-ghost use Rattle.hickory_wire.specs.serialize.layout.Bytes.{AreBytes};
+ghost use Rattle.wire_names.specs.serialize.layout.Bytes.{AreBytes};
 ghost use Rattle.hickory_wire.specs.serialize.writing.Encoder.{written_bytes, max_size, IsSameVector};
-ghost use Rattle.hickory_wire.specs.serialize.layout.HeaderLayout.{header_octets};
-ghost use Rattle.hickory_wire.specs.serialize.writing.Writing.{fallback_header};
+ghost use Rattle.wire_messages.specs.serialize.layout.HeaderLayout.{header_octets};
+ghost use Rattle.wire_writing.specs.serialize.writing.Writing.{fallback_header};
 ghost use Rattle.hickory_wire.specs.serialize.writing.ReplyParts.{GivesLists, RecordLists, CannotBeWritten, ReplyEncoded, ReplyWritten, WritesLists, header_by, reply_of};
 
-use crate::error::ProtoError;
-use crate::op::edns::Edns;
-use crate::op::header::{Header, HeaderCounts, MessageType, Metadata};
-use crate::op::op_code::OpCode;
-use crate::op::response_code::ResponseCode;
-use crate::rr::record::Record;
-use crate::rr::tsig::TSIG;
-use crate::serialize::writing::compression_table::CompressionTable;
 use crate::serialize::writing::encoder::BinEncoder;
-use crate::serialize::writing::header_encoder::{header_bytes, put_header};
-use crate::serialize::writing::list_encoder::{
+use std::alloc::{AllocError, Global};
+use wire_messages::op::edns::Edns;
+use wire_messages::op::header::{Header, HeaderCounts, MessageType, Metadata};
+use wire_messages::op::op_code::OpCode;
+use wire_messages::op::response_code::ResponseCode;
+use wire_messages::rr::record::Record;
+use wire_messages::rr::tsig::TSIG;
+use wire_names::error::ProtoError;
+use wire_writing::serialize::writing::compression_table::CompressionTable;
+use wire_writing::serialize::writing::header_encoder::{header_bytes, put_header};
+use wire_writing::serialize::writing::list_encoder::{
     Stops, drain, write_list, write_optional_edns, write_optional_signature,
 };
-use crate::serialize::writing::question_notes::note_question;
-use std::alloc::{AllocError, Global};
+use wire_writing::serialize::writing::question_notes::note_question;
 
 // Room for most replies at once: what a reply over UDP may have without EDNS (RFC 1035 section 4.2.1).
 const FIRST_CAPACITY: usize = 512;

@@ -6,13 +6,13 @@ use Rattle.std.specs.Borrow.{Bor}
 use Rattle.std.specs.Iterator.Runs.{SomeRun, EachRunFrom, IsChainRun}
 use Rattle.std.specs.Iterator.Adapters.{chain_steps}
 use Rattle.std.specs.declared.iter.Chain.{Chain}
-use Rattle.hickory_wire.specs.serialize.writing.Endings.{Front, GivesRecords, ListFollows}
+use Rattle.wire_writing.specs.serialize.writing.Endings.{Front, GivesRecords, ListFollows}
 use Rattle.hickory_wire.specs.serialize.writing.ReplyParts.{seen_front}
-use Rattle.hickory_wire.specs.serialize.writing.Writing.{ListFront, ListsWritten}
-use Rattle.hickory_wire.specs.serialize.writing.Writing.ListsWritten.{none_left}
-use Rattle.hickory_wire.specs.declared.rr.rdata.RData.{RData}
-use Rattle.hickory_wire.specs.declared.rr.record.Record.{Record}
-use Rattle.hickory_wire.proofs.lemmas.serialize.writing.Chained.{chained}
+use Rattle.wire_writing.specs.serialize.writing.Writing.{ListFront, ListsWritten}
+use Rattle.wire_writing.specs.serialize.writing.Writing.ListsWritten.{none_left}
+use Rattle.wire_messages.specs.declared.rr.rdata.RData.{RData}
+use Rattle.wire_messages.specs.declared.rr.record.Record.{Record}
+use Rattle.wire_writing.proofs.lemmas.serialize.writing.Chained.{chained}
 
 -- five lists that follow one another
 pub five_lists : (limit : ℕ) (b0 b1 b2 b3 b4 b5 : List ℕ) (l1 l2 l3 l4 l5 : List (Record RData)) (f1 f2 f3 f4 f5 : Front) → ListFollows limit None b0 l1 b1 f1 → ListFollows limit f1.fault b1 l2 b2 f2 → ListFollows limit f2.fault b2 l3 b3 f3 → ListFollows limit f3.fault b3 l4 b4 f4 → ListFollows limit f4.fault b4 l5 b5 f5

@@ -4,35 +4,35 @@ use Rattle.std.proofs.lemmas.Bool.{le-ltb, lt-leb}
 use Rattle.std.proofs.lemmas.List.Elements.{All-from_recursion}
 use Rattle.std.specs.Prelude.{slice_index}
 use Rattle.std.specs.List.{AllByRecursion, list_any}
-use Rattle.hickory_wire.specs.serialize.layout.Bytes.{BytesAt}
+use Rattle.wire_names.specs.serialize.layout.Bytes.{BytesAt}
 use Rattle.hickory_wire.specs.serialize.writing.Decoding.{without_proof, decoded_message}
-use Rattle.hickory_wire.specs.rr.domain.DomainName.{DomainName, IsLabel, AreLabels, name_len}
-use Rattle.hickory_wire.specs.serialize.writing.FullForm.{record_octets, HasNames}
-use Rattle.hickory_wire.specs.serialize.layout.MessageLayout.{MessageAt}
-use Rattle.hickory_wire.specs.serialize.layout.NameLayout.{LabelsAt, NameAt}
-use Rattle.hickory_wire.specs.serialize.layout.NameLayout.LabelsAt.{at_end, at_label, at_pointer}
+use Rattle.wire_names.specs.rr.domain.DomainName.{DomainName, IsLabel, AreLabels, name_len}
+use Rattle.wire_messages.specs.serialize.writing.FullForm.{record_octets, HasNames}
+use Rattle.wire_reading.specs.serialize.layout.WholeMessage.{MessageAt}
+use Rattle.wire_messages.specs.serialize.layout.NameLayout.{LabelsAt, NameAt}
+use Rattle.wire_messages.specs.serialize.layout.NameLayout.LabelsAt.{at_end, at_label, at_pointer}
 use Rattle.hickory_wire.specs.serialize.writing.ReadingBack.{ReadsBack, ReplyReadsBack}
-use Rattle.hickory_wire.specs.rr.RecordData.{IsOption, OptionsOf}
-use Rattle.hickory_wire.specs.rr.RecordData.OptionsOf.{well_formed, malformed}
-use Rattle.hickory_wire.specs.serialize.layout.RecordLayout.{DataRead, IsFormed, IsFormedRecord}
-use Rattle.hickory_wire.specs.serialize.writing.RecordSize.{data_len, unwritable_reason}
-use Rattle.hickory_wire.specs.serialize.writing.Reply.{Reply, reply_lists}
-use Rattle.hickory_wire.specs.serialize.writing.WholeReply.{HasForm}
-use Rattle.hickory_wire.specs.serialize.writing.Writing.{Encoded, Fronts, GetsStuck, ListFront, ListsWritten, Written, written_header}
-use Rattle.hickory_wire.specs.serialize.writing.Writing.Encoded.{written, too_large, formless}
-use Rattle.hickory_wire.specs.serialize.writing.Writing.ListsWritten.{none_left, next_list, stuck_list}
-use Rattle.hickory_wire.specs.declared.op.edns.EdnsOption.{EdnsOption}
-use Rattle.hickory_wire.specs.declared.error.ProtoError.{ProtoError}
-use Rattle.hickory_wire.specs.declared.op.header.Header.{Header}
-use Rattle.hickory_wire.specs.declared.op.query.Query.{Query}
-use Rattle.hickory_wire.specs.declared.rr.rdata.RData.{RData}
-use Rattle.hickory_wire.specs.declared.rr.rdata.RData.TheVariants as rdata
-use Rattle.hickory_wire.specs.declared.rr.record.Record.{Record}
-use Rattle.hickory_wire.proofs.lemmas.serialize.writing.FormLengths.{small_form}
-use Rattle.hickory_wire.proofs.lemmas.serialize.writing.FullForms.{record_octets-len, record_stands}
-use Rattle.hickory_wire.proofs.lemmas.serialize.writing.OctetLengths.{fits}
-use Rattle.hickory_wire.proofs.lemmas.serialize.reading.RecordsAgree.{formed_record}
-use Rattle.hickory_wire.proofs.lemmas.serialize.writing.WholeLists.{formless_none}
+use Rattle.wire_messages.specs.rr.RecordData.{IsOption, OptionsOf}
+use Rattle.wire_messages.specs.rr.RecordData.OptionsOf.{well_formed, malformed}
+use Rattle.wire_messages.specs.serialize.layout.RecordLayout.{DataRead, IsFormed, IsFormedRecord}
+use Rattle.wire_messages.specs.serialize.writing.RecordSize.{data_len, unwritable_reason}
+use Rattle.wire_messages.specs.serialize.writing.Reply.{Reply, reply_lists}
+use Rattle.wire_writing.specs.serialize.writing.WholeReply.{HasForm}
+use Rattle.wire_writing.specs.serialize.writing.Writing.{Encoded, Fronts, GetsStuck, ListFront, ListsWritten, Written, written_header}
+use Rattle.wire_writing.specs.serialize.writing.Writing.Encoded.{written, too_large, formless}
+use Rattle.wire_writing.specs.serialize.writing.Writing.ListsWritten.{none_left, next_list, stuck_list}
+use Rattle.wire_messages.specs.declared.op.edns.EdnsOption.{EdnsOption}
+use Rattle.wire_names.specs.declared.error.ProtoError.{ProtoError}
+use Rattle.wire_messages.specs.declared.op.header.Header.{Header}
+use Rattle.wire_messages.specs.declared.op.query.Query.{Query}
+use Rattle.wire_messages.specs.declared.rr.rdata.RData.{RData}
+use Rattle.wire_messages.specs.declared.rr.rdata.RData.TheVariants as rdata
+use Rattle.wire_messages.specs.declared.rr.record.Record.{Record}
+use Rattle.wire_writing.proofs.lemmas.serialize.writing.FormLengths.{small_form}
+use Rattle.wire_writing.proofs.lemmas.serialize.writing.FullForms.{record_octets-len, record_stands}
+use Rattle.wire_messages.proofs.lemmas.serialize.writing.OctetLengths.{fits}
+use Rattle.wire_reading.proofs.lemmas.serialize.reading.RecordsAgree.{formed_record}
+use Rattle.wire_writing.proofs.lemmas.serialize.writing.WholeLists.{formless_none}
 use Rattle.hickory_wire.proofs.lemmas.serialize.writing.WrittenMessage.{message_stands}
 
 -- ---- names

@@ -1,17 +1,15 @@
 -- Replies that were encoded: written, or in the place of one that was refused.
-use Rattle.std.proofs.Common.{◌≡◌, inl, inr, ℕ, ◌<◌, ◌^◌, List, length, get_or, refl, sym, subst, arith}
-use Rattle.std.proofs.lemmas.Bool.{cases_lt}
-use Rattle.std.proofs.lemmas.List.{get_or_past}
-use Rattle.hickory_wire.specs.serialize.layout.Bytes.{AreBytes}
-use Rattle.hickory_wire.specs.serialize.layout.HeaderLayout.{header_octets}
-use Rattle.hickory_wire.specs.serialize.writing.Reply.{Reply}
+use Rattle.std.proofs.Common.{◌≡◌, ℕ, ◌<◌, ◌^◌, List, refl, sym, subst}
+use Rattle.wire_names.specs.serialize.layout.Bytes.{AreBytes}
+use Rattle.wire_messages.specs.serialize.layout.HeaderLayout.{header_octets}
+use Rattle.wire_messages.specs.serialize.writing.Reply.{Reply}
 use Rattle.hickory_wire.specs.serialize.writing.ReplyParts.{ReplyWritten, ReplyEncoded, CannotBeWritten, SumsUp, header_by}
 use Rattle.hickory_wire.specs.serialize.writing.ReplyParts.CannotBeWritten.{too_large as refused_large, formless as refused_formless}
-use Rattle.hickory_wire.specs.serialize.writing.Writing.{Encoded, Fronts, fallback_header, header_with}
-use Rattle.hickory_wire.specs.serialize.writing.Writing.Encoded.{written, too_large, formless}
-use Rattle.hickory_wire.specs.declared.error.ProtoError.{ProtoError}
-use Rattle.hickory_wire.specs.declared.op.header.Header.{Header}
-use Rattle.hickory_wire.specs.declared.op.header.Metadata.{Metadata}
+use Rattle.wire_writing.specs.serialize.writing.Writing.{Encoded, Fronts, fallback_header, header_with}
+use Rattle.wire_writing.specs.serialize.writing.Writing.Encoded.{written, too_large, formless}
+use Rattle.wire_names.specs.declared.error.ProtoError.{ProtoError}
+use Rattle.wire_messages.specs.declared.op.header.Header.{Header}
+use Rattle.wire_messages.specs.declared.op.header.Metadata.{Metadata}
 use Rattle.hickory_wire.specs.declared.serialize.writing.message_encoder.Sections.{Sections}
 use Rattle.hickory_wire.proofs.lemmas.serialize.writing.WrittenMessage.{message_stands, written_reads}
 
@@ -31,10 +29,3 @@ reply_encoded limit reply bytes header small are e = record { encoded = e; stand
 -- what is told of the sections makes the header of what was written
 pub summed_header : (metadata : Metadata) (question_count : ℕ) (s : Sections) (fronts : Fronts) → SumsUp s fronts → header_by metadata question_count s ≡ header_with metadata question_count fronts
 summed_header metadata question_count s fronts sums = rw (sums.answers, sums.authorities, sums.additionals, sums.is_cut) refl
-
--- the elements of a vector of bytes are bytes
-pub are_bytes : (bytes : List ℕ) → ((i d : ℕ) → i < length bytes → get_or bytes i d < 256) → AreBytes bytes
-are_bytes bytes h k = elim (cases_lt k (length bytes)) [
-  | inl lt ↦ h k 0 lt
-  | inr le ↦ rw (get_or_past bytes k 0 le) (omega arith)
-]

@@ -5,18 +5,18 @@ use Rattle.std.specs.List.{AllByRecursion}
 use Rattle.std.proofs.lemmas.List.{append-nil}
 use Rattle.std.proofs.lemmas.List.Elements.{filter-append}
 use Rattle.hickory_wire.specs.serialize.writing.Decoding.{without_proof, front_of_option, IsFormedEdns, IsReadableSignature}
-use Rattle.hickory_wire.specs.op.EdnsFields.{EdnsFields}
-use Rattle.hickory_wire.specs.serialize.layout.FieldRanges.{IsRecordInRange}
-use Rattle.hickory_wire.specs.serialize.layout.HeaderLayout.{flag}
-use Rattle.hickory_wire.specs.serialize.layout.MessageLayout.{ItemsAt, IsPlainRecord, is_opt, is_tsig, HasEdns, AdditionalSection, tsig_record, edns_of}
-use Rattle.hickory_wire.specs.rr.RecordData.{type_of}
-use Rattle.hickory_wire.specs.serialize.layout.RecordLayout.{FormAt, RecordAt, IsFormedRecord}
-use Rattle.hickory_wire.specs.serialize.writing.Reply.{opt_record}
-use Rattle.hickory_wire.specs.declared.rr.rdata.RData.{RData}
-use Rattle.hickory_wire.specs.declared.rr.record.Record.{Record}
-use Rattle.hickory_wire.specs.declared.rr.tsig.TSIG.{TSIG}
-use Rattle.hickory_wire.proofs.lemmas.serialize.layout.Ranges.{record_formed}
-use Rattle.hickory_wire.proofs.lemmas.serialize.reading.RecordsAgree.{formed_record}
+use Rattle.wire_messages.specs.op.EdnsFields.{EdnsFields}
+use Rattle.wire_messages.specs.serialize.layout.FieldRanges.{IsRecordInRange}
+use Rattle.wire_messages.specs.serialize.layout.HeaderLayout.{flag}
+use Rattle.wire_messages.specs.serialize.layout.MessageLayout.{ItemsAt, IsPlainRecord, is_opt, is_tsig, HasEdns, AdditionalSection, tsig_record, edns_of}
+use Rattle.wire_messages.specs.rr.RecordData.{type_of}
+use Rattle.wire_messages.specs.serialize.layout.RecordLayout.{FormAt, RecordAt, IsFormedRecord}
+use Rattle.wire_messages.specs.serialize.writing.Reply.{opt_record}
+use Rattle.wire_messages.specs.declared.rr.rdata.RData.{RData}
+use Rattle.wire_messages.specs.declared.rr.record.Record.{Record}
+use Rattle.wire_messages.specs.declared.rr.tsig.TSIG.{TSIG}
+use Rattle.wire_messages.proofs.lemmas.serialize.layout.Ranges.{record_formed}
+use Rattle.wire_reading.proofs.lemmas.serialize.reading.RecordsAgree.{formed_record}
 use Rattle.hickory_wire.proofs.lemmas.serialize.writing.WrittenItems.{form_without_proof, readable_formed}
 
 -- a set flag is a bit

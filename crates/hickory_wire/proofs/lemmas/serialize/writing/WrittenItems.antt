@@ -1,22 +1,22 @@
 -- Records that were put stand one behind the other, and as they are read.
 use Rattle.std.proofs.Common.{ℕ, zero, suc, ◌+◌, ◌≤◌, List, [], ◌∷◌, ◌++◌, length, map, take, refl, sym, ap, subst, arith}
 use Rattle.std.specs.List.{AllByRecursion}
-use Rattle.hickory_wire.specs.serialize.layout.Bytes.{KeepsFrom}
+use Rattle.wire_names.specs.serialize.layout.Bytes.{KeepsFrom}
 use Rattle.hickory_wire.specs.serialize.writing.Decoding.{without_proof, IsReadable}
-use Rattle.hickory_wire.specs.serialize.layout.FieldRanges.{IsRecordInRange, IsReadAsItsType}
-use Rattle.hickory_wire.specs.serialize.layout.NameLayout.{IsFullyQualified}
-use Rattle.hickory_wire.specs.serialize.layout.MessageLayout.{ItemsAt, IsPlainRecord, QuestionRead}
-use Rattle.hickory_wire.specs.serialize.layout.QuestionLayout.{QuestionAt, IsFormedQuestion}
-use Rattle.hickory_wire.specs.serialize.layout.RecordLayout.{FormAt, IsFormedRecord, RecordAt}
-use Rattle.hickory_wire.specs.serialize.writing.Writing.{Puts, PutsAll}
-use Rattle.hickory_wire.specs.declared.op.query.Query.{Query}
-use Rattle.hickory_wire.specs.declared.rr.rdata.RData.{RData}
-use Rattle.hickory_wire.specs.declared.rr.record.Record.{Record}
-use Rattle.hickory_wire.proofs.lemmas.serialize.layout.FormKeeps.{LabelsAt-longer, FormAt-keeps, QuestionAt-keeps}
-use Rattle.hickory_wire.proofs.lemmas.serialize.writing.RecordLists.{Puts-longer}
-use Rattle.hickory_wire.proofs.lemmas.serialize.reading.RecordsAgree.{formed_record}
-use Rattle.hickory_wire.proofs.lemmas.serialize.layout.Ranges.{record_formed}
-use Rattle.hickory_wire.proofs.lemmas.serialize.layout.Stable.{KeepsFrom-append, KeepsFrom-same, KeepsFrom-trans}
+use Rattle.wire_messages.specs.serialize.layout.FieldRanges.{IsRecordInRange, IsReadAsItsType}
+use Rattle.wire_messages.specs.serialize.layout.NameLayout.{IsFullyQualified}
+use Rattle.wire_messages.specs.serialize.layout.MessageLayout.{ItemsAt, IsPlainRecord, QuestionRead}
+use Rattle.wire_messages.specs.serialize.layout.QuestionLayout.{QuestionAt, IsFormedQuestion}
+use Rattle.wire_messages.specs.serialize.layout.RecordLayout.{FormAt, IsFormedRecord, RecordAt}
+use Rattle.wire_writing.specs.serialize.writing.Writing.{Puts, PutsAll}
+use Rattle.wire_messages.specs.declared.op.query.Query.{Query}
+use Rattle.wire_messages.specs.declared.rr.rdata.RData.{RData}
+use Rattle.wire_messages.specs.declared.rr.record.Record.{Record}
+use Rattle.wire_messages.proofs.lemmas.serialize.layout.FormKeeps.{LabelsAt-longer, FormAt-keeps, QuestionAt-keeps}
+use Rattle.wire_writing.proofs.lemmas.serialize.writing.RecordLists.{Puts-longer}
+use Rattle.wire_reading.proofs.lemmas.serialize.reading.RecordsAgree.{formed_record}
+use Rattle.wire_messages.proofs.lemmas.serialize.layout.Ranges.{record_formed}
+use Rattle.wire_messages.proofs.lemmas.serialize.layout.Stable.{KeepsFrom-append, KeepsFrom-same, KeepsFrom-trans}
 
 Puts-keeps : {limit : ℕ} {old new : List ℕ} {r : Record RData} → Puts limit old r new → KeepsFrom 12 old new
 Puts-keeps {limit} {old} p = subst (λ m. KeepsFrom 12 old m) (sym p.appended) (KeepsFrom-append 12 old p.more)

@@ -2,23 +2,24 @@
 use Rattle.std.proofs.Common.{◌≡◌, ℕ, ◌+◌, ◌-◌, ◌%◌, ◌^◌, ◌<◌, ◌≤◌, List, [], ◌∷◌, ◌++◌, length, map, take, drop, replicate, get_or, None, refl, sym, ap, ◌∙◌, subst, arith, length-append, zero-add}
 use Rattle.std.specs.Prelude.{option_map, option_to_list}
 use Rattle.std.proofs.lemmas.List.{length-take, length-drop, length-map, get_or-append_right, get_or_append_left, get_or-drop}
-use Rattle.hickory_wire.specs.serialize.layout.Bytes.{BytesAt, KeepsFrom, AreBytes}
+use Rattle.wire_names.specs.serialize.layout.Bytes.{BytesAt, KeepsFrom, AreBytes}
 use Rattle.hickory_wire.specs.serialize.writing.Decoding.{without_proof, front_of_option, IsDecodable, decoded_message}
-use Rattle.hickory_wire.specs.serialize.layout.HeaderLayout.{header_octets}
-use Rattle.hickory_wire.specs.serialize.layout.MessageLayout.{MessageAt, tsig_record}
-use Rattle.hickory_wire.specs.serialize.reading.MessageReading.{Reads}
-use Rattle.hickory_wire.specs.serialize.layout.RecordLayout.{RecordAt}
-use Rattle.hickory_wire.specs.serialize.writing.Reply.{Reply, opt_record}
-use Rattle.hickory_wire.specs.serialize.writing.Writing as writing
-use Rattle.hickory_wire.specs.serialize.writing.Writing.{PutsAll, ListWritten, ListFront, ListsWritten, Fronts, fronts_list, ending_of, Written, header_and_questions, written_header}
-use Rattle.hickory_wire.specs.serialize.writing.Writing.ListsWritten.{none_left, next_list, stuck_list}
-use Rattle.hickory_wire.specs.declared.op.query.Query.{Query}
-use Rattle.hickory_wire.specs.declared.rr.rdata.RData.{RData}
-use Rattle.hickory_wire.specs.declared.rr.record.Record.{Record}
-use Rattle.hickory_wire.proofs.lemmas.serialize.layout.ByteTexts.{here}
-use Rattle.hickory_wire.proofs.lemmas.serialize.reading.HeaderLaws.{header_stands}
-use Rattle.hickory_wire.proofs.lemmas.serialize.layout.Stable.{KeepsFrom-trans}
-use Rattle.hickory_wire.proofs.lemmas.serialize.reading.WholeMessage.{message_here}
+use Rattle.wire_messages.specs.serialize.layout.HeaderLayout.{header_octets}
+use Rattle.wire_messages.specs.serialize.layout.MessageLayout.{tsig_record}
+use Rattle.wire_reading.specs.serialize.layout.WholeMessage.{MessageAt}
+use Rattle.wire_reading.specs.serialize.reading.MessageReading.{Reads}
+use Rattle.wire_messages.specs.serialize.layout.RecordLayout.{RecordAt}
+use Rattle.wire_messages.specs.serialize.writing.Reply.{Reply, opt_record}
+use Rattle.wire_writing.specs.serialize.writing.Writing as writing
+use Rattle.wire_writing.specs.serialize.writing.Writing.{PutsAll, ListWritten, ListFront, ListsWritten, Fronts, fronts_list, ending_of, Written, header_and_questions, written_header}
+use Rattle.wire_writing.specs.serialize.writing.Writing.ListsWritten.{none_left, next_list, stuck_list}
+use Rattle.wire_messages.specs.declared.op.query.Query.{Query}
+use Rattle.wire_messages.specs.declared.rr.rdata.RData.{RData}
+use Rattle.wire_messages.specs.declared.rr.record.Record.{Record}
+use Rattle.wire_messages.proofs.lemmas.serialize.layout.ByteTexts.{here}
+use Rattle.wire_reading.proofs.lemmas.serialize.reading.HeaderLaws.{header_stands}
+use Rattle.wire_messages.proofs.lemmas.serialize.layout.Stable.{KeepsFrom-trans}
+use Rattle.wire_reading.proofs.lemmas.serialize.reading.WholeMessage.{message_here}
 use Rattle.hickory_wire.proofs.lemmas.serialize.writing.WrittenAdditionals.{opt_written, tsig_written, section_made}
 use Rattle.hickory_wire.proofs.lemmas.serialize.writing.WrittenItems.{PutsAll-keeps, PutsAll-longer, PutsAll-within, put_in_range, put_stand, readable_stand, readable_plain, readable_front, readable_both, items_both, questions_stand, questions_few}
 

@@ -1,15 +1,15 @@
 -- What is written keeps the limit.
 use Rattle.std.proofs.Common.{◌≡◌, ℕ, ◌+◌, ◌≤◌, List, ◌++◌, length, take, drop, max, replicate, Option, ap, arith, length-append}
 use Rattle.std.proofs.lemmas.List.{length-drop}
-use Rattle.hickory_wire.specs.serialize.layout.HeaderLayout.{header_octets}
-use Rattle.hickory_wire.specs.serialize.writing.Reply.{Reply}
-use Rattle.hickory_wire.specs.serialize.writing.Writing.{ListFront, ListsWritten, Fronts, Written, Encoded, written_header}
-use Rattle.hickory_wire.specs.serialize.writing.Writing.Encoded.{written, too_large, formless}
-use Rattle.hickory_wire.specs.serialize.writing.Writing.ListsWritten.{none_left, next_list, stuck_list}
-use Rattle.hickory_wire.specs.declared.error.ProtoError.{ProtoError}
-use Rattle.hickory_wire.specs.declared.op.header.Header.{Header}
-use Rattle.hickory_wire.specs.declared.rr.rdata.RData.{RData}
-use Rattle.hickory_wire.specs.declared.rr.record.Record.{Record}
+use Rattle.wire_messages.specs.serialize.layout.HeaderLayout.{header_octets}
+use Rattle.wire_messages.specs.serialize.writing.Reply.{Reply}
+use Rattle.wire_writing.specs.serialize.writing.Writing.{ListFront, ListsWritten, Fronts, Written, Encoded, written_header}
+use Rattle.wire_writing.specs.serialize.writing.Writing.Encoded.{written, too_large, formless}
+use Rattle.wire_writing.specs.serialize.writing.Writing.ListsWritten.{none_left, next_list, stuck_list}
+use Rattle.wire_names.specs.declared.error.ProtoError.{ProtoError}
+use Rattle.wire_messages.specs.declared.op.header.Header.{Header}
+use Rattle.wire_messages.specs.declared.rr.rdata.RData.{RData}
+use Rattle.wire_messages.specs.declared.rr.record.Record.{Record}
 use Rattle.hickory_wire.proofs.lemmas.serialize.writing.WrittenItems.{PutsAll-longer, PutsAll-within}
 
 record Sizes (limit : ℕ) (old new : List ℕ) : Type 0 where

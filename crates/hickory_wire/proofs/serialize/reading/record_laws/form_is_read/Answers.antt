@@ -1,4 +1,4 @@
-use Rattle.hickory_wire.proofs.lemmas.serialize.reading.FormIsRead.{form_read}
+use Rattle.wire_reading.proofs.lemmas.serialize.reading.FormIsRead.{form_read}
 use Rattle.hickory_wire.proofs.serialize.reading.record_laws.form_is_read.Goals as goal
 
 pub returns : goal.returns

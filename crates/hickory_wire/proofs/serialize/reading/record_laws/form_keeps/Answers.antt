@@ -1,4 +1,4 @@
-use Rattle.hickory_wire.proofs.lemmas.serialize.layout.FormKeeps.{FormAt-keeps, QuestionAt-keeps}
+use Rattle.wire_messages.proofs.lemmas.serialize.layout.FormKeeps.{FormAt-keeps, QuestionAt-keeps}
 use Rattle.hickory_wire.proofs.serialize.reading.record_laws.form_keeps.Goals as goal
 
 pub returns-clause-record : goal.returns-clause-record

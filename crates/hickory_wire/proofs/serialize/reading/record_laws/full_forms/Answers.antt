@@ -1,6 +1,6 @@
 use Rattle.std.proofs.Common.{refl}
-use Rattle.hickory_wire.proofs.lemmas.serialize.writing.FullForms.{record_octets-len, record_stands}
-use Rattle.hickory_wire.proofs.lemmas.serialize.writing.FormLengths.{small_form}
+use Rattle.wire_writing.proofs.lemmas.serialize.writing.FullForms.{record_octets-len, record_stands}
+use Rattle.wire_writing.proofs.lemmas.serialize.writing.FormLengths.{small_form}
 use Rattle.hickory_wire.proofs.serialize.reading.record_laws.full_forms.Goals as goal
 
 pub returns-clause-size : goal.returns-clause-size

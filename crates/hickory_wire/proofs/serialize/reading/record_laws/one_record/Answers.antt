@@ -1,4 +1,4 @@
-use Rattle.hickory_wire.proofs.lemmas.serialize.reading.RecordsAgree.{one_record_read, one_record_formed, one_question}
+use Rattle.wire_reading.proofs.lemmas.serialize.reading.RecordsAgree.{one_record_read, one_record_formed, one_question}
 use Rattle.hickory_wire.proofs.serialize.reading.record_laws.one_record.Goals as goal
 
 pub returns-clause-read : goal.returns-clause-read

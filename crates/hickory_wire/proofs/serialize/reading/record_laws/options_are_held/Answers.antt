@@ -1,7 +1,7 @@
 use Rattle.std.proofs.Common.{List, subst}
-use Rattle.hickory_wire.specs.rr.RecordData.{OptionsOf}
-use Rattle.hickory_wire.specs.declared.op.edns.EdnsOption.{EdnsOption}
-use Rattle.hickory_wire.proofs.lemmas.serialize.reading.OptionSteps.{options_held, options_read}
+use Rattle.wire_messages.specs.rr.RecordData.{OptionsOf}
+use Rattle.wire_messages.specs.declared.op.edns.EdnsOption.{EdnsOption}
+use Rattle.wire_reading.proofs.lemmas.serialize.reading.OptionSteps.{options_held, options_read}
 use Rattle.hickory_wire.proofs.serialize.reading.record_laws.options_are_held.Goals as goal
 
 pub returns : goal.returns

@@ -1,4 +1,4 @@
-use Rattle.hickory_wire.proofs.lemmas.serialize.writing.FullForms.{question_octets-len, question_stands}
+use Rattle.wire_writing.proofs.lemmas.serialize.writing.FullForms.{question_octets-len, question_stands}
 use Rattle.hickory_wire.proofs.serialize.reading.record_laws.question_forms.Goals as goal
 
 pub returns-clause-size : goal.returns-clause-size

@@ -1,4 +1,4 @@
-use Rattle.hickory_wire.proofs.lemmas.serialize.writing.QuestionsMoved.{question_repeated, questions_repeated, questions_in_full}
+use Rattle.wire_writing.proofs.lemmas.serialize.writing.QuestionsMoved.{question_repeated, questions_repeated, questions_in_full}
 use Rattle.hickory_wire.proofs.serialize.reading.record_laws.questions_of_replies.Goals as goal
 
 pub returns-clause-repeated : goal.returns-clause-repeated

@@ -1,4 +1,4 @@
-use Rattle.hickory_wire.proofs.lemmas.serialize.reading.RecordsAgree.{question_read, question_found}
+use Rattle.wire_reading.proofs.lemmas.serialize.reading.RecordsAgree.{question_read, question_found}
 use Rattle.hickory_wire.proofs.serialize.reading.record_laws.read_is_question_at.Goals as goal
 
 pub returns-clause-stands : goal.returns-clause-stands

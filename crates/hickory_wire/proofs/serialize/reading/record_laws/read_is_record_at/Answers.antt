@@ -1,4 +1,4 @@
-use Rattle.hickory_wire.proofs.lemmas.serialize.reading.RecordsAgree.{record_read, record_found}
+use Rattle.wire_reading.proofs.lemmas.serialize.reading.RecordsAgree.{record_read, record_found}
 use Rattle.hickory_wire.proofs.serialize.reading.record_laws.read_is_record_at.Goals as goal
 
 pub returns-clause-at : goal.returns-clause-at

@@ -1,5 +1,5 @@
 use Rattle.hickory_wire.proofs.lemmas.serialize.writing.ReadingBack.{reads_back, back_is_formed}
-use Rattle.hickory_wire.proofs.lemmas.serialize.layout.Ranges.{record_formed, record_parts}
+use Rattle.wire_messages.proofs.lemmas.serialize.layout.Ranges.{record_formed, record_parts}
 use Rattle.hickory_wire.proofs.serialize.reading.record_laws.reading_back.Goals as goal
 
 pub returns-clause-records : goal.returns-clause-records

@@ -1,4 +1,4 @@
-use Rattle.hickory_wire.proofs.lemmas.serialize.reading.RecordsAgree.{record_form, formed_record}
+use Rattle.wire_reading.proofs.lemmas.serialize.reading.RecordsAgree.{record_form, formed_record}
 use Rattle.hickory_wire.proofs.serialize.reading.record_laws.record_at_has_form.Goals as goal
 
 pub returns-clause-form : goal.returns-clause-form

@@ -1,4 +1,4 @@
-use Rattle.hickory_wire.proofs.lemmas.serialize.writing.WholeLists.{written_whole, whole_unstuck}
+use Rattle.wire_writing.proofs.lemmas.serialize.writing.WholeLists.{written_whole, whole_unstuck}
 use Rattle.hickory_wire.proofs.serialize.writing.encoder_laws.what_fits_is_whole.Goals as goal
 
 pub returns : goal.returns

@@ -1,7 +1,7 @@
 use Rattle.std.proofs.Common.{◌≢◌, ◌<◌, ◌^◌, rules}
-use Rattle.hickory_wire.specs.serialize.layout.Bytes.{AreBytes}
+use Rattle.wire_names.specs.serialize.layout.Bytes.{AreBytes}
 use Rattle.hickory_wire.specs.serialize.writing.ReplyParts.{reply_of}
-use Rattle.hickory_wire.specs.declared.error.ProtoError.TheVariants.{Memory}
+use Rattle.wire_names.specs.declared.error.ProtoError.TheVariants.{Memory}
 use Rattle.hickory_wire.proofs.lemmas.serialize.writing.RepliesEncoded.{encoded_written, encoded_fallback, reply_encoded}
 use Rattle.hickory_wire.proofs.serialize.writing.message_encoder.encode_message_parts.Goals as goal
 

@@ -1,4 +1,4 @@
-use Rattle.hickory_wire.proofs.lemmas.serialize.writing.RepliesEncoded.{are_bytes}
+use Rattle.wire_messages.proofs.lemmas.serialize.layout.VectorBytes.{are_bytes}
 use Rattle.hickory_wire.proofs.serialize.writing.message_encoder.write_fallback.Goals as goal
 
 pub returns-clause-bytes : goal.returns-clause-bytes

@@ -1,14 +1,14 @@
 use Rattle.std.proofs.Common.{◌≡◌, ◌++◌, List, length, refl, subst, take, rules}
 use Rattle.std.specs.Iterator.Adapters.{chain_second}
-use Rattle.hickory_wire.specs.serialize.writing.Noted.{AreNotes}
-use Rattle.hickory_wire.specs.serialize.writing.Endings.{Front, GivesRecords, ListFollows, NotedRun}
+use Rattle.wire_writing.specs.serialize.writing.Noted.{AreNotes}
+use Rattle.wire_writing.specs.serialize.writing.Endings.{Front, GivesRecords, ListFollows, NotedRun}
 use Rattle.hickory_wire.specs.serialize.writing.ReplyParts.{seen_front}
-use Rattle.hickory_wire.specs.serialize.writing.Writing.{Fronts}
-use Rattle.hickory_wire.specs.declared.rr.rdata.RData.{RData}
-use Rattle.hickory_wire.specs.declared.rr.record.Record.{Record}
+use Rattle.wire_writing.specs.serialize.writing.Writing.{Fronts}
+use Rattle.wire_messages.specs.declared.rr.rdata.RData.{RData}
+use Rattle.wire_messages.specs.declared.rr.record.Record.{Record}
 use Rattle.hickory_wire.proofs.lemmas.serialize.writing.FiveLists.{five_cuts, five_lists, chain_gives}
-use Rattle.hickory_wire.proofs.lemmas.serialize.writing.NotedRuns.{puts_both, repeats, run_both}
-use Rattle.hickory_wire.proofs.lemmas.serialize.writing.QuestionSteps.{no_notes, notes_behind}
+use Rattle.wire_writing.proofs.lemmas.serialize.writing.NotedRuns.{puts_both, repeats, run_both}
+use Rattle.wire_writing.proofs.lemmas.serialize.writing.QuestionSteps.{no_notes, notes_behind}
 use Rattle.hickory_wire.proofs.serialize.writing.message_encoder.write_lists.Goals as goal
 use Rattle.hickory_wire.proofs.serialize.writing.message_encoder.write_lists.Goals.{then-has_records+in_ok-note_question, else-has_records}
 

@@ -1,15 +1,16 @@
 use Rattle.std.proofs.Common.{◌≡◌, ◌≢◌, ◌∙◌, ◌+◌, ◌<◌, ◌≤◌, ◌^◌, ◌++◌, inl, inr, List, length, drop, replicate, None, ap, sym, arith, rules}
-use Rattle.hickory_wire.specs.serialize.layout.Bytes.{AreBytes}
-use Rattle.hickory_wire.specs.serialize.layout.HeaderLayout.{header_octets}
+use Rattle.wire_names.specs.serialize.layout.Bytes.{AreBytes}
+use Rattle.wire_messages.specs.serialize.layout.HeaderLayout.{header_octets}
 use Rattle.hickory_wire.specs.serialize.writing.Decoding.{IsDecodable, decoded_message}
-use Rattle.hickory_wire.specs.serialize.reading.MessageReading.{Reads}
+use Rattle.wire_reading.specs.serialize.reading.MessageReading.{Reads}
 use Rattle.hickory_wire.specs.serialize.writing.ReplyParts.{reply_of}
 use Rattle.hickory_wire.specs.serialize.writing.ReplyParts.CannotBeWritten.{too_large, formless}
-use Rattle.hickory_wire.specs.serialize.writing.Writing.{Written}
-use Rattle.hickory_wire.specs.declared.error.ProtoError.TheVariants.{MaxSizeExceeded, CharacterDataTooLong, DataTooLong}
-use Rattle.hickory_wire.specs.declared.op.query.Query.{Query}
-use Rattle.hickory_wire.proofs.lemmas.serialize.writing.WritingFaults.{stuck_kinds}
-use Rattle.hickory_wire.proofs.lemmas.serialize.writing.RepliesEncoded.{are_bytes, summed_header}
+use Rattle.wire_writing.specs.serialize.writing.Writing.{Written}
+use Rattle.wire_names.specs.declared.error.ProtoError.TheVariants.{MaxSizeExceeded, CharacterDataTooLong, DataTooLong}
+use Rattle.wire_messages.specs.declared.op.query.Query.{Query}
+use Rattle.wire_writing.proofs.lemmas.serialize.writing.WritingFaults.{stuck_kinds}
+use Rattle.wire_messages.proofs.lemmas.serialize.layout.VectorBytes.{are_bytes}
+use Rattle.hickory_wire.proofs.lemmas.serialize.writing.RepliesEncoded.{summed_header}
 use Rattle.hickory_wire.proofs.lemmas.serialize.writing.WrittenMessage.{message_stands, written_reads}
 use Rattle.hickory_wire.proofs.serialize.writing.message_encoder.write_reply.Goals as goal
 

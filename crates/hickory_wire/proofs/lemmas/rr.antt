@@ -1,4 +1,0 @@
--- Lemmas of addresses and of the comparison of records.
-pub mod AddressOctets
-pub mod RecordComparing
-pub mod domain

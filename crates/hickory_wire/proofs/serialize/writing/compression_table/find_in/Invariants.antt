@@ -1,7 +1,0 @@
-use Rattle.std.proofs.Common.{◌≡◌, take, None}
-use Rattle.hickory_wire.specs.serialize.writing.Noted.{first_place}
-use Rattle.hickory_wire.specs.serialize.writing.NameTable.{pairs}
-use Rattle.hickory_wire.proofs.serialize.writing.compression_table.find_in.Given as goal
-
-abbrev pub invariant-loop-note : goal.invariant-loop-note
-invariant-loop-note l = first_place l.suffix (pairs (take l.note-index l.notes)) ≡ None

@@ -1,8 +1,0 @@
-use Rattle.hickory_wire.proofs.lemmas.serialize.writing.LinkedNotes.{IsIn}
-use Rattle.hickory_wire.proofs.serialize.writing.compression_table.find_linked.Given as goal
-
-abbrev pub invariant-loop-last : goal.invariant-loop-last
-invariant-loop-last l = IsIn l.suffix l.notes l.last
-
-abbrev pub decreases-loop-last : goal.decreases-loop-last
-decreases-loop-last l = l.last

@@ -1,9 +1,0 @@
-use Rattle.std.proofs.Common.{rules, arith, ◌≡◌}
-use Rattle.hickory_wire.specs.serialize.writing.NameTable.{bucket}
-use Rattle.hickory_wire.proofs.lemmas.serialize.writing.LinkedNotes.{bucket_small}
-use Rattle.hickory_wire.proofs.serialize.writing.compression_table.known_bucket.Goals as goal
-
-pub returns-in-Some-clause-below : goal.returns-in-Some-clause-below
-returns-in-Some-clause-below c =
-    let e : c.in-Some.known ≡ bucket c.args.suffix.now = search rules in
-    omega (arith, e, bucket_small c.args.suffix.now)

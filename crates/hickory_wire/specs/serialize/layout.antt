@@ -1,8 +1,0 @@
--- How values stand in bytes, as relations.
-pub mod Bytes
-pub mod FieldRanges
-pub mod HeaderLayout
-pub mod MessageLayout
-pub mod NameLayout
-pub mod QuestionLayout
-pub mod RecordLayout

@@ -1,0 +1,2 @@
+-- Lemmas of what was written: it stands, keeps the limit and reads back.
+pub mod OctetLengths

@@ -1,0 +1,3 @@
+pub mod op
+pub mod rr
+pub mod serialize

@@ -1,0 +1,5 @@
+-- Resource records: their data, addresses in them, when two records are the same, and the keys of their sets.
+pub mod Addresses
+pub mod RecordData
+pub mod RecordSameness
+pub mod RrKeys

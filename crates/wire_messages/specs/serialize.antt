@@ -1,0 +1,4 @@
+-- Values and the bytes that they stand in.
+pub mod layout
+pub mod reading
+pub mod writing

@@ -1,0 +1,44 @@
+-- Which numbers and lengths the fields of a record hold (RFC 1035 sections 3.2.1, 3.3 and 3.4), and what else its data have to be, so that a
+-- record reads back as itself.
+use Rattle.std.specs.Prelude.{◌≢◌, ◌<◌, ◌^◌, [], length}
+use Rattle.std.specs.List.{AllByRecursion}
+use Rattle.wire_messages.specs.rr.Addresses.{IsIpv4, IsIpv6}
+use Rattle.wire_messages.specs.rr.RecordData.{IsOption}
+use Rattle.wire_messages.specs.serialize.layout.NameLayout.{IsFullyQualified}
+use Rattle.wire_messages.specs.declared.rr.rdata.RData.{RData}
+use Rattle.wire_messages.specs.declared.rr.rdata.RData.TheVariants as rdata
+use Rattle.wire_messages.specs.declared.rr.record.Record.{Record}
+
+-- each number of the data is one that its field holds, and each part with a length field of its own fits that
+abbrev pub IsInRange : RData → Type 0
+IsInRange (rdata.A address) = IsIpv4 address
+IsInRange (rdata.AAAA address) = IsIpv6 address
+IsInRange (rdata.MX mx) = mx.preference < 2 ^ 16
+IsInRange (rdata.SOA soa) = (soa.serial < 2 ^ 32) × (soa.refresh < 2 ^ 32) × (soa.retry < 2 ^ 32) × (soa.expire < 2 ^ 32) × (soa.minimum < 2 ^ 32)
+IsInRange (rdata.TXT strings) = AllByRecursion (λ text. length text < 256) strings
+IsInRange (rdata.OPT options) = AllByRecursion IsOption options
+IsInRange (rdata.TSIG t) = (t.time < 2 ^ 48) × (t.fudge < 2 ^ 16) × (length t.mac < 2 ^ 16) × (t.oid < 2 ^ 16) × (t.error < 2 ^ 16) × (length t.other < 2 ^ 16)
+IsInRange (rdata.Update0 code) = code < 2 ^ 16
+IsInRange (rdata.Unknown code octets) = code < 2 ^ 16
+IsInRange content = Unit {0}
+
+-- the same of a record
+pub record IsRecordInRange (r : Record RData) : Type 0 where
+  pub class : r.dns_class < 2 ^ 16
+  pub ttl : r.ttl < 2 ^ 32
+  pub rdata : IsInRange r.rdata
+
+-- Names in the data are fully qualified; octets without a form stand only under types that have none; and there are no octets at all only as data of
+-- an update or as an OPT without options.
+abbrev pub IsReadAsItsType : RData → Type 0
+IsReadAsItsType (rdata.NS name) = IsFullyQualified name
+IsReadAsItsType (rdata.CNAME name) = IsFullyQualified name
+IsReadAsItsType (rdata.PTR name) = IsFullyQualified name
+IsReadAsItsType (rdata.MX mx) = IsFullyQualified mx.exchange
+IsReadAsItsType (rdata.SOA soa) = IsFullyQualified soa.mname × IsFullyQualified soa.rname
+IsReadAsItsType (rdata.TXT strings) = strings ≢ []
+IsReadAsItsType (rdata.TSIG t) = IsFullyQualified t.algorithm
+IsReadAsItsType (rdata.NULL octets) = octets ≢ []
+IsReadAsItsType (rdata.Update0 code) = (code ≢ 41) × (code ≢ 250)
+IsReadAsItsType (rdata.Unknown code octets) = (octets ≢ []) × (code ≢ 1) × (code ≢ 2) × (code ≢ 5) × (code ≢ 6) × (code ≢ 10) × (code ≢ 12) × (code ≢ 15) × (code ≢ 16) × (code ≢ 28) × (code ≢ 41) × (code ≢ 250)
+IsReadAsItsType content = Unit {0}

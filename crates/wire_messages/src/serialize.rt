@@ -1,0 +1,3 @@
+//! Values in bytes, in full.
+
+pub mod writing;

@@ -1,0 +1,2 @@
+-- Lemmas of addresses and of the comparison of records.
+pub mod domain

@@ -1,0 +1,2 @@
+-- Lemmas of bytes that are compared eight at a time.
+pub mod SameBytes

@@ -1,0 +1,15 @@
+use Rattle.std.proofs.Common.{◌≡◌, ◌+◌, ◌*◌, ◌<◌, ◌≤◌, ◌∷◌, ◌++◌, length, drop}
+use Rattle.wire_names.specs.rr.domain.OrderKey.{escaped}
+use Rattle.wire_names.proofs.rr.domain.order_key.put_label.Given as goal
+
+abbrev pub invariant-loop-left : goal.invariant-loop-left
+invariant-loop-left l = record {
+  behind : l.left ≤ length l.label;
+  enough : 2 * l.left ≤ l.start;
+  within : l.start < l.end;
+  few : l.end + 2 * l.left ≤ l.start + 2 * length l.label + 1;
+  put : drop l.start l.room ≡ escaped (drop l.left l.label) ++ 0 ∷ drop l.end l.fn.room;
+}
+
+abbrev pub decreases-loop-left : goal.decreases-loop-left
+decreases-loop-left l = l.left

@@ -1,0 +1,3 @@
+pub mod rr
+pub mod serialize
+pub mod text

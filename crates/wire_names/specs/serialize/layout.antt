@@ -1,0 +1,2 @@
+-- How values stand in bytes, as relations.
+pub mod Bytes

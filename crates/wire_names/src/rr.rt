@@ -1,0 +1,3 @@
+//! What resource records are made of: their names.
+
+pub mod domain;

@@ -1,0 +1,3 @@
+-- Lemmas of values and the bytes that they stand in.
+pub mod layout
+pub mod reading

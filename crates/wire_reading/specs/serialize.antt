@@ -1,0 +1,3 @@
+-- Values and the bytes that they stand in.
+pub mod layout
+pub mod reading

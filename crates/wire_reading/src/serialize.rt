@@ -1,0 +1,3 @@
+//! From bytes to values.
+
+pub mod reading;

@@ -1,0 +1,2 @@
+-- Lemmas of values and the bytes that they stand in.
+pub mod writing

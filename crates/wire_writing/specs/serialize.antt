@@ -1,0 +1,2 @@
+-- Values and the bytes that they stand in.
+pub mod writing

@@ -1,0 +1,4 @@
+//! From names, records and lists of them to bytes, within a limit.
+#![tactic(auto)]
+
+pub mod serialize;
