@@ -1,7 +1,7 @@
 //! A sink that keeps the size of each reply.
 
 ghost use Rattle.std.specs.Prelude.{◌≡◌, ◌+◌, ◌%◌, ◌^◌, ⊤, ℕ, List, length};
-ghost use Rattle.hickory_wire.specs.declared.protocol.Protocol.TheVariants.{Tcp};
+ghost use Rattle.wire_messages.specs.declared.protocol.Protocol.TheVariants.{Tcp};
 ghost use Rattle.hickory_base.specs.responses.EncodingSinks.{IsEncodingOf};
 
 use hickory_server::proto::{Items, Protocol};

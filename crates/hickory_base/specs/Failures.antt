@@ -1,7 +1,7 @@
 -- What the failure of a lookup tells.
 use Rattle.std.specs.Prelude.{◌==◌, Bool, true, false, List, Option, Some, None}
-use Rattle.hickory_wire.specs.declared.rr.rdata.RData.{RData}
-use Rattle.hickory_wire.specs.declared.rr.record.Record.{Record}
+use Rattle.wire_messages.specs.declared.rr.rdata.RData.{RData}
+use Rattle.wire_messages.specs.declared.rr.record.Record.{Record}
 use Rattle.hickory_base.specs.declared.errors.DnsError.TheVariants.{NoRecords}
 use Rattle.hickory_base.specs.declared.errors.LookupError.{LookupError}
 use Rattle.hickory_base.specs.declared.errors.LookupError.TheVariants.{ResponseCode, Net}

@@ -1,7 +1,7 @@
 -- Asking a chain from a place on.
 use Rattle.std.proofs.Common.{◌≡◌, ℕ, suc, ◌+◌, ◌<◌, ◌≤◌, List, [], ◌∷◌, length, drop, get_or, Option, None, refl, sym, ap, arith, add-one, add-zero, zero-add, drop-cons}
 use Rattle.std.proofs.lemmas.List.{drop_all}
-use Rattle.hickory_wire.specs.declared.rr.tsig.TSigResponseContext.{TSigResponseContext}
+use Rattle.wire_messages.specs.declared.rr.tsig.TSigResponseContext.{TSigResponseContext}
 use Rattle.hickory_base.specs.zone_store.Lookups.{Flow}
 use Rattle.hickory_base.specs.requests.Requests.{ReceivedRequest}
 use Rattle.hickory_base.specs.declared.zone_store.handler.ZoneHandler.{Ghosts}

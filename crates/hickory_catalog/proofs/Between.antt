@@ -9,9 +9,9 @@ use Rattle.std.specs.Cmp.Lexicographic.{slice_cmp, nat_list_cmp_total}
 use Rattle.std.specs.BTreeMap.Range.{IsLeBy}
 use Rattle.std.proofs.lemmas.List.{reverse-append, reverse-reverse}
 use Rattle.std.proofs.lemmas.Map.Lookups.{exact_bytes}
-use Rattle.hickory_wire.specs.rr.domain.DomainName.{DomainName}
-use Rattle.hickory_wire.specs.rr.domain.NameHash.{map-reverse}
-use Rattle.hickory_wire.specs.rr.domain.NameOrder.{SameName, Encloses, name_cmp, name_cmp_total, label_cmp, lower_label, lower_labels}
+use Rattle.wire_names.specs.rr.domain.DomainName.{DomainName}
+use Rattle.wire_names.specs.rr.domain.NameHash.{map-reverse}
+use Rattle.wire_names.specs.rr.domain.NameOrder.{SameName, Encloses, name_cmp, name_cmp_total, label_cmp, lower_label, lower_labels}
 use Rattle.hickory_catalog.proofs.Places.{same_of, same_back, equal_of}
 
 -- labels in lower case, the last one first

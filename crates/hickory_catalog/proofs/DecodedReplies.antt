@@ -2,15 +2,15 @@
 use Rattle.std.proofs.Common.{◌≡◌, ℕ, ◌<◌, ◌≤◌, ◌^◌, List, ◌++◌, length, take, replicate, Option, Some, None, sym, subst, ◌∙◌, arith}
 use Rattle.std.specs.Prelude.{IfSome, slice_range}
 use Rattle.std.specs.List.{AllByRecursion}
-use Rattle.hickory_wire.specs.op.EdnsFields.{EdnsFields}
-use Rattle.hickory_wire.specs.serialize.layout.MessageLayout.{ItemsAt}
-use Rattle.hickory_wire.specs.serialize.layout.QuestionLayout.{QuestionAt}
+use Rattle.wire_messages.specs.op.EdnsFields.{EdnsFields}
+use Rattle.wire_messages.specs.serialize.layout.MessageLayout.{ItemsAt}
+use Rattle.wire_messages.specs.serialize.layout.QuestionLayout.{QuestionAt}
 use Rattle.hickory_wire.specs.serialize.writing.Decoding.{IsFormedEdns, IsReadable}
 use Rattle.hickory_wire.specs.serialize.writing.ReadingBack.{ReplyReadsBack}
-use Rattle.hickory_wire.specs.serialize.writing.Reply.{Reply}
-use Rattle.hickory_wire.specs.declared.op.query.Query.{Query}
-use Rattle.hickory_wire.specs.declared.rr.rdata.RData.{RData}
-use Rattle.hickory_wire.specs.declared.rr.record.Record.{Record}
+use Rattle.wire_messages.specs.serialize.writing.Reply.{Reply}
+use Rattle.wire_messages.specs.declared.op.query.Query.{Query}
+use Rattle.wire_messages.specs.declared.rr.rdata.RData.{RData}
+use Rattle.wire_messages.specs.declared.rr.record.Record.{Record}
 use Rattle.hickory_base.specs.requests.Requests.{ReceivedRequest}
 use Rattle.hickory_catalog.specs.DecodedReplies.{HasReadableRecords, HasRepeatableQuestions, RepliesTo}
 use Rattle.hickory_catalog.specs.ReplyEdns.{with_high_code}

@@ -3,14 +3,14 @@ use Rattle.std.proofs.Common.{◌≡◌, ◌≢◌, refl, sym, ap, subst, ℕ, B
 use Rattle.std.specs.Prelude.{◌==◌, IfSome, IsSome, OnErr, option_to_list}
 use Rattle.std.specs.List.{AllByRecursion, list_all, list_any}
 use Rattle.std.proofs.lemmas.Bool.Decides.{nat_tests}
-use Rattle.hickory_wire.specs.rr.domain.DomainName.{DomainName}
-use Rattle.hickory_wire.specs.rr.RecordData.{type_of}
-use Rattle.hickory_wire.specs.declared.op.header.Metadata.{Metadata}
-use Rattle.hickory_wire.specs.declared.op.query.Query.{Query}
-use Rattle.hickory_wire.specs.declared.rr.rdata.RData.{RData}
-use Rattle.hickory_wire.specs.declared.rr.record.Proof.{Proof}
-use Rattle.hickory_wire.specs.declared.rr.record.Proof.TheVariants.{Secure, Insecure, Bogus, Indeterminate}
-use Rattle.hickory_wire.specs.declared.rr.record.Record.{Record}
+use Rattle.wire_names.specs.rr.domain.DomainName.{DomainName}
+use Rattle.wire_messages.specs.rr.RecordData.{type_of}
+use Rattle.wire_messages.specs.declared.op.header.Metadata.{Metadata}
+use Rattle.wire_messages.specs.declared.op.query.Query.{Query}
+use Rattle.wire_messages.specs.declared.rr.rdata.RData.{RData}
+use Rattle.wire_messages.specs.declared.rr.record.Proof.{Proof}
+use Rattle.wire_messages.specs.declared.rr.record.Proof.TheVariants.{Secure, Insecure, Bogus, Indeterminate}
+use Rattle.wire_messages.specs.declared.rr.record.Record.{Record}
 use Rattle.hickory_base.specs.Failures.{is_no_records_found, is_nx_domain, soa_of}
 use Rattle.hickory_base.specs.zone_store.Lookups.{answers_of, asks_for_dnssec}
 use Rattle.hickory_base.specs.declared.errors.DnsError.TheVariants.{NoRecords}

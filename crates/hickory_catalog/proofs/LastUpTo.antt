@@ -11,8 +11,8 @@ use Rattle.std.specs.declared.cmp.Ordering.TheVariants.{Less, Equal, Greater}
 use Rattle.std.specs.Ordering.{is_eq, is_lt, is_gt, ordering_reverse}
 use Rattle.std.specs.Cmp.{tied_itself}
 use Rattle.std.proofs.lemmas.List.Elements.{All-nil, All-cons, All-map, All-filter, All-contains, All-contains_itself, Contains-push, Contains-append_right}
-use Rattle.hickory_wire.specs.rr.domain.DomainName.{DomainName}
-use Rattle.hickory_wire.specs.rr.domain.NameOrder.{name_cmp, name_cmp_total}
+use Rattle.wire_names.specs.rr.domain.DomainName.{DomainName}
+use Rattle.wire_names.specs.rr.domain.NameOrder.{name_cmp, name_cmp_total}
 use Rattle.hickory_catalog.specs.Search.{IsLastUpTo, LastUpTo}
 use Rattle.hickory_catalog.proofs.Places.{shown}
 

@@ -10,9 +10,9 @@ use Rattle.std.specs.Ordering.{is_eq}
 use Rattle.std.proofs.lemmas.Bool.{false≢true}
 use Rattle.std.proofs.lemmas.List.Elements.{All-from_recursion, Contains-append_right}
 use Rattle.std.proofs.lemmas.Map.Made.{lookup-map_values, keys_of-map_values}
-use Rattle.hickory_wire.specs.rr.domain.DomainName.{DomainName}
-use Rattle.hickory_wire.specs.rr.domain.NameOrder.{SameName, name_cmp}
-use Rattle.hickory_wire.specs.rr.domain.NameHash.{equal_is}
+use Rattle.wire_names.specs.rr.domain.DomainName.{DomainName}
+use Rattle.wire_names.specs.rr.domain.NameOrder.{SameName, name_cmp}
+use Rattle.wire_names.specs.rr.domain.NameHash.{equal_is}
 use Rattle.hickory_catalog.specs.Zones.{AreInOrder, HasZone}
 use Rattle.hickory_catalog.proofs.Places.{same_of, same_back, equal_of, shown}
 

@@ -8,8 +8,8 @@ use Rattle.std.specs.BTreeMap.{is_at}
 use Rattle.std.specs.BTreeMap.Range.{IsLeBy}
 use Rattle.std.proofs.lemmas.Bool.{cases_lt}
 use Rattle.std.proofs.lemmas.List.{length-map, map-append, take-append-drop}
-use Rattle.hickory_wire.specs.rr.domain.DomainName.{DomainName}
-use Rattle.hickory_wire.specs.rr.domain.NameOrder.{SameName, Encloses, IsSharedEnd, name_cmp, lower_label, lower_labels}
+use Rattle.wire_names.specs.rr.domain.DomainName.{DomainName}
+use Rattle.wire_names.specs.rr.domain.NameOrder.{SameName, Encloses, IsSharedEnd, name_cmp, lower_label, lower_labels}
 use Rattle.hickory_catalog.specs.Find.{MayAnswer, Finds}
 use Rattle.hickory_catalog.specs.Search.{IsLastUpTo, LastUpTo}
 use Rattle.hickory_catalog.proofs.Between.{between, between_same, encloses_up_to}

@@ -6,8 +6,8 @@ use Rattle.std.specs.List.Sorted.{IsStrictlySortedBy}
 use Rattle.std.specs.Map.{keys_of}
 use Rattle.std.specs.declared.cmp.Ordering.TheVariants.{Less, Equal}
 use Rattle.std.proofs.lemmas.List.Elements.{All-from_recursion, All-contains}
-use Rattle.hickory_wire.specs.rr.domain.DomainName.{DomainName}
-use Rattle.hickory_wire.specs.rr.domain.NameOrder.{SameName, name_cmp, lower_labels}
+use Rattle.wire_names.specs.rr.domain.DomainName.{DomainName}
+use Rattle.wire_names.specs.rr.domain.NameOrder.{SameName, name_cmp, lower_labels}
 use Rattle.hickory_catalog.specs.Zones.{AreInOrder}
 use Rattle.hickory_catalog.specs.Find.{MayAnswer, IsNearest, Finds}
 use Rattle.hickory_catalog.proofs.Places.{same_back, equal_of}

@@ -10,10 +10,10 @@ use Rattle.std.specs.declared.cmp.Ordering.{Ordering}
 use Rattle.std.specs.declared.cmp.Ordering.TheVariants.{Less, Equal, Greater}
 use Rattle.std.proofs.lemmas.List.{map-append}
 use Rattle.std.proofs.lemmas.List.Elements.{All-cons, All-nil, All-map, All-from_recursion}
-use Rattle.hickory_wire.specs.rr.domain.DomainName.{DomainName}
-use Rattle.hickory_wire.specs.rr.domain.NameOrder.{SameName, name_cmp, name_cmp_total}
-use Rattle.hickory_wire.specs.rr.domain.NameHash.{same_from_eq}
-use Rattle.hickory_wire.proofs.lemmas.rr.domain.SameNames.{eq_from_order, eq_from_same, order_from_eq}
+use Rattle.wire_names.specs.rr.domain.DomainName.{DomainName}
+use Rattle.wire_names.specs.rr.domain.NameOrder.{SameName, name_cmp, name_cmp_total}
+use Rattle.wire_names.specs.rr.domain.NameHash.{same_from_eq}
+use Rattle.wire_names.proofs.lemmas.rr.domain.SameNames.{eq_from_order, eq_from_same, order_from_eq}
 use Rattle.hickory_catalog.specs.Zones.{AreInOrder, ChangesAt, zones_around}
 
 pub same_of : (a b : DomainName) → name_cmp a b ≡ Equal → SameName a b

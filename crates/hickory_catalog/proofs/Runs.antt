@@ -7,9 +7,9 @@ use Rattle.std.proofs.lemmas.List.Concat.{flat_map-cons}
 use Rattle.std.proofs.lemmas.Bool.Decides.{leb_tells}
 use Rattle.hickory_catalog.specs.Runs.{IsRoom, IsRunLength}
 use Rattle.hickory_catalog.specs.Transfers.{AreRuns, full, last, message_size}
-use Rattle.hickory_wire.specs.serialize.writing.RecordSize.{full_size}
-use Rattle.hickory_wire.specs.declared.rr.rdata.RData.{RData}
-use Rattle.hickory_wire.specs.declared.rr.record.Record.{Record}
+use Rattle.wire_messages.specs.serialize.writing.RecordSize.{full_size}
+use Rattle.wire_messages.specs.declared.rr.rdata.RData.{RData}
+use Rattle.wire_messages.specs.declared.rr.record.Record.{Record}
 
 -- records with no size are none
 sizeless : (records : List (Record RData)) → sum_by full_size records ≤ 0 → length records ≤ 1

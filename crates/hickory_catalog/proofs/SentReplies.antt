@@ -3,21 +3,21 @@ use Rattle.std.proofs.Common.{◌≡◌, ◌≢◌, Result, Ok, Err, ℕ, ◌+�
 use Rattle.std.specs.Option.{option_copied}
 use Rattle.std.specs.Prelude.{IfOk, IfErr, OnOk}
 use Rattle.hickory_wire.specs.serialize.writing.ReplyParts.{CannotBeWritten, ReplyWritten}
-use Rattle.hickory_wire.specs.serialize.writing.Writing.{Fronts, Written}
-use Rattle.hickory_wire.specs.declared.error.ProtoError.{ProtoError}
-use Rattle.hickory_wire.specs.declared.error.ProtoError.TheVariants.{Memory}
+use Rattle.wire_writing.specs.serialize.writing.Writing.{Fronts, Written}
+use Rattle.wire_names.specs.declared.error.ProtoError.{ProtoError}
+use Rattle.wire_names.specs.declared.error.ProtoError.TheVariants.{Memory}
 use Rattle.std.specs.Iterator.Adapters.{chain_first, chain_first_done, chain_second, chain_second_done, chain_steps, once_steps, once_item}
 use Rattle.std.specs.Slice.Iter.{iter_steps, iter_rest}
 use Rattle.std.proofs.lemmas.Iterator.Adapters.{YieldsList-from_once}
 use Rattle.std.proofs.lemmas.Iterator.Consumers.{YieldsList-from_chain}
 use Rattle.std.proofs.lemmas.Iterator.{items_from_drains, YieldsList-from_slice}
-use Rattle.hickory_wire.specs.op.EdnsFields.{EdnsFields}
-use Rattle.hickory_wire.specs.serialize.writing.Reply.{Reply}
-use Rattle.hickory_wire.specs.declared.op.header.Header.{Header}
-use Rattle.hickory_wire.specs.declared.op.header.Metadata.{Metadata}
-use Rattle.hickory_wire.specs.declared.rr.rdata.RData.{RData}
-use Rattle.hickory_wire.specs.declared.rr.record.Record.{Record}
-use Rattle.hickory_wire.specs.declared.rr.tsig.TSIG.{TSIG}
+use Rattle.wire_messages.specs.op.EdnsFields.{EdnsFields}
+use Rattle.wire_messages.specs.serialize.writing.Reply.{Reply}
+use Rattle.wire_messages.specs.declared.op.header.Header.{Header}
+use Rattle.wire_messages.specs.declared.op.header.Metadata.{Metadata}
+use Rattle.wire_messages.specs.declared.rr.rdata.RData.{RData}
+use Rattle.wire_messages.specs.declared.rr.record.Record.{Record}
+use Rattle.wire_messages.specs.declared.rr.tsig.TSIG.{TSIG}
 use Rattle.hickory_base.specs.responses.Responses.{GivesBy, IsReplyOf, ReplyBase, header_of}
 use Rattle.hickory_base.specs.responses.Sinks.{AddsEntry}
 use Rattle.hickory_base.specs.declared.responses.message_response.MessageResponse.{MessageResponse}

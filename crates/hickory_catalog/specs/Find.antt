@@ -2,8 +2,8 @@
 use Rattle.std.specs.Prelude.{◌≡◌, ◌≤◌, List, length, Option, Some, None, true}
 use Rattle.std.specs.Bool.{MatchBool}
 use Rattle.std.specs.List.{All, Contains}
-use Rattle.hickory_wire.specs.rr.domain.DomainName.{DomainName}
-use Rattle.hickory_wire.specs.rr.domain.NameOrder.{SameName, Encloses}
+use Rattle.wire_names.specs.rr.domain.DomainName.{DomainName}
+use Rattle.wire_names.specs.rr.domain.NameOrder.{SameName, Encloses}
 use Rattle.hickory_catalog.specs.Zones.{AreInOrder}
 
 -- A zone of this apex may answer for the name. For a fully qualified name the apex is fully qualified and equals or encloses it;

@@ -1,12 +1,12 @@
 -- Laws of the replies of a server that asked elsewhere: what anybody can see of such a reply.
 use Rattle.std.specs.Prelude.{◌≡◌, ◌≢◌, ◌||◌, nat_eq, ℕ, Bool, true, false, List, [], ◌∷◌, ◌++◌, Option, None, IfSome, IsSome, option_to_list, OnErr, Result, Ok, Err}
 use Rattle.std.specs.List.{AllByRecursion, list_any}
-use Rattle.hickory_wire.specs.rr.RecordData.{type_of}
-use Rattle.hickory_wire.specs.declared.op.header.Metadata.{Metadata}
-use Rattle.hickory_wire.specs.declared.op.query.Query.{Query}
-use Rattle.hickory_wire.specs.declared.rr.rdata.RData.{RData}
-use Rattle.hickory_wire.specs.declared.rr.record.Proof.TheVariants.{Secure, Bogus}
-use Rattle.hickory_wire.specs.declared.rr.record.Record.{Record}
+use Rattle.wire_messages.specs.rr.RecordData.{type_of}
+use Rattle.wire_messages.specs.declared.op.header.Metadata.{Metadata}
+use Rattle.wire_messages.specs.declared.op.query.Query.{Query}
+use Rattle.wire_messages.specs.declared.rr.rdata.RData.{RData}
+use Rattle.wire_messages.specs.declared.rr.record.Proof.TheVariants.{Secure, Bogus}
+use Rattle.wire_messages.specs.declared.rr.record.Record.{Record}
 use Rattle.hickory_base.specs.Failures.{soa_of}
 use Rattle.hickory_base.specs.zone_store.Lookups.{answers_of, asks_for_dnssec}
 use Rattle.hickory_base.specs.declared.errors.LookupError.{LookupError}

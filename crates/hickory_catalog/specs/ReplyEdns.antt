@@ -1,7 +1,7 @@
 -- What the OPT record of a reply says, for what the request's says and what identifies the server.
 use Rattle.std.specs.Prelude.{◌==◌, ◌&&◌, ◌/◌, ℕ, Bool, cond, max, List, [], ◌∷◌, find, is_some, Option, Some, None, option_map}
-use Rattle.hickory_wire.specs.op.EdnsFields.{EdnsFields}
-use Rattle.hickory_wire.specs.declared.op.edns.EdnsOption.{EdnsOption}
+use Rattle.wire_messages.specs.op.EdnsFields.{EdnsFields}
+use Rattle.wire_messages.specs.declared.op.edns.EdnsOption.{EdnsOption}
 
 -- The client asks for the server's identifier: it sends the option NSID (RFC 5001 section 2.1), which is 3 (section 2.3). Data in it are
 -- ignored (section 2.2).

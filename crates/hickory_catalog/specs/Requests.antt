@@ -1,10 +1,10 @@
 -- Which reply a request gets.
 use Rattle.std.specs.Prelude.{◌≡◌, ◌==◌, ◌||◌, ℕ, Bool, true, false, cond, List, [], ◌∷◌, Option, Some, None, is_some}
-use Rattle.hickory_wire.specs.rr.domain.DomainName.{DomainName}
-use Rattle.hickory_wire.specs.op.EdnsFields.{EdnsFields}
-use Rattle.hickory_wire.specs.serialize.writing.Reply.{Reply}
-use Rattle.hickory_wire.specs.declared.op.header.MessageType.{MessageType}
-use Rattle.hickory_wire.specs.declared.op.header.MessageType.TheVariants as message_type
+use Rattle.wire_names.specs.rr.domain.DomainName.{DomainName}
+use Rattle.wire_messages.specs.op.EdnsFields.{EdnsFields}
+use Rattle.wire_messages.specs.serialize.writing.Reply.{Reply}
+use Rattle.wire_messages.specs.declared.op.header.MessageType.{MessageType}
+use Rattle.wire_messages.specs.declared.op.header.MessageType.TheVariants as message_type
 use Rattle.hickory_base.specs.requests.Questions.{edns_version}
 use Rattle.hickory_base.specs.requests.Requests.{ReceivedRequest}
 use Rattle.hickory_base.specs.declared.errors.CatalogError.{CatalogError}

@@ -1,9 +1,9 @@
 -- How long the next run of a transfer's records is, as the program counts it.
 use Rattle.std.specs.Prelude.{◌≡◌, ◌⊎◌, ◌+◌, ◌<◌, ◌≤◌, ℕ, List, length, take}
 use Rattle.std.specs.List.{sum_by}
-use Rattle.hickory_wire.specs.serialize.writing.RecordSize.{full_size}
-use Rattle.hickory_wire.specs.declared.rr.rdata.RData.{RData}
-use Rattle.hickory_wire.specs.declared.rr.record.Record.{Record}
+use Rattle.wire_messages.specs.serialize.writing.RecordSize.{full_size}
+use Rattle.wire_messages.specs.declared.rr.rdata.RData.{RData}
+use Rattle.wire_messages.specs.declared.rr.record.Record.{Record}
 
 -- what a message of 65,535 bytes leaves behind so many, or 0 where these are more
 pub record IsRoom (front room : ℕ) : Type 0 where

@@ -3,8 +3,8 @@
 use Rattle.std.specs.Prelude.{◌<◌, List, length, Option, Some, None}
 use Rattle.std.specs.List.{All, Contains}
 use Rattle.std.specs.BTreeMap.Range.{IsLeBy}
-use Rattle.hickory_wire.specs.rr.domain.DomainName.{DomainName}
-use Rattle.hickory_wire.specs.rr.domain.NameOrder.{Encloses, name_cmp}
+use Rattle.wire_names.specs.rr.domain.DomainName.{DomainName}
+use Rattle.wire_names.specs.rr.domain.NameOrder.{Encloses, name_cmp}
 use Rattle.hickory_catalog.specs.Find.{MayAnswer}
 
 -- The zone is the last of those whose apex is the name or stands before it.

@@ -1,11 +1,11 @@
 -- How replies reach a sink, and what the caller is told.
 use Rattle.std.specs.Prelude.{◌≡◌, ◌+◌, ◌%◌, ◌^◌, ◌⊎◌, ◌++◌, ◌∷◌, [], ℕ, List}
 use Rattle.std.specs.List.{AllZip}
-use Rattle.hickory_wire.specs.op.Metadata.{bare_metadata}
-use Rattle.hickory_wire.specs.serialize.writing.Reply.{Reply}
-use Rattle.hickory_wire.specs.declared.op.header.Header.{Header}
-use Rattle.hickory_wire.specs.declared.op.header.MessageType.TheVariants.{Response}
-use Rattle.hickory_wire.specs.declared.op.header.Metadata.{Metadata}
+use Rattle.wire_messages.specs.op.Metadata.{bare_metadata}
+use Rattle.wire_messages.specs.serialize.writing.Reply.{Reply}
+use Rattle.wire_messages.specs.declared.op.header.Header.{Header}
+use Rattle.wire_messages.specs.declared.op.header.MessageType.TheVariants.{Response}
+use Rattle.wire_messages.specs.declared.op.header.Metadata.{Metadata}
 use Rattle.hickory_base.specs.declared.responses.response_handler.ResponseHandler.{Ghosts}
 use Rattle.hickory_base.specs.responses.Sinks.{AddsEntry}
 

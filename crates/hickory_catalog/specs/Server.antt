@@ -1,6 +1,6 @@
 -- What serves, as contracts see it.
 use Rattle.std.specs.Prelude.{ℕ, List, Option}
-use Rattle.hickory_wire.specs.rr.domain.DomainName.{DomainName}
+use Rattle.wire_names.specs.rr.domain.DomainName.{DomainName}
 use Rattle.hickory_base.specs.declared.zone_store.handler.ZoneHandler.{Ghosts}
 use Rattle.hickory_catalog.specs.Signing.{Signer}
 use Rattle.hickory_catalog.specs.declared.catalog.Catalog.{Catalog}

@@ -1,13 +1,13 @@
 -- How a reply gets its transaction signature (RFC 8945 section 5.3).
 use Rattle.std.specs.Prelude.{◌≡◌, ℕ, List, Option, Some, None}
-use Rattle.hickory_wire.specs.op.EdnsFields.{EdnsFields}
-use Rattle.hickory_wire.specs.serialize.writing.Reply.{Reply}
+use Rattle.wire_messages.specs.op.EdnsFields.{EdnsFields}
+use Rattle.wire_messages.specs.serialize.writing.Reply.{Reply}
 use Rattle.hickory_wire.specs.serialize.writing.ReplyParts.{CannotBeWritten}
-use Rattle.hickory_wire.specs.serialize.writing.Writing.{Fronts, Written}
-use Rattle.hickory_wire.specs.declared.error.ProtoError.{ProtoError}
-use Rattle.hickory_wire.specs.declared.rr.record.Record.{Record}
-use Rattle.hickory_wire.specs.declared.rr.tsig.TSIG.{TSIG}
-use Rattle.hickory_wire.specs.declared.rr.tsig.TSigResponseContext.{TSigResponseContext}
+use Rattle.wire_writing.specs.serialize.writing.Writing.{Fronts, Written}
+use Rattle.wire_names.specs.declared.error.ProtoError.{ProtoError}
+use Rattle.wire_messages.specs.declared.rr.record.Record.{Record}
+use Rattle.wire_messages.specs.declared.rr.tsig.TSIG.{TSIG}
+use Rattle.wire_messages.specs.declared.rr.tsig.TSigResponseContext.{TSigResponseContext}
 use Rattle.hickory_base.specs.declared.requests.message_request.MessageRequest.{MessageRequest}
 use Rattle.hickory_catalog.specs.Replies.{Contents, error_reply, unsigned_reply}
 

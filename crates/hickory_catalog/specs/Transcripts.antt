@@ -2,8 +2,8 @@
 use Rattle.std.specs.Prelude.{◌≡◌, ℕ, zero, suc, Bool, true, false, List, [], ◌∷◌, Option, Some, None, Err}
 use Rattle.std.specs.List.{remove}
 use Rattle.std.specs.Option.{option_or}
-use Rattle.hickory_wire.specs.rr.domain.NameOrder.{lower_name}
-use Rattle.hickory_wire.specs.declared.rr.tsig.TSigResponseContext.{TSigResponseContext}
+use Rattle.wire_names.specs.rr.domain.NameOrder.{lower_name}
+use Rattle.wire_messages.specs.declared.rr.tsig.TSigResponseContext.{TSigResponseContext}
 use Rattle.hickory_base.specs.zone_store.Lookups.{Flow, asks_for_dnssec}
 use Rattle.hickory_base.specs.requests.Requests.{ReceivedRequest, RequestInformation}
 use Rattle.hickory_base.specs.declared.errors.LookupError.{LookupError}

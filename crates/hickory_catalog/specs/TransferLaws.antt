@@ -1,11 +1,11 @@
 -- What follows for the replies of a transfer that is sent in as many as it takes (RFC 5936 section 2.2).
 use Rattle.std.specs.Prelude.{◌≡◌, ◌⊎◌, ℕ, ◌<◌, ◌≤◌, List, [], ◌∷◌, Option, IfSome}
 use Rattle.std.specs.List.{AllByRecursion, flat_map}
-use Rattle.hickory_wire.specs.op.EdnsFields.{EdnsFields}
-use Rattle.hickory_wire.specs.serialize.writing.Reply.{Reply, opt_record}
-use Rattle.hickory_wire.specs.serialize.writing.WholeReply.{FitsWhole, HasForm}
-use Rattle.hickory_wire.specs.declared.rr.rdata.RData.{RData}
-use Rattle.hickory_wire.specs.declared.rr.record.Record.{Record}
+use Rattle.wire_messages.specs.op.EdnsFields.{EdnsFields}
+use Rattle.wire_messages.specs.serialize.writing.Reply.{Reply, opt_record}
+use Rattle.wire_writing.specs.serialize.writing.WholeReply.{FitsWhole, HasForm}
+use Rattle.wire_messages.specs.declared.rr.rdata.RData.{RData}
+use Rattle.wire_messages.specs.declared.rr.record.Record.{Record}
 use Rattle.hickory_base.specs.declared.requests.message_request.MessageRequest.{MessageRequest}
 use Rattle.hickory_catalog.specs.Transfers.{AreRuns, AreTransferReplies, message_size, size_without_answers}
 

@@ -2,16 +2,16 @@
 use Rattle.std.specs.Prelude.{◌≡◌, ◌⊎◌, ◌+◌, ◌<◌, ◌≤◌, ◌&&◌, ℕ, Bool, true, false, not, List, [], ◌∷◌, length, map, take, drop, Option, Some, None, is_none, Result, Ok, Err, is_ok}
 use Rattle.std.specs.List.{sum_by}
 use Rattle.std.specs.Option.{option_map, option_to_list}
-use Rattle.hickory_wire.specs.op.EdnsFields.{EdnsFields}
-use Rattle.hickory_wire.specs.serialize.writing.RecordSize.{full_size}
-use Rattle.hickory_wire.specs.serialize.writing.Reply.{Reply, opt_record}
-use Rattle.hickory_wire.specs.declared.protocol.Protocol.{Protocol}
-use Rattle.hickory_wire.specs.declared.protocol.Protocol.TheVariants as protocol
-use Rattle.hickory_wire.specs.declared.rr.rdata.RData.{RData}
-use Rattle.hickory_wire.specs.declared.rr.record.Record.{Record}
+use Rattle.wire_messages.specs.op.EdnsFields.{EdnsFields}
+use Rattle.wire_messages.specs.serialize.writing.RecordSize.{full_size}
+use Rattle.wire_messages.specs.serialize.writing.Reply.{Reply, opt_record}
+use Rattle.wire_messages.specs.declared.protocol.Protocol.{Protocol}
+use Rattle.wire_messages.specs.declared.protocol.Protocol.TheVariants as protocol
+use Rattle.wire_messages.specs.declared.rr.rdata.RData.{RData}
+use Rattle.wire_messages.specs.declared.rr.record.Record.{Record}
 use Rattle.hickory_base.specs.declared.requests.message_request.MessageRequest.{MessageRequest}
-use Rattle.hickory_wire.specs.declared.op.header.Metadata.{Metadata}
-use Rattle.hickory_wire.specs.declared.rr.tsig.TSigResponseContext.{TSigResponseContext}
+use Rattle.wire_messages.specs.declared.op.header.Metadata.{Metadata}
+use Rattle.wire_messages.specs.declared.rr.tsig.TSigResponseContext.{TSigResponseContext}
 use Rattle.hickory_base.specs.requests.Requests.{ReceivedRequest}
 use Rattle.hickory_base.specs.declared.errors.LookupError.{LookupError}
 use Rattle.hickory_base.specs.declared.zone_store.handler.ZoneHandler.{Ghosts}

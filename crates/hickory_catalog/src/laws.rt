@@ -1,9 +1,9 @@
 //! Laws of the definitions, each the contract of a function with nothing to do.
 
 ghost use Rattle.std.specs.Prelude.{◌≡◌, List};
-ghost use Rattle.hickory_wire.specs.serialize.writing.Reply.{Reply};
-ghost use Rattle.hickory_wire.specs.declared.op.header.Header.{Header};
-ghost use Rattle.hickory_wire.specs.declared.op.header.Metadata.{Metadata};
+ghost use Rattle.wire_messages.specs.serialize.writing.Reply.{Reply};
+ghost use Rattle.wire_messages.specs.declared.op.header.Header.{Header};
+ghost use Rattle.wire_messages.specs.declared.op.header.Metadata.{Metadata};
 ghost use Rattle.hickory_catalog.specs.Alone.{ApexesStay, OfZoneIsDecided, OneChain, OthersStay, ServedAlone};
 ghost use Rattle.hickory_catalog.specs.AuthoritativeLaws.{AuthoritativeCodes, AuthoritativeHeaders, NegativeReplies, ReferralsAreNoAnswers};
 ghost use Rattle.hickory_catalog.specs.DecodedReplies.{CatalogReplyDecodes, ErrorRepliesFit, QueryRepliesFit, ReplyEdnsFits, SignedRepliesFit, UpdateRepliesFit};

@@ -1,8 +1,8 @@
 //! From a query to its replies.
 
 ghost use Rattle.std.specs.Prelude.{◌≡◌, ◌==◌, ◌<◌, true, false, List, Option, IfOk, IfErr, IfSome, IsSome, Some, length, slice_get};
-ghost use Rattle.hickory_wire.specs.op.EdnsFields.{EdnsFields};
-ghost use Rattle.hickory_wire.specs.serialize.writing.Reply.{Reply};
+ghost use Rattle.wire_messages.specs.op.EdnsFields.{EdnsFields};
+ghost use Rattle.wire_messages.specs.serialize.writing.Reply.{Reply};
 ghost use Rattle.hickory_base.specs.zone_store.Lookups.{result_of};
 ghost use Rattle.hickory_base.specs.requests.Requests.{information};
 ghost use Rattle.hickory_base.specs.responses.Responses.{header_of};

@@ -3,7 +3,7 @@
 ghost use Rattle.std.specs.Prelude.{◌≡◌, [], IfOk, IfErr};
 ghost use Rattle.std.specs.Iterator.{IsFinite};
 ghost use Rattle.std.specs.Option.{option_copied};
-ghost use Rattle.hickory_wire.specs.serialize.writing.Reply.{Reply};
+ghost use Rattle.wire_messages.specs.serialize.writing.Reply.{Reply};
 ghost use Rattle.hickory_base.specs.responses.Responses.{IsReplyBy, header_of};
 ghost use Rattle.hickory_catalog.specs.Replies.{contents_of, error_reply, plain_reply, unsigned_reply};
 ghost use Rattle.hickory_catalog.specs.Sending.{Fails, Sends, Takes, failure_header};

@@ -23,9 +23,9 @@ pub enum SignError {
 /// the TSIG record, or `None` where the signer cannot sign.
 pub trait ReplySigner: Drop {
     ghost use Rattle.std.specs.Prelude.{◌≡◌, ◌≢◌, ℕ, List, Option, Some, None, IfOk, IfErr};
-    ghost use Rattle.hickory_wire.specs.declared.rr.record.Record.{Record};
-    ghost use Rattle.hickory_wire.specs.declared.rr.tsig.TSIG.{TSIG};
-    ghost use Rattle.hickory_wire.specs.declared.rr.tsig.TSigResponseContext.{TSigResponseContext};
+    ghost use Rattle.wire_messages.specs.declared.rr.record.Record.{Record};
+    ghost use Rattle.wire_messages.specs.declared.rr.tsig.TSIG.{TSIG};
+    ghost use Rattle.wire_messages.specs.declared.rr.tsig.TSigResponseContext.{TSigResponseContext};
 
     ghost signature_for: { Self → TSigResponseContext → List ℕ → Option (Record TSIG) };
 

@@ -3,9 +3,9 @@
 ghost use Rattle.std.specs.Prelude.{◌≡◌, ◌≢◌, [], IfOk, IfErr, OnOk, Some, None};
 ghost use Rattle.std.specs.Option.{option_copied};
 ghost use Rattle.hickory_wire.specs.serialize.writing.Encoder.{IsSameVector, max_size, written_bytes};
-ghost use Rattle.hickory_wire.specs.serialize.writing.Reply.{Reply};
+ghost use Rattle.wire_messages.specs.serialize.writing.Reply.{Reply};
 ghost use Rattle.hickory_wire.specs.serialize.writing.ReplyParts.{CannotBeWritten};
-ghost use Rattle.hickory_wire.specs.serialize.writing.Writing.{Fronts, Written};
+ghost use Rattle.wire_writing.specs.serialize.writing.Writing.{Fronts, Written};
 ghost use Rattle.hickory_base.specs.responses.Responses.{header_of};
 ghost use Rattle.hickory_catalog.specs.Replies.{contents_of, plain_reply};
 ghost use Rattle.hickory_catalog.specs.Sending.{IsUntouched, Sends};

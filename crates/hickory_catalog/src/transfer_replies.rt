@@ -2,9 +2,9 @@
 
 ghost use Rattle.std.specs.Prelude.{List, map};
 ghost use Rattle.std.specs.Option.{option_copied};
-ghost use Rattle.hickory_wire.specs.serialize.writing.Reply.{Reply};
-ghost use Rattle.hickory_wire.specs.declared.rr.rdata.RData.{RData};
-ghost use Rattle.hickory_wire.specs.declared.rr.record.Record.{Record};
+ghost use Rattle.wire_messages.specs.serialize.writing.Reply.{Reply};
+ghost use Rattle.wire_messages.specs.declared.rr.rdata.RData.{RData};
+ghost use Rattle.wire_messages.specs.declared.rr.record.Record.{Record};
 ghost use Rattle.hickory_base.specs.responses.Responses.{header_of};
 ghost use Rattle.hickory_catalog.specs.Runs.{IsRoom, IsRunLength};
 ghost use Rattle.hickory_catalog.specs.Sending.{SendsInOrder};

@@ -2,7 +2,7 @@
 
 ghost use Rattle.std.specs.Prelude.{◌≡◌, ◌<◌, ◌^◌, ℕ, IfOk, IfErr, Some};
 ghost use Rattle.std.specs.Option.{option_copied};
-ghost use Rattle.hickory_wire.specs.serialize.writing.Reply.{Reply};
+ghost use Rattle.wire_messages.specs.serialize.writing.Reply.{Reply};
 ghost use Rattle.hickory_base.specs.responses.Responses.{header_of};
 ghost use Rattle.hickory_catalog.specs.Replies.{contents_of};
 ghost use Rattle.hickory_catalog.specs.Sending.{IsUntouched, Sends};

@@ -1,7 +1,7 @@
 //! The zones by name.
 
 ghost use Rattle.std.specs.Prelude.{◌≡◌, ◌↔◌, [], true, IfOk, IfErr, OnErr, IsTrue, Some, None, option_map};
-ghost use Rattle.hickory_wire.specs.rr.domain.NameOrder.{Encloses};
+ghost use Rattle.wire_names.specs.rr.domain.NameOrder.{Encloses};
 ghost use Rattle.hickory_catalog.specs.Zones.{AreInOrder, HasZone, ChangesAt};
 ghost use Rattle.hickory_catalog.specs.Updates.{ZoneUpdated};
 ghost use Rattle.hickory_catalog.specs.Find.{Finds, OneAnswers, CaseDoesNotMatter};
@@ -27,8 +27,8 @@ pub struct Zones<H> {
 impl<H> Model for Zones<H> {
     ghost use Rattle.std.specs.Prelude.{List, map};
     ghost use Rattle.std.specs.BTreeMap.{IsOrdered};
-    ghost use Rattle.hickory_wire.specs.rr.domain.DomainName.{DomainName};
-    ghost use Rattle.hickory_wire.specs.rr.domain.NameOrder.{name_cmp};
+    ghost use Rattle.wire_names.specs.rr.domain.DomainName.{DomainName};
+    ghost use Rattle.wire_names.specs.rr.domain.NameOrder.{name_cmp};
 
     ghost Value = { List (DomainName × List H) };
 

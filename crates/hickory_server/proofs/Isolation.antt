@@ -2,12 +2,12 @@
 use Rattle.std.proofs.Common.{◌≡◌, ◌⊎◌, inl, inr, ℕ, List, [], ◌∷◌, Ok, Contains, refl, sym, ap, subst, ◌∙◌}
 use Rattle.std.specs.List.Sorted.{IsStrictlySortedBy}
 use Rattle.std.specs.Map.{keys_of}
-use Rattle.hickory_wire.specs.rr.domain.DomainName.{DomainName}
-use Rattle.hickory_wire.specs.rr.domain.NameOrder.{name_cmp}
-use Rattle.hickory_wire.specs.serialize.reading.MessageReading.{Fault, Reads}
-use Rattle.hickory_wire.specs.declared.error.DecodeError.{DecodeError}
-use Rattle.hickory_wire.specs.declared.op.message.Message.{Message}
-use Rattle.hickory_wire.specs.declared.op.query.Query.{Query}
+use Rattle.wire_names.specs.rr.domain.DomainName.{DomainName}
+use Rattle.wire_names.specs.rr.domain.NameOrder.{name_cmp}
+use Rattle.wire_reading.specs.serialize.reading.MessageReading.{Fault, Reads}
+use Rattle.wire_names.specs.declared.error.DecodeError.{DecodeError}
+use Rattle.wire_reading.specs.declared.op.message.Message.{Message}
+use Rattle.wire_messages.specs.declared.op.query.Query.{Query}
 use Rattle.access_control.specs.Access.{AccessSets}
 use Rattle.hickory_base.specs.requests.Questions.{one_query}
 use Rattle.hickory_base.specs.requests.RequestReading.{message_of}

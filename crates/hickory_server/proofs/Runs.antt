@@ -1,6 +1,6 @@
 -- Runs that go on by one message.
 use Rattle.std.proofs.Common.{◌≡◌, List, [], ◌∷◌, ◌++◌, refl, ap, subst, ◌∙◌}
-use Rattle.hickory_wire.specs.rr.domain.DomainName.{DomainName}
+use Rattle.wire_names.specs.rr.domain.DomainName.{DomainName}
 use Rattle.access_control.specs.Access.{AccessSets}
 use Rattle.hickory_base.specs.declared.zone_store.handler.ZoneHandler.{Ghosts}
 use Rattle.hickory_catalog.specs.Server.{Server, server_of}

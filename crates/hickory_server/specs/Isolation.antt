@@ -1,7 +1,7 @@
 -- Each zone of a server is served as if it were the only one.
 use Rattle.std.specs.Prelude.{[], ◌∷◌, ℕ, List, Contains}
 use Rattle.std.specs.Net.Socket.{socket_ip}
-use Rattle.hickory_wire.specs.rr.domain.DomainName.{DomainName}
+use Rattle.wire_names.specs.rr.domain.DomainName.{DomainName}
 use Rattle.access_control.specs.Access.{AccessSets, IsAllowed}
 use Rattle.hickory_base.specs.requests.Requests.{ReceivedRequest}
 use Rattle.hickory_base.specs.declared.zone_store.handler.ZoneHandler.{Ghosts}

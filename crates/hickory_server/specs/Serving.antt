@@ -2,10 +2,10 @@
 use Rattle.std.specs.Prelude.{◌≡◌, ◌⊎◌, ◌++◌, ◌∷◌, [], ℕ, List}
 use Rattle.std.specs.Net.Socket.{socket_ip}
 use Rattle.std.specs.List.{AllZip}
-use Rattle.hickory_wire.specs.rr.domain.DomainName.{DomainName}
-use Rattle.hickory_wire.specs.serialize.reading.MessageReading.{Reads}
-use Rattle.hickory_wire.specs.serialize.writing.Reply.{Reply}
-use Rattle.hickory_wire.specs.declared.error.ProtoError.{ProtoError}
+use Rattle.wire_names.specs.rr.domain.DomainName.{DomainName}
+use Rattle.wire_reading.specs.serialize.reading.MessageReading.{Reads}
+use Rattle.wire_messages.specs.serialize.writing.Reply.{Reply}
+use Rattle.wire_names.specs.declared.error.ProtoError.{ProtoError}
 use Rattle.access_control.specs.Access.{AccessSets, IsAllowed}
 use Rattle.hickory_base.specs.requests.RequestReading.{IsFaultOf, IsQuestionSection, message_of}
 use Rattle.hickory_base.specs.requests.Requests.{ReceivedRequest}

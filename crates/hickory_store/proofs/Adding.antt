@@ -1,7 +1,7 @@
 -- What is left after an error of adding.
 use Rattle.std.proofs.Common.{◌≡◌, ℕ, List, inl, inr, Option, Result, Ok, Err, refl, sym, subst}
 use Rattle.std.specs.Result.{IsErrAnd}
-use Rattle.hickory_wire.specs.rr.domain.DomainName.{DomainName}
+use Rattle.wire_names.specs.rr.domain.DomainName.{DomainName}
 use Rattle.std.specs.Str.Lines.{lines}
 use Rattle.hickory_store.specs.Adding.{Adds, ReadsText}
 use Rattle.hickory_store.specs.Entries.{AddsFirstLines}

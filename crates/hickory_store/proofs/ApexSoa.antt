@@ -1,9 +1,9 @@
 -- The apex keeps one SOA.
 use Rattle.std.proofs.Common.{◌≡◌, ◌⊎◌, inl, inr, ◌∙◌, ap, sym, refl, ℕ, ◌+◌, Bool, true, false, cond, not, ◌&&◌, ◌||◌, ◌++◌, List, [], ◌∷◌, filter, arith, nat_eq}
 use Rattle.std.proofs.lemmas.List.{append-nil}
-use Rattle.hickory_wire.specs.rr.domain.DomainName.{DomainName}
-use Rattle.hickory_wire.specs.rr.domain.NameOrder.{name_eq}
-use Rattle.hickory_wire.specs.rr.RecordData.{type_of}
+use Rattle.wire_names.specs.rr.domain.DomainName.{DomainName}
+use Rattle.wire_names.specs.rr.domain.NameOrder.{name_eq}
+use Rattle.wire_messages.specs.rr.RecordData.{type_of}
 use Rattle.hickory_store.specs.Changes.{comes, goes_when, in_class, in_rrset, is_cleared, is_spared, is_type, replaces_rrset, turn}
 use Rattle.hickory_store.specs.Identity.{same_data, same_record}
 use Rattle.hickory_store.specs.UpdateAnswers.{is_apex_soa}

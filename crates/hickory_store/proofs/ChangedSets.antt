@@ -14,12 +14,12 @@ use Rattle.std.proofs.lemmas.List.Elements.{filter-append}
 use Rattle.std.proofs.lemmas.List.Folds.{list_any-append}
 use Rattle.std.proofs.lemmas.Map.Made.{is_some-lookup}
 use Rattle.std.proofs.lemmas.Map.Views.{any-filter_same}
-use Rattle.hickory_wire.specs.rr.domain.DomainName.{DomainName}
-use Rattle.hickory_wire.specs.rr.domain.NameOrder.{name_cmp, name_eq}
+use Rattle.wire_names.specs.rr.domain.DomainName.{DomainName}
+use Rattle.wire_names.specs.rr.domain.NameOrder.{name_cmp, name_eq}
 use Rattle.hickory_base.specs.zone_store.ZoneRecords.{existing, is_at, is_of, rrset}
 use Rattle.hickory_base.specs.zone_store.ZoneSets.{IsZone, has_name, is_key, keys_at, sets_of, zone_records}
-use Rattle.hickory_wire.specs.rr.RrKeys.{key_cmp}
-use Rattle.hickory_wire.specs.declared.rr.rr_key.RrKey.{RrKey}
+use Rattle.wire_messages.specs.rr.RrKeys.{key_cmp}
+use Rattle.wire_messages.specs.declared.rr.rr_key.RrKey.{RrKey}
 use Rattle.hickory_base.proofs.lemmas.zone_store.SharedSets.{lookup-shared}
 use Rattle.hickory_base.proofs.lemmas.zone_store.ZoneByName.{rrset_found}
 use Rattle.hickory_store.specs.NameUpdates.{AreNow, ByName, of_name, records_or}

@@ -1,9 +1,9 @@
 -- Data that are the same are of one type.
 use Rattle.std.proofs.Common.{◌∙◌, sym, ap}
 use Rattle.std.specs.Prelude.{◌↔◌, IsTrue}
-use Rattle.hickory_wire.specs.rr.RecordData.{type_of}
-use Rattle.hickory_wire.specs.rr.RecordSameness.{SameData}
-use Rattle.hickory_wire.specs.declared.rr.rdata.RData.{RData}
+use Rattle.wire_messages.specs.rr.RecordData.{type_of}
+use Rattle.wire_messages.specs.rr.RecordSameness.{SameData}
+use Rattle.wire_messages.specs.declared.rr.rdata.RData.{RData}
 use Rattle.hickory_store.specs.Identity.{same_data}
 use Rattle.hickory_store.proofs.ApexNs.{OfOneType}
 use Rattle.hickory_store.proofs.RecordByRecord.{type-lower}

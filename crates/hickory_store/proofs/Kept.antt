@@ -10,10 +10,10 @@ use Rattle.std.proofs.lemmas.List.Elements.{All-from_recursion, recursion_from_A
 use Rattle.std.proofs.lemmas.List.Sorted.{All-permutation}
 use Rattle.std.proofs.lemmas.List.Folds.{Any-from_list_any, list_any-from_Any}
 use Rattle.std.proofs.lemmas.Map.Steps.{list_any_congr}
-use Rattle.hickory_wire.specs.rr.domain.DomainName.{DomainName}
-use Rattle.hickory_wire.specs.rr.domain.NameOrder.{SameName, lower_labels, name_cmp_total, name_eq, is_wildcard}
-use Rattle.hickory_wire.specs.rr.domain.NameHash.{same_from_eq}
-use Rattle.hickory_wire.proofs.lemmas.rr.domain.SameNames.{eq_from_same, eq_is, both_ways, is_false}
+use Rattle.wire_names.specs.rr.domain.DomainName.{DomainName}
+use Rattle.wire_names.specs.rr.domain.NameOrder.{SameName, lower_labels, name_cmp_total, name_eq, is_wildcard}
+use Rattle.wire_names.specs.rr.domain.NameHash.{same_from_eq}
+use Rattle.wire_names.proofs.lemmas.rr.domain.SameNames.{eq_from_same, eq_is, both_ways, is_false}
 use Rattle.hickory_store.specs.Entries.{HasEntry, IsEntry, AreEntries, AddsEntry, wildcard_over}
 
 -- ---- membership as a test

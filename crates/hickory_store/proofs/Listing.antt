@@ -8,10 +8,10 @@ use Rattle.std.proofs.lemmas.Bool.Decides.{nat_tests}
 use Rattle.std.proofs.lemmas.List.{append-nil}
 use Rattle.std.proofs.lemmas.List.Elements.{All-head, Contains-push_cases, Contains-append_left}
 use Rattle.std.proofs.lemmas.List.Quantifiers.{Any-push}
-use Rattle.hickory_wire.specs.rr.domain.DomainName.{DomainName}
-use Rattle.hickory_wire.specs.rr.domain.NameOrder.{SameName, lower_label, lower_labels, is_wildcard}
-use Rattle.hickory_wire.specs.rr.domain.NameText.{IsNameByte, IsTextLabel, IsNameText, name_text}
-use Rattle.hickory_wire.proofs.lemmas.rr.domain.SameNames.{lower_labels-twice}
+use Rattle.wire_names.specs.rr.domain.DomainName.{DomainName}
+use Rattle.wire_names.specs.rr.domain.NameOrder.{SameName, lower_label, lower_labels, is_wildcard}
+use Rattle.wire_names.specs.rr.domain.NameText.{IsNameByte, IsTextLabel, IsNameText, name_text}
+use Rattle.wire_names.proofs.lemmas.rr.domain.SameNames.{lower_labels-twice}
 use Rattle.hickory_store.specs.ListLines.{Lists, name_part}
 use Rattle.hickory_store.specs.Entries.{IsEntry, AddsEntry, AddsLines}
 use Rattle.hickory_store.proofs.Kept.{full}

@@ -3,9 +3,9 @@ use Rattle.std.proofs.Common.{◌≡◌, ◌∙◌, ap, sym, refl, ℕ, Bool, tr
 use Rattle.std.specs.Prelude.{◌==◌}
 use Rattle.std.specs.List.{list_any}
 use Rattle.std.proofs.lemmas.List.Elements.{filter-append}
-use Rattle.hickory_wire.specs.rr.domain.DomainName.{DomainName}
-use Rattle.hickory_wire.specs.rr.domain.NameOrder.{name_eq}
-use Rattle.hickory_wire.specs.rr.RecordData.{type_of}
+use Rattle.wire_names.specs.rr.domain.DomainName.{DomainName}
+use Rattle.wire_names.specs.rr.domain.NameOrder.{name_eq}
+use Rattle.wire_messages.specs.rr.RecordData.{type_of}
 use Rattle.hickory_base.specs.zone_store.ZoneRecords.{is_at}
 use Rattle.hickory_store.specs.Changes.{changes, comes, fold, goes, goes_when, in_class, in_rrset, is_cleared, is_ignored, is_newer, is_spared, is_there, is_type, replaces_rrset, turn, turn_when}
 use Rattle.hickory_store.specs.Identity.{same_record, ttl_at}

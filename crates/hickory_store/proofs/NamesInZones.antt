@@ -1,7 +1,7 @@
 -- A name lies in a zone where the labels of the zone's origin end those of the name.
 use Rattle.std.proofs.Common.{◌≡◌, ℕ, Bool, true, false, ◌||◌, List, [], ◌∷◌, ◌++◌, refl, sym, ap}
-use Rattle.hickory_wire.specs.rr.domain.NameOrder.{lower_label, lower_labels, Encloses}
-use Rattle.hickory_wire.proofs.lemmas.rr.RecordComparing.{texts_from_eq, texts_equal}
+use Rattle.wire_names.specs.rr.domain.NameOrder.{lower_label, lower_labels, Encloses}
+use Rattle.wire_messages.proofs.lemmas.rr.RecordComparing.{texts_from_eq, texts_equal}
 use Rattle.hickory_store.specs.Identity.{end_of, same_labels}
 
 from_same : (a b : List (List ℕ)) → same_labels a b ≡ true → lower_labels b ≡ lower_labels a

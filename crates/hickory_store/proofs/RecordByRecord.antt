@@ -6,16 +6,16 @@ use Rattle.std.specs.List.{list_all, list_any}
 use Rattle.std.specs.Ordering.{is_eq}
 use Rattle.std.proofs.lemmas.Bool.{eq-eqb, eqb-true}
 use Rattle.std.proofs.lemmas.List.Elements.{filter_agree}
-use Rattle.hickory_wire.specs.rr.domain.DomainName.{DomainName}
-use Rattle.hickory_wire.specs.rr.domain.NameHash.{same_from_eq}
-use Rattle.hickory_wire.specs.rr.domain.NameOrder.{name_eq, SameName}
-use Rattle.hickory_wire.specs.rr.RecordData.{type_of}
-use Rattle.hickory_wire.specs.rr.RecordSameness.{lower_data, SameRecord}
-use Rattle.hickory_wire.specs.declared.rr.rdata.RData.{RData}
-use Rattle.hickory_wire.specs.declared.rr.rdata.RData.TheVariants as rdata
-use Rattle.hickory_wire.specs.declared.rr.record.Record.{Record}
-use Rattle.hickory_wire.proofs.lemmas.rr.RecordComparing.{both_hold, hold_both}
-use Rattle.hickory_wire.proofs.lemmas.rr.domain.SameNames.{both_ways, eq_from_same, same_order}
+use Rattle.wire_names.specs.rr.domain.DomainName.{DomainName}
+use Rattle.wire_names.specs.rr.domain.NameHash.{same_from_eq}
+use Rattle.wire_names.specs.rr.domain.NameOrder.{name_eq, SameName}
+use Rattle.wire_messages.specs.rr.RecordData.{type_of}
+use Rattle.wire_messages.specs.rr.RecordSameness.{lower_data, SameRecord}
+use Rattle.wire_messages.specs.declared.rr.rdata.RData.{RData}
+use Rattle.wire_messages.specs.declared.rr.rdata.RData.TheVariants as rdata
+use Rattle.wire_messages.specs.declared.rr.record.Record.{Record}
+use Rattle.wire_messages.proofs.lemmas.rr.RecordComparing.{both_hold, hold_both}
+use Rattle.wire_names.proofs.lemmas.rr.domain.SameNames.{both_ways, eq_from_same, same_order}
 use Rattle.hickory_base.specs.zone_store.ZoneRecords.{is_of, rrset}
 use Rattle.hickory_store.specs.Identity.{same_record}
 use Rattle.hickory_store.specs.Prerequisites.{same_rrset, sets_match}

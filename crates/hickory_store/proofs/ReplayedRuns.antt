@@ -1,7 +1,7 @@
 -- A journal, done to the zone that was there before, gives the zone that the requests left.
 use Rattle.std.proofs.Common.{◌≡◌, ◌∙◌, ap, sym, refl, ℕ, Bool, true, false, cond, List, [], ◌∷◌, map, Option, Some, None, Result, Ok, Err}
 use Rattle.std.specs.List.{list_any}
-use Rattle.hickory_wire.specs.rr.domain.DomainName.{DomainName}
+use Rattle.wire_names.specs.rr.domain.DomainName.{DomainName}
 use Rattle.hickory_base.specs.requests.Requests.{ReceivedRequest}
 use Rattle.hickory_base.specs.requests.Updates.{UpdateMessage, update_of}
 use Rattle.hickory_base.specs.zone_store.ZoneAnswers.{MemoryZone}

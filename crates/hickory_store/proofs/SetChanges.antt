@@ -10,12 +10,12 @@ use Rattle.std.specs.Cmp.{eq_by_cmp_equiv}
 use Rattle.std.specs.BTreeMap.{insert_entry, is_at}
 use Rattle.std.specs.Map.{keys_of, lookup, remove_entry}
 use Rattle.std.specs.Borrow.{Bor}
-use Rattle.hickory_wire.specs.declared.rr.rdata.RData.{RData}
-use Rattle.hickory_wire.specs.declared.rr.record.Record.{Record}
-use Rattle.hickory_wire.specs.declared.rr.rr_key.RrKey.{RrKey}
+use Rattle.wire_messages.specs.declared.rr.rdata.RData.{RData}
+use Rattle.wire_messages.specs.declared.rr.record.Record.{Record}
+use Rattle.wire_messages.specs.declared.rr.rr_key.RrKey.{RrKey}
 use Rattle.hickory_store.specs.declared.sqlite.set_changes.Put.{Put}
 use Rattle.hickory_base.specs.zone_store.ZoneSets.{is_key, sets_of}
-use Rattle.hickory_wire.specs.rr.RrKeys.{key_cmp}
+use Rattle.wire_messages.specs.rr.RrKeys.{key_cmp}
 use Rattle.hickory_base.proofs.lemmas.zone_store.SharedSets.{lookup-shared}
 use Rattle.hickory_base.proofs.lemmas.zone_store.ZoneByName.{key_total}
 use Rattle.hickory_store.specs.SetChanges.{AllPresent, KeepsKeys, Makes, SharedSet, SharedSets, at, equals, is_among, is_put, put_all, put_sets, take_all, undone}

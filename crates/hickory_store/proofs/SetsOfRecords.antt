@@ -13,21 +13,21 @@ use Rattle.std.specs.declared.cmp.Ordering.TheVariants.{Less}
 use Rattle.std.specs.declared.rc.Rc.{Rc}
 use Rattle.std.proofs.lemmas.Bool.{eq-eqb, eqb-true}
 use Rattle.std.proofs.lemmas.List.Elements.{filter-append, filter_agree}
-use Rattle.hickory_wire.specs.rr.domain.DomainName.{DomainName}
-use Rattle.hickory_wire.specs.rr.domain.NameHash.{same_from_eq}
-use Rattle.hickory_wire.specs.rr.domain.NameOrder.{lower_name, name_eq, SameName}
-use Rattle.hickory_wire.specs.rr.RecordData.{type_of}
-use Rattle.hickory_wire.specs.rr.RecordSameness.{SameRecord}
-use Rattle.hickory_wire.specs.declared.rr.rdata.RData.{RData}
-use Rattle.hickory_wire.specs.declared.rr.record.Record.{Record}
-use Rattle.hickory_wire.proofs.lemmas.rr.RecordComparing.{both_hold, hold_both}
-use Rattle.hickory_wire.proofs.lemmas.rr.domain.SameNames.{eq_from_same, lower_same, same_order}
+use Rattle.wire_names.specs.rr.domain.DomainName.{DomainName}
+use Rattle.wire_names.specs.rr.domain.NameHash.{same_from_eq}
+use Rattle.wire_names.specs.rr.domain.NameOrder.{lower_name, name_eq, SameName}
+use Rattle.wire_messages.specs.rr.RecordData.{type_of}
+use Rattle.wire_messages.specs.rr.RecordSameness.{SameRecord}
+use Rattle.wire_messages.specs.declared.rr.rdata.RData.{RData}
+use Rattle.wire_messages.specs.declared.rr.record.Record.{Record}
+use Rattle.wire_messages.proofs.lemmas.rr.RecordComparing.{both_hold, hold_both}
+use Rattle.wire_names.proofs.lemmas.rr.domain.SameNames.{eq_from_same, lower_same, same_order}
 use Rattle.hickory_base.specs.zone_store.RecordSets.{IsRecordSet, SameSet}
 use Rattle.hickory_base.specs.zone_store.ZoneRecords.{existing, is_of, rrset}
 use Rattle.hickory_base.specs.zone_store.ZoneSets.{AreDistinct, IsUnder, IsWellTyped, IsZone, IsZoneSet, is_key, shared_sets, zone_records}
-use Rattle.hickory_wire.specs.rr.RrKeys.{key_cmp}
+use Rattle.wire_messages.specs.rr.RrKeys.{key_cmp}
 use Rattle.hickory_base.specs.declared.zone_store.record_set.RecordSet.{RecordSet}
-use Rattle.hickory_wire.specs.declared.rr.rr_key.RrKey.{RrKey}
+use Rattle.wire_messages.specs.declared.rr.rr_key.RrKey.{RrKey}
 use Rattle.hickory_base.proofs.lemmas.zone_store.SharedSets.{lookup-shared}
 use Rattle.hickory_base.proofs.lemmas.zone_store.ZoneByName.{key_total, of_under, rrset_found}
 use Rattle.hickory_store.specs.Identity.{SameZone, same_record, ttl_at}

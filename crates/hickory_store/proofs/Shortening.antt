@@ -3,8 +3,8 @@ use Rattle.std.proofs.Common.{◌≡◌, ℕ, ◌+◌, ◌<◌, ◌≤◌, Bool,
 use Rattle.std.specs.Prelude.{◌↔◌, IsTrue}
 use Rattle.std.proofs.lemmas.Bool.{false≢true, cases_lt}
 use Rattle.std.proofs.lemmas.List.{length-map, map-append, take-append-drop}
-use Rattle.hickory_wire.specs.rr.domain.DomainName.{DomainName}
-use Rattle.hickory_wire.specs.rr.domain.NameOrder.{SameName, Encloses, lower_label, lower_labels}
+use Rattle.wire_names.specs.rr.domain.DomainName.{DomainName}
+use Rattle.wire_names.specs.rr.domain.NameOrder.{SameName, Encloses, lower_label, lower_labels}
 use Rattle.hickory_store.specs.Entries.{wildcard_over}
 use Rattle.hickory_store.specs.Blocked.{IsUnderWildcard}
 use Rattle.hickory_store.proofs.Kept.{has, has_entry, entry_has, has_alike, full, Beside}

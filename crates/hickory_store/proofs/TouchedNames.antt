@@ -4,9 +4,9 @@ use Rattle.std.specs.List.{list_any}
 use Rattle.std.specs.BTreeMap.{get}
 use Rattle.std.specs.Map.{lookup}
 use Rattle.std.proofs.lemmas.List.Elements.{filter_agree}
-use Rattle.hickory_wire.specs.rr.domain.DomainName.{DomainName}
-use Rattle.hickory_wire.specs.rr.domain.NameOrder.{lower_name, name_cmp, name_eq}
-use Rattle.hickory_wire.proofs.lemmas.rr.domain.SameNames.{eq_from_same, lower_same}
+use Rattle.wire_names.specs.rr.domain.DomainName.{DomainName}
+use Rattle.wire_names.specs.rr.domain.NameOrder.{lower_name, name_cmp, name_eq}
+use Rattle.wire_names.proofs.lemmas.rr.domain.SameNames.{eq_from_same, lower_same}
 use Rattle.hickory_base.specs.zone_store.ZoneRecords.{is_at}
 use Rattle.hickory_store.specs.Changes.{any_change, changes, fold, turn}
 use Rattle.hickory_store.specs.NameUpdates.{AreNow, ByName, PutsName, of_name, records_now, records_or}

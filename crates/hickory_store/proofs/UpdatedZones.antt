@@ -5,20 +5,20 @@ use Rattle.std.specs.List.{AllByRecursion, list_any}
 use Rattle.std.specs.Option.{MatchOption, option_or}
 use Rattle.std.specs.Ordering.{is_eq}
 use Rattle.std.proofs.lemmas.Bool.{eq-eqb, eqb-true}
-use Rattle.hickory_wire.specs.rr.domain.DomainName.{DomainName}
-use Rattle.hickory_wire.specs.rr.domain.NameOrder.{SameName}
-use Rattle.hickory_wire.specs.rr.RecordData.{type_of}
-use Rattle.hickory_wire.specs.rr.RecordSameness.{SameData, SameRecord, lower_soa}
-use Rattle.hickory_wire.specs.declared.rr.rdata.SOA.{SOA}
-use Rattle.hickory_wire.specs.declared.rr.rdata.RData.{RData}
-use Rattle.hickory_wire.specs.declared.rr.rdata.RData.TheVariants as rdata
-use Rattle.hickory_wire.specs.declared.rr.record.Proof.{Proof}
-use Rattle.hickory_wire.specs.declared.rr.record.Record.{Record}
-use Rattle.hickory_wire.proofs.lemmas.rr.RecordComparing.{both_hold, hold_both}
-use Rattle.hickory_wire.proofs.lemmas.rr.domain.SameNames.{eq_from_same, same_order}
+use Rattle.wire_names.specs.rr.domain.DomainName.{DomainName}
+use Rattle.wire_names.specs.rr.domain.NameOrder.{SameName}
+use Rattle.wire_messages.specs.rr.RecordData.{type_of}
+use Rattle.wire_messages.specs.rr.RecordSameness.{SameData, SameRecord, lower_soa}
+use Rattle.wire_messages.specs.declared.rr.rdata.SOA.{SOA}
+use Rattle.wire_messages.specs.declared.rr.rdata.RData.{RData}
+use Rattle.wire_messages.specs.declared.rr.rdata.RData.TheVariants as rdata
+use Rattle.wire_messages.specs.declared.rr.record.Proof.{Proof}
+use Rattle.wire_messages.specs.declared.rr.record.Record.{Record}
+use Rattle.wire_messages.proofs.lemmas.rr.RecordComparing.{both_hold, hold_both}
+use Rattle.wire_names.proofs.lemmas.rr.domain.SameNames.{eq_from_same, same_order}
 use Rattle.hickory_base.specs.zone_store.ZoneRecords.{is_at}
 use Rattle.hickory_base.specs.zone_store.ZoneSets.{AreDistinct, IsSoaData, IsWellTyped, IsZone, zone_records}
-use Rattle.hickory_wire.specs.declared.rr.rr_key.RrKey.{RrKey}
+use Rattle.wire_messages.specs.declared.rr.rr_key.RrKey.{RrKey}
 use Rattle.hickory_store.specs.Changes.{comes, fold, goes_when, in_rrset, is_spared, replaces_rrset, turn}
 use Rattle.hickory_store.specs.Identity.{is_in_zone, same_record}
 use Rattle.hickory_store.specs.Prescan.{has_zone_data, is_addition, is_query_type, is_well_formed, prescan_refusal, update_refusal}

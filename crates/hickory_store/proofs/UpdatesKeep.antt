@@ -1,8 +1,8 @@
 -- What the records of an update, the increment and sameness keep, requests keep.
 use Rattle.std.proofs.Common.{ap, sym, subst, ℕ, Bool, true, false, cond, List, [], ◌∷◌, map, Option, Some, None, Result, Ok, Err}
 use Rattle.std.specs.List.{list_any}
-use Rattle.hickory_wire.specs.rr.domain.DomainName.{DomainName}
-use Rattle.hickory_wire.specs.declared.rr.tsig.TSigResponseContext.{TSigResponseContext}
+use Rattle.wire_names.specs.rr.domain.DomainName.{DomainName}
+use Rattle.wire_messages.specs.declared.rr.tsig.TSigResponseContext.{TSigResponseContext}
 use Rattle.hickory_base.specs.requests.Requests.{ReceivedRequest}
 use Rattle.hickory_base.specs.requests.Updates.{UpdateMessage, update_of}
 use Rattle.hickory_base.specs.zone_store.ZoneAnswers.{MemoryZone}

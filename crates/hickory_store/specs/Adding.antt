@@ -2,7 +2,7 @@
 use Rattle.std.specs.Prelude.{◌≡◌, ◌⊎◌, ℕ, List, Option, Result, Ok, Err}
 use Rattle.std.specs.Str.{IsUtf8}
 use Rattle.std.specs.Str.Lines.{lines}
-use Rattle.hickory_wire.specs.rr.domain.DomainName.{DomainName}
+use Rattle.wire_names.specs.rr.domain.DomainName.{DomainName}
 use Rattle.hickory_store.specs.Entries.{AddsLines, AddsFirstLines}
 use Rattle.hickory_store.specs.Readers.{ReadsToEnd}
 use Rattle.hickory_store.specs.declared.blocklist.handler.AddError.{AddError}

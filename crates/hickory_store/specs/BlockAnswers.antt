@@ -4,13 +4,13 @@ use Rattle.std.specs.Option.{option_to_list}
 use Rattle.std.specs.String.{string_bytes}
 use Rattle.std.specs.declared.net.ipv4_addr.Ipv4Addr.{Ipv4Addr}
 use Rattle.std.specs.declared.net.ipv6_addr.Ipv6Addr.{Ipv6Addr}
-use Rattle.hickory_wire.specs.rr.domain.DomainName.{DomainName}
-use Rattle.hickory_wire.specs.rr.domain.NameOrder.{lower_name}
-use Rattle.hickory_wire.specs.declared.op.query.Query.{Query}
-use Rattle.hickory_wire.specs.declared.rr.rdata.RData.{RData}
-use Rattle.hickory_wire.specs.declared.rr.rdata.RData.TheVariants.{A, AAAA, TXT}
-use Rattle.hickory_wire.specs.declared.rr.record.Proof.TheVariants.{Indeterminate}
-use Rattle.hickory_wire.specs.declared.rr.record.Record.{Record}
+use Rattle.wire_names.specs.rr.domain.DomainName.{DomainName}
+use Rattle.wire_names.specs.rr.domain.NameOrder.{lower_name}
+use Rattle.wire_messages.specs.declared.op.query.Query.{Query}
+use Rattle.wire_messages.specs.declared.rr.rdata.RData.{RData}
+use Rattle.wire_messages.specs.declared.rr.rdata.RData.TheVariants.{A, AAAA, TXT}
+use Rattle.wire_messages.specs.declared.rr.record.Proof.TheVariants.{Indeterminate}
+use Rattle.wire_messages.specs.declared.rr.record.Record.{Record}
 use Rattle.hickory_base.specs.zone_store.Lookups.{Flow}
 use Rattle.hickory_base.specs.requests.Questions.{one_query}
 use Rattle.hickory_base.specs.requests.Requests.{ReceivedRequest}

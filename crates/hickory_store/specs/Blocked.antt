@@ -1,7 +1,7 @@
 -- Which names a list blocks.
 use Rattle.std.specs.Prelude.{◌≡◌, ◌<◌, ◌≤◌, ◌⊎◌, ℕ, Bool, true, List, length}
-use Rattle.hickory_wire.specs.rr.domain.DomainName.{DomainName}
-use Rattle.hickory_wire.specs.rr.domain.NameOrder.{Encloses}
+use Rattle.wire_names.specs.rr.domain.DomainName.{DomainName}
+use Rattle.wire_names.specs.rr.domain.NameOrder.{Encloses}
 use Rattle.hickory_store.specs.Entries.{HasEntry, wildcard_over}
 
 -- Some entry `*.s` has an `s` of at least so many labels that the name ends in, and the name has more labels than that: the name is below `s`, and is not `s`.

@@ -1,8 +1,8 @@
 -- The names on a list, as a list of names in which each stands once.
 use Rattle.std.specs.Prelude.{◌≡◌, ◌↔◌, ◌<◌, ◌⊎◌, ℕ, true, List, [], ◌∷◌, length, take, Option, Some, None}
 use Rattle.std.specs.List.{All, Any, list_any, IsDistinct}
-use Rattle.hickory_wire.specs.rr.domain.DomainName.{DomainName}
-use Rattle.hickory_wire.specs.rr.domain.NameOrder.{SameName, lower_labels, name_eq, is_wildcard}
+use Rattle.wire_names.specs.rr.domain.DomainName.{DomainName}
+use Rattle.wire_names.specs.rr.domain.NameOrder.{SameName, lower_labels, name_eq, is_wildcard}
 use Rattle.hickory_store.specs.ListLines.{Lists}
 use Rattle.hickory_store.specs.declared.blocklist.lines.Listed.{Listed}
 

@@ -2,11 +2,11 @@
 -- is no part of it, so a zone has each identity at most once, with one TTL.
 use Rattle.std.specs.Prelude.{◌≡◌, ◌&&◌, ◌||◌, ℕ, nat_eq, Bool, cond, List, [], ◌∷◌, Option, Some, None}
 use Rattle.std.specs.Cmp.Lexicographic.{pointwise}
-use Rattle.hickory_wire.specs.rr.domain.DomainName.{DomainName}
-use Rattle.hickory_wire.specs.rr.domain.NameOrder.{lower_labels, name_eq}
-use Rattle.hickory_wire.specs.contracts.rr.rdata.RDataPartialEq.TheImpl as by_data
-use Rattle.hickory_wire.specs.declared.rr.rdata.RData.{RData}
-use Rattle.hickory_wire.specs.declared.rr.record.Record.{Record}
+use Rattle.wire_names.specs.rr.domain.DomainName.{DomainName}
+use Rattle.wire_names.specs.rr.domain.NameOrder.{lower_labels, name_eq}
+use Rattle.wire_messages.specs.contracts.rr.rdata.RDataPartialEq.TheImpl as by_data
+use Rattle.wire_messages.specs.declared.rr.rdata.RData.{RData}
+use Rattle.wire_messages.specs.declared.rr.record.Record.{Record}
 
 -- data of one type that are equal field by field, names in any letter case, as `==` compares them
 abbrev pub same_data : RData → RData → Bool

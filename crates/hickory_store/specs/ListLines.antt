@@ -4,9 +4,9 @@ use Rattle.std.specs.Prelude.{◌≡◌, ◌==◌, ℕ, Bool, true, if◌then◌
 use Rattle.std.specs.List.{list_any, before_first, after_first}
 use Rattle.std.specs.Str.{trim, bytes_eq}
 use Rattle.std.specs.Prelude.{codes}
-use Rattle.hickory_wire.specs.rr.domain.DomainName.{DomainName}
-use Rattle.hickory_wire.specs.rr.domain.NameOrder.{SameName}
-use Rattle.hickory_wire.specs.rr.domain.NameText.{IsNameText}
+use Rattle.wire_names.specs.rr.domain.DomainName.{DomainName}
+use Rattle.wire_names.specs.rr.domain.NameOrder.{SameName}
+use Rattle.wire_names.specs.rr.domain.NameText.{IsNameText}
 
 -- the byte is `#`, which begins a comment
 abbrev pub is_comment : ℕ → Bool

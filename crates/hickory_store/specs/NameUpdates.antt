@@ -1,10 +1,10 @@
 -- Updates name by name: each record of an update section concerns the records of its own owner name alone (RFC 2136 section 3.4.2).
 use Rattle.std.specs.Prelude.{◌≡◌, ℕ, cond, List, filter, Option, Some, None}
 use Rattle.std.specs.BTreeMap.{BTreeMap, get}
-use Rattle.hickory_wire.specs.rr.domain.DomainName.{DomainName}
-use Rattle.hickory_wire.specs.rr.domain.NameOrder.{name_cmp, name_eq}
-use Rattle.hickory_wire.specs.declared.rr.rdata.RData.{RData}
-use Rattle.hickory_wire.specs.declared.rr.record.Record.{Record}
+use Rattle.wire_names.specs.rr.domain.DomainName.{DomainName}
+use Rattle.wire_names.specs.rr.domain.NameOrder.{name_cmp, name_eq}
+use Rattle.wire_messages.specs.declared.rr.rdata.RData.{RData}
+use Rattle.wire_messages.specs.declared.rr.record.Record.{Record}
 use Rattle.hickory_base.specs.zone_store.ZoneRecords.{is_at}
 use Rattle.hickory_store.specs.Changes.{fold}
 

@@ -1,12 +1,12 @@
 -- Who may update a zone or have a transfer of it, by a transaction signature (RFC 2136 section 3.3, RFC 8945 section 5.2).
 use Rattle.std.specs.Prelude.{◌≡◌, ◌&&◌, ℕ, Bool, cond, nat_le, nat_lt, List, Option, Some, None, Result, Ok, Err}
 use Rattle.std.specs.declared.ops.Range.{Range}
-use Rattle.hickory_wire.specs.declared.rr.record.Record.{Record}
-use Rattle.hickory_wire.specs.declared.rr.tsig.TSIG.{TSIG}
-use Rattle.hickory_wire.specs.declared.rr.tsig.TSigResponseContext.{TSigResponseContext}
-use Rattle.hickory_wire.specs.declared.rr.tsig.TSigResponseKind.{TSigResponseKind}
-use Rattle.hickory_wire.specs.declared.rr.tsig.TSigResponseKind.TheVariants.{UnknownKey, BadSignature, Known}
-use Rattle.hickory_wire.specs.declared.rr.tsig.TsigError.TheVariants.{BadTime}
+use Rattle.wire_messages.specs.declared.rr.record.Record.{Record}
+use Rattle.wire_messages.specs.declared.rr.tsig.TSIG.{TSIG}
+use Rattle.wire_messages.specs.declared.rr.tsig.TSigResponseContext.{TSigResponseContext}
+use Rattle.wire_messages.specs.declared.rr.tsig.TSigResponseKind.{TSigResponseKind}
+use Rattle.wire_messages.specs.declared.rr.tsig.TSigResponseKind.TheVariants.{UnknownKey, BadSignature, Known}
+use Rattle.wire_messages.specs.declared.rr.tsig.TsigError.TheVariants.{BadTime}
 use Rattle.hickory_base.specs.requests.Requests.{ReceivedRequest}
 use Rattle.hickory_base.specs.declared.errors.UpdateFault.{UpdateFault}
 use Rattle.hickory_base.specs.declared.errors.UpdateFault.TheVariants.{Code, Memory}

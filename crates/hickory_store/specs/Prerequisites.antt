@@ -2,11 +2,11 @@
 use Rattle.std.specs.Prelude.{ℕ, ◌==◌, ◌&&◌, Bool, true, false, not, cond, List, [], filter, Option, Some}
 use Rattle.std.specs.List.{list_all, list_any}
 use Rattle.std.specs.Option.{option_or}
-use Rattle.hickory_wire.specs.rr.domain.DomainName.{DomainName}
-use Rattle.hickory_wire.specs.rr.RecordData.{type_of}
-use Rattle.hickory_wire.specs.declared.rr.rdata.RData.{RData}
-use Rattle.hickory_wire.specs.declared.rr.rdata.RData.TheVariants.{NULL, Update0}
-use Rattle.hickory_wire.specs.declared.rr.record.Record.{Record}
+use Rattle.wire_names.specs.rr.domain.DomainName.{DomainName}
+use Rattle.wire_messages.specs.rr.RecordData.{type_of}
+use Rattle.wire_messages.specs.declared.rr.rdata.RData.{RData}
+use Rattle.wire_messages.specs.declared.rr.rdata.RData.TheVariants.{NULL, Update0}
+use Rattle.wire_messages.specs.declared.rr.record.Record.{Record}
 use Rattle.hickory_base.specs.zone_store.ZoneRecords.{is_at, is_of, rrset}
 use Rattle.hickory_store.specs.Identity.{is_in_zone, same_record}
 use Rattle.hickory_store.specs.Refusals.{first_refusal, unless}

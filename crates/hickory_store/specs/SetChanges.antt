@@ -8,13 +8,13 @@ use Rattle.std.specs.Borrow.{Bor}
 use Rattle.std.specs.Ordering.{is_eq}
 use Rattle.std.specs.declared.alloc.Global.{Global}
 use Rattle.std.specs.declared.rc.Rc.{Rc}
-use Rattle.hickory_wire.specs.rr.domain.DomainName.{DomainName}
-use Rattle.hickory_wire.specs.declared.rr.rdata.RData.{RData}
-use Rattle.hickory_wire.specs.declared.rr.record.Record.{Record}
+use Rattle.wire_names.specs.rr.domain.DomainName.{DomainName}
+use Rattle.wire_messages.specs.declared.rr.rdata.RData.{RData}
+use Rattle.wire_messages.specs.declared.rr.record.Record.{Record}
 use Rattle.hickory_base.specs.zone_store.ZoneRecords.{existing, rrset}
 use Rattle.hickory_base.specs.zone_store.ZoneSets.{is_key}
-use Rattle.hickory_wire.specs.rr.RrKeys.{key_cmp}
-use Rattle.hickory_wire.specs.declared.rr.rr_key.RrKey.{RrKey}
+use Rattle.wire_messages.specs.rr.RrKeys.{key_cmp}
+use Rattle.wire_messages.specs.declared.rr.rr_key.RrKey.{RrKey}
 use Rattle.hickory_base.specs.declared.zone_store.record_set.RecordSet.{RecordSet}
 use Rattle.hickory_store.specs.declared.sqlite.set_changes.Put.{Put}
 

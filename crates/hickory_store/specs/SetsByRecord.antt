@@ -1,9 +1,9 @@
 -- Required RRsets compared with the zone's, record by record: the same as set by set, and nothing has to be collected.
 use Rattle.std.specs.Prelude.{◌&&◌, ◌||◌, Bool, true, List, [], ◌∷◌}
 use Rattle.std.specs.List.{list_all, list_any}
-use Rattle.hickory_wire.specs.rr.RecordData.{type_of}
-use Rattle.hickory_wire.specs.declared.rr.rdata.RData.{RData}
-use Rattle.hickory_wire.specs.declared.rr.record.Record.{Record}
+use Rattle.wire_messages.specs.rr.RecordData.{type_of}
+use Rattle.wire_messages.specs.declared.rr.rdata.RData.{RData}
+use Rattle.wire_messages.specs.declared.rr.record.Record.{Record}
 use Rattle.hickory_base.specs.zone_store.ZoneRecords.{is_of, rrset}
 use Rattle.hickory_store.specs.Identity.{same_record}
 

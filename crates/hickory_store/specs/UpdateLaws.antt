@@ -1,11 +1,11 @@
 -- Laws of updates: what every zone keeps, whatever the updates.
 use Rattle.std.specs.Prelude.{◌≡◌, ℕ, ◌+◌, ◌&&◌, Bool, true, false, not, cond, List, [], ◌∷◌, map, Option, Result, Ok}
 use Rattle.std.specs.List.{flat_map, list_any}
-use Rattle.hickory_wire.specs.rr.domain.DomainName.{DomainName}
-use Rattle.hickory_wire.specs.declared.rr.rdata.RData.{RData}
-use Rattle.hickory_wire.specs.declared.rr.rdata.RData.TheVariants as rdata
-use Rattle.hickory_wire.specs.declared.rr.record.Record.{Record}
-use Rattle.hickory_wire.specs.declared.rr.tsig.TSigResponseContext.{TSigResponseContext}
+use Rattle.wire_names.specs.rr.domain.DomainName.{DomainName}
+use Rattle.wire_messages.specs.declared.rr.rdata.RData.{RData}
+use Rattle.wire_messages.specs.declared.rr.rdata.RData.TheVariants as rdata
+use Rattle.wire_messages.specs.declared.rr.record.Record.{Record}
+use Rattle.wire_messages.specs.declared.rr.tsig.TSigResponseContext.{TSigResponseContext}
 use Rattle.hickory_base.specs.requests.Requests.{ReceivedRequest}
 use Rattle.hickory_base.specs.zone_store.ZoneAnswers.{MemoryZone}
 use Rattle.hickory_base.specs.zone_store.ZoneRecords.{is_at}

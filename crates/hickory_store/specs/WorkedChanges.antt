@@ -1,10 +1,10 @@
 -- Worked examples: what updates do to the zone of WorkedUpdates, written out by hand.
 use Rattle.std.specs.Prelude.{ℕ, Bool, List, [], ◌∷◌, codes}
-use Rattle.hickory_wire.specs.rr.domain.DomainName.{DomainName}
+use Rattle.wire_names.specs.rr.domain.DomainName.{DomainName}
 use Rattle.hickory_wire.specs.worked.Worked.{named, record_of}
-use Rattle.hickory_wire.specs.declared.rr.rdata.RData.{RData}
-use Rattle.hickory_wire.specs.declared.rr.rdata.RData.TheVariants as rdata
-use Rattle.hickory_wire.specs.declared.rr.record.Record.{Record}
+use Rattle.wire_messages.specs.declared.rr.rdata.RData.{RData}
+use Rattle.wire_messages.specs.declared.rr.rdata.RData.TheVariants as rdata
+use Rattle.wire_messages.specs.declared.rr.record.Record.{Record}
 use Rattle.hickory_store.specs.UpdateAnswers.{Outcome, applied}
 use Rattle.hickory_store.specs.WorkedUpdates.{address, asked, origin, server, www}
 

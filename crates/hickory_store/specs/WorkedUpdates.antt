@@ -1,10 +1,10 @@
 -- Worked examples: a zone, and records that updates of it may have, written out by hand.
 use Rattle.std.specs.Prelude.{ℕ, List, [], ◌∷◌, Option, map, codes}
-use Rattle.hickory_wire.specs.rr.domain.DomainName.{DomainName}
+use Rattle.wire_names.specs.rr.domain.DomainName.{DomainName}
 use Rattle.hickory_wire.specs.worked.Worked.{named, record_of}
-use Rattle.hickory_wire.specs.declared.rr.rdata.RData.{RData}
-use Rattle.hickory_wire.specs.declared.rr.rdata.RData.TheVariants as rdata
-use Rattle.hickory_wire.specs.declared.rr.record.Record.{Record}
+use Rattle.wire_messages.specs.declared.rr.rdata.RData.{RData}
+use Rattle.wire_messages.specs.declared.rr.rdata.RData.TheVariants as rdata
+use Rattle.wire_messages.specs.declared.rr.record.Record.{Record}
 use Rattle.hickory_store.specs.Prerequisites.{prerequisite_refusal, prerequisites_refusal}
 use Rattle.hickory_store.specs.Prescan.{update_refusal}
 

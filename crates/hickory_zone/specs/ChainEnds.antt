@@ -1,6 +1,6 @@
 -- How a chain ends, where it lies.
 use Rattle.std.specs.Prelude.{◌≡◌, ℕ, [], ◌∷◌, ◌++◌}
-use Rattle.hickory_wire.specs.rr.domain.DomainName.{DomainName}
+use Rattle.wire_names.specs.rr.domain.DomainName.{DomainName}
 use Rattle.hickory_zone.specs.declared.chains.ChainEnd.{ChainEnd}
 use Rattle.hickory_zone.specs.declared.chains.ChainEnd.TheVariants as at
 use Rattle.hickory_zone.specs.declared.chains.Link.{Link}

@@ -1,9 +1,9 @@
 -- What is found, where it lies.
 use Rattle.std.specs.Prelude.{◌≡◌, ◌⊎◌, ◌↔◌, ℕ, IsTrue, Option, Some, None}
 use Rattle.std.specs.Option.{IsSomeAnd, option_copied}
-use Rattle.hickory_wire.specs.rr.domain.DomainName.{DomainName}
-use Rattle.hickory_wire.specs.rr.domain.NameOrder.{Encloses}
-use Rattle.hickory_wire.specs.declared.rr.rr_key.RrKey.{RrKey}
+use Rattle.wire_names.specs.rr.domain.DomainName.{DomainName}
+use Rattle.wire_names.specs.rr.domain.NameOrder.{Encloses}
+use Rattle.wire_messages.specs.declared.rr.rr_key.RrKey.{RrKey}
 use Rattle.hickory_base.specs.zone_store.ZoneAnswers.{records_at}
 use Rattle.hickory_zone.specs.Zones.{Records, Sets, Zone, any_of, at_node, type_ns, Delegates, Exists, HasClosestEncloser, IsAuthoritativeAt, Outcome, answer, alias, referral, no_data, no_name, ancestor, owned_by, rrset, synthesized, wildcard}
 use Rattle.hickory_zone.specs.declared.find.Found.{Found}

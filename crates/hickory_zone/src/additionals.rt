@@ -4,7 +4,7 @@ ghost use Rattle.std.specs.Prelude.{◌≡◌, ◌++◌, OnOk};
 ghost use Rattle.std.specs.List.{list_any};
 ghost use Rattle.std.specs.Option.{option_copied};
 ghost use Rattle.hickory_base.specs.zone_store.ZoneSets.{sets_of};
-ghost use Rattle.hickory_wire.specs.rr.domain.NameOrder.{lower_name};
+ghost use Rattle.wire_names.specs.rr.domain.NameOrder.{lower_name};
 ghost use Rattle.hickory_zone.specs.Zones.{rrset};
 ghost use Rattle.hickory_zone.specs.Additionals.{additionals, addresses, first_addresses, host_in, names, some_records};
 

@@ -9,9 +9,9 @@ ghost use Rattle.hickory_zone.specs.Zones.{AreOwners, Answers, Exists, Sets, any
 ghost use Rattle.hickory_zone.specs.FoundRecords.{first_or};
 ghost use Rattle.hickory_zone.specs.KeysBeside.{SharedMap, StandsBehind};
 ghost use Rattle.std.specs.Option.{unwrap_or};
-ghost use Rattle.hickory_wire.specs.rr.domain.DomainName.{DomainName};
+ghost use Rattle.wire_names.specs.rr.domain.DomainName.{DomainName};
 ghost use Rattle.hickory_zone.specs.FoundRecords.{CutAt, WildFound, outcome_of, IsAbove, IsEncloser, Tells};
-ghost use Rattle.hickory_wire.specs.rr.domain.NameOrder.{Encloses};
+ghost use Rattle.wire_names.specs.rr.domain.NameOrder.{Encloses};
 
 use crate::wildcards::wildcard_below;
 use hickory_base::zone_store::RecordSet;

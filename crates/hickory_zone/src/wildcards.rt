@@ -1,7 +1,7 @@
 //! The names that answers are synthesized from.
 
 ghost use Rattle.std.specs.Prelude.{◌≡◌, [], ◌∷◌, ◌<◌, ◌+◌, IfOk, MatchOption, length};
-ghost use Rattle.hickory_wire.specs.rr.domain.DomainName.{IsWire, cut, name_len};
+ghost use Rattle.wire_names.specs.rr.domain.DomainName.{IsWire, cut, name_len};
 ghost use Rattle.hickory_zone.specs.Zones.{wildcard};
 
 use hickory_wire::{Labels, LowerName};

@@ -3,7 +3,7 @@
 //! The functions do nothing. Their contracts are the examples.
 
 ghost use Rattle.std.specs.Prelude.{◌∷◌, []};
-ghost use Rattle.hickory_wire.specs.declared.rr.rdata.RData.TheVariants as rdata;
+ghost use Rattle.wire_messages.specs.declared.rr.rdata.RData.TheVariants as rdata;
 ghost use Rattle.hickory_zone.specs.Chains.{Chases, answered, left_open, missing, referred, without};
 ghost use Rattle.hickory_zone.specs.WorkedZones.{address, any_name, away, child, cuts, deep, example, first_alias, foo_bar, ghost_any, grandchild, host1, host3, host_subdel, into_child, itself_alias, mail, nobody, ns_child, owned, ping, pong, second_alias, server, sub_any, subdel, tcp_host1, telnet_host1, text, to_child, to_nobody, to_text, type_mx, type_srv, type_txt, wildcards};
 ghost use Rattle.hickory_zone.specs.Zones.{Answers, answer, no_data, no_name, referral, type_a, type_any, type_cname, type_ds, type_ns};

@@ -1,11 +1,11 @@
 -- What a script's signer gives for bytes.
 use Rattle.std.specs.Prelude.{ℕ, List, [], ◌∷◌, true, Option, Some, None}
-use Rattle.hickory_wire.specs.declared.rr.record.Proof.TheVariants.{Indeterminate}
-use Rattle.hickory_wire.specs.declared.rr.record.Record.{Record}
-use Rattle.hickory_wire.specs.declared.rr.tsig.TSIG.{TSIG}
-use Rattle.hickory_wire.specs.declared.rr.tsig.TSigResponseContext.{TSigResponseContext}
-use Rattle.hickory_wire.specs.declared.rr.tsig.TSigResponseKind.{TSigResponseKind}
-use Rattle.hickory_wire.specs.declared.rr.tsig.TSigResponseKind.TheVariants.{UnknownKey, BadSignature, Known}
+use Rattle.wire_messages.specs.declared.rr.record.Proof.TheVariants.{Indeterminate}
+use Rattle.wire_messages.specs.declared.rr.record.Record.{Record}
+use Rattle.wire_messages.specs.declared.rr.tsig.TSIG.{TSIG}
+use Rattle.wire_messages.specs.declared.rr.tsig.TSigResponseContext.{TSigResponseContext}
+use Rattle.wire_messages.specs.declared.rr.tsig.TSigResponseKind.{TSigResponseKind}
+use Rattle.wire_messages.specs.declared.rr.tsig.TSigResponseKind.TheVariants.{UnknownKey, BadSignature, Known}
 use Rattle.script_handlers.specs.declared.signer.Signing.{Signing}
 use Rattle.script_handlers.specs.declared.signer.Signing.TheVariants.{Fails, Echo, Fixed, Memory}
 

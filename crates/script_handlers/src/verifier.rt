@@ -1,7 +1,7 @@
 //! The verifier of a zone that takes updates, as a script has it.
 
 ghost use Rattle.std.specs.List.{list_any};
-ghost use Rattle.hickory_wire.specs.rr.domain.NameOrder.{name_eq};
+ghost use Rattle.wire_names.specs.rr.domain.NameOrder.{name_eq};
 
 use crate::calls::CallLog;
 use hickory_store::sqlite::{Verifier, VerifyError};

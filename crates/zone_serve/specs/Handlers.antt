@@ -1,5 +1,5 @@
 -- What the handlers of the server's chains are: what the one inside is.
-use Rattle.hickory_wire.specs.rr.domain.DomainName.{DomainName}
+use Rattle.wire_names.specs.rr.domain.DomainName.{DomainName}
 use Rattle.hickory_base.specs.declared.zone_store.handler.AxfrPolicy.{AxfrPolicy}
 use Rattle.hickory_base.specs.declared.zone_store.handler.AxfrPolicy.TheVariants.{Deny}
 use Rattle.hickory_base.specs.declared.zone_store.handler.ZoneType.{ZoneType}

@@ -1,11 +1,11 @@
 -- The records of a zone file (RFC 1035 section 5.1).
 use Rattle.std.specs.Prelude.{◌≡◌, ℕ, ◌<◌, ◌≤◌, ◌⊎◌, ◌-◌, ◌++◌, ◌∷◌, [], true, List, length, get_or, Option, Some, None}
-use Rattle.hickory_wire.specs.declared.rr.rdata.RData.{RData}
-use Rattle.hickory_wire.specs.declared.rr.record.Record.{Record}
-use Rattle.hickory_wire.specs.declared.rr.record.Proof.TheVariants.{Indeterminate}
-use Rattle.hickory_wire.specs.rr.RecordData.{type_of}
-use Rattle.hickory_wire.specs.rr.domain.DomainName.{DomainName}
-use Rattle.hickory_wire.specs.serialize.writing.RecordSize.{data_len}
+use Rattle.wire_messages.specs.declared.rr.rdata.RData.{RData}
+use Rattle.wire_messages.specs.declared.rr.record.Record.{Record}
+use Rattle.wire_messages.specs.declared.rr.record.Proof.TheVariants.{Indeterminate}
+use Rattle.wire_messages.specs.rr.RecordData.{type_of}
+use Rattle.wire_names.specs.rr.domain.DomainName.{DomainName}
+use Rattle.wire_messages.specs.serialize.writing.RecordSize.{data_len}
 use Rattle.zone_text.specs.declared.zone_file.entry.Entry.{Entry}
 use Rattle.zone_text.specs.declared.zone_file.entry.Entry.TheVariants as entry
 

@@ -1,8 +1,8 @@
 //! The data of records in text.
 
 ghost use Rattle.std.specs.Prelude.{◌≡◌, ◌≤◌, IfOk, IfSome};
-ghost use Rattle.hickory_wire.specs.rr.RecordData.{type_of};
-ghost use Rattle.hickory_wire.specs.serialize.writing.RecordSize.{data_len};
+ghost use Rattle.wire_messages.specs.rr.RecordData.{type_of};
+ghost use Rattle.wire_messages.specs.serialize.writing.RecordSize.{data_len};
 
 use crate::error::{TextError, TextFault};
 use crate::escapes::{MAX_STRING_LEN, read_string};

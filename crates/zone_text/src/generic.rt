@@ -1,7 +1,7 @@
 //! Data in the form that is one for all types (RFC 3597 section 5).
 
 ghost use Rattle.std.specs.Prelude.{◌≡◌, IsTrue, IfOk};
-ghost use Rattle.hickory_wire.specs.rr.RecordData.{type_of};
+ghost use Rattle.wire_messages.specs.rr.RecordData.{type_of};
 
 use crate::error::{TextError, TextFault};
 use crate::words::{Word, Words};

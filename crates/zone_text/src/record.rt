@@ -1,8 +1,8 @@
 //! Records in text.
 
 ghost use Rattle.std.specs.Prelude.{◌≡◌, ◌≤◌, true, IfOk};
-ghost use Rattle.hickory_wire.specs.serialize.writing.RecordSize.{data_len};
-ghost use Rattle.hickory_wire.specs.declared.rr.record.Proof.TheVariants.{Indeterminate};
+ghost use Rattle.wire_messages.specs.serialize.writing.RecordSize.{data_len};
+ghost use Rattle.wire_messages.specs.declared.rr.record.Proof.TheVariants.{Indeterminate};
 
 use crate::data::data_of;
 use crate::error::{TextError, TextFault};

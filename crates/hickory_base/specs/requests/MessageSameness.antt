@@ -2,11 +2,11 @@
 -- bytes of the questions as bytes.
 use Rattle.std.specs.Prelude.{◌≡◌, Option, Some, None}
 use Rattle.std.specs.List.{AllZip}
-use Rattle.hickory_wire.specs.op.QuestionSameness.{SameQuestion}
-use Rattle.hickory_wire.specs.rr.RecordSameness.{SameRecord}
-use Rattle.hickory_wire.specs.serialize.layout.MessageLayout.{tsig_record}
-use Rattle.hickory_wire.specs.declared.rr.record.Record.{Record}
-use Rattle.hickory_wire.specs.declared.rr.tsig.TSIG.{TSIG}
+use Rattle.wire_messages.specs.op.QuestionSameness.{SameQuestion}
+use Rattle.wire_messages.specs.rr.RecordSameness.{SameRecord}
+use Rattle.wire_messages.specs.serialize.layout.MessageLayout.{tsig_record}
+use Rattle.wire_messages.specs.declared.rr.record.Record.{Record}
+use Rattle.wire_messages.specs.declared.rr.tsig.TSIG.{TSIG}
 use Rattle.hickory_base.specs.requests.Questions.{QuestionSection}
 use Rattle.hickory_base.specs.declared.requests.message_request.MessageRequest.{MessageRequest}
 

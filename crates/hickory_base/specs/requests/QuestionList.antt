@@ -1,6 +1,6 @@
 -- The questions that a request keeps.
 use Rattle.std.specs.Prelude.{List, [], ◌∷◌}
-use Rattle.hickory_wire.specs.declared.op.query.Query.{Query}
+use Rattle.wire_messages.specs.declared.op.query.Query.{Query}
 use Rattle.hickory_base.specs.declared.requests.message_request.Questions.{Questions}
 use Rattle.hickory_base.specs.declared.requests.message_request.Questions.TheVariants.{One, Many}
 

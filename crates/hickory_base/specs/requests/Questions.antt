@@ -2,10 +2,10 @@
 use Rattle.std.specs.Cmp.{IsEquivalence, and_equiv, eq_by_cmp_equiv, nat_eq_equiv, on_equiv}
 use Rattle.std.specs.Cmp.Lexicographic.{lists_equiv, nat_list_eq_equiv, pointwise}
 use Rattle.std.specs.Ordering.{eq_of_both, on}
-use Rattle.hickory_wire.specs.rr.domain.NameOrder.{name_cmp_total, name_eq}
+use Rattle.wire_names.specs.rr.domain.NameOrder.{name_cmp_total, name_eq}
 use Rattle.std.specs.Prelude.{ℕ, nat_eq, Bool, List, [], ◌∷◌, length, max, Option, Some, None, Result, Ok, Err}
-use Rattle.hickory_wire.specs.op.EdnsFields.{EdnsFields}
-use Rattle.hickory_wire.specs.declared.op.query.Query.{Query}
+use Rattle.wire_messages.specs.op.EdnsFields.{EdnsFields}
+use Rattle.wire_messages.specs.declared.op.query.Query.{Query}
 use Rattle.hickory_base.specs.declared.errors.LookupError.{LookupError}
 use Rattle.hickory_base.specs.declared.errors.LookupError.TheVariants.{BadQueryCount}
 

@@ -1,9 +1,9 @@
 -- A request as it is written (RFC 1035 section 4.1).
 use Rattle.std.specs.Prelude.{ℕ, List, [], length}
 use Rattle.std.specs.List.{flat_map}
-use Rattle.hickory_wire.specs.serialize.writing.QuestionForm.{lower_question, question_octets}
-use Rattle.hickory_wire.specs.serialize.writing.Reply.{Reply}
-use Rattle.hickory_wire.specs.declared.op.query.Query.{Query}
+use Rattle.wire_messages.specs.serialize.writing.QuestionForm.{lower_question, question_octets}
+use Rattle.wire_messages.specs.serialize.writing.Reply.{Reply}
+use Rattle.wire_messages.specs.declared.op.query.Query.{Query}
 use Rattle.hickory_base.specs.declared.requests.message_request.MessageRequest.{MessageRequest}
 
 -- questions one behind the other, names in lower case

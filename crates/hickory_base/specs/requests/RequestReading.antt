@@ -1,18 +1,18 @@
 -- Requests as they are read (RFC 1035 section 4.1).
 use Rattle.std.specs.Prelude.{◌≡◌, ◌≢◌, ℕ, List, [], None, Ok, slice_range}
-use Rattle.hickory_wire.specs.serialize.reading.Cursor.{Cursor}
-use Rattle.hickory_wire.specs.serialize.layout.MessageLayout.{ItemsAt, QuestionRead, high_code, with_high_code}
-use Rattle.hickory_wire.specs.serialize.reading.MessageReading.{Fault}
-use Rattle.hickory_wire.specs.serialize.reading.Reading.{Read, ◌>>=◌}
-use Rattle.hickory_wire.specs.serialize.reading.RecordReading.{question}
-use Rattle.hickory_wire.specs.serialize.reading.SectionReading.{header, items, section_record, additionals_after, no_additionals}
-use Rattle.hickory_wire.specs.declared.error.DecodeError.{DecodeError}
-use Rattle.hickory_wire.specs.declared.error.DecodeError.TheVariants.{Memory}
-use Rattle.hickory_wire.specs.declared.error.ProtoError.{ProtoError}
-use Rattle.hickory_wire.specs.declared.error.ProtoError.TheVariants.{Decode}
-use Rattle.hickory_wire.specs.declared.op.header.Header.{Header}
-use Rattle.hickory_wire.specs.declared.op.header.HeaderCounts.{HeaderCounts}
-use Rattle.hickory_wire.specs.declared.op.message.Message.{Message}
+use Rattle.wire_messages.specs.serialize.reading.Cursor.{Cursor}
+use Rattle.wire_messages.specs.serialize.layout.MessageLayout.{ItemsAt, QuestionRead, high_code, with_high_code}
+use Rattle.wire_reading.specs.serialize.reading.MessageReading.{Fault}
+use Rattle.wire_messages.specs.serialize.reading.Reading.{Read, ◌>>=◌}
+use Rattle.wire_messages.specs.serialize.reading.RecordReading.{question}
+use Rattle.wire_messages.specs.serialize.reading.SectionReading.{header, items, section_record, additionals_after, no_additionals}
+use Rattle.wire_names.specs.declared.error.DecodeError.{DecodeError}
+use Rattle.wire_names.specs.declared.error.DecodeError.TheVariants.{Memory}
+use Rattle.wire_names.specs.declared.error.ProtoError.{ProtoError}
+use Rattle.wire_names.specs.declared.error.ProtoError.TheVariants.{Decode}
+use Rattle.wire_messages.specs.declared.op.header.Header.{Header}
+use Rattle.wire_messages.specs.declared.op.header.HeaderCounts.{HeaderCounts}
+use Rattle.wire_reading.specs.declared.op.message.Message.{Message}
 use Rattle.hickory_base.specs.requests.Questions.{QuestionSection}
 use Rattle.hickory_base.specs.declared.requests.message_request.MessageRequest.{MessageRequest}
 

@@ -1,9 +1,9 @@
 -- A request as a server sees it: the message, its bytes, and where it came from.
 use Rattle.std.specs.Prelude.{ℕ, List}
 use Rattle.std.specs.declared.net.SocketAddr.{SocketAddr}
-use Rattle.hickory_wire.specs.declared.op.header.Metadata.{Metadata}
-use Rattle.hickory_wire.specs.declared.protocol.Protocol.{Protocol}
-use Rattle.hickory_wire.specs.declared.op.query.Query.{Query}
+use Rattle.wire_messages.specs.declared.op.header.Metadata.{Metadata}
+use Rattle.wire_messages.specs.declared.protocol.Protocol.{Protocol}
+use Rattle.wire_messages.specs.declared.op.query.Query.{Query}
 use Rattle.hickory_base.specs.declared.requests.message_request.MessageRequest.{MessageRequest}
 use Rattle.hickory_base.specs.declared.server.RequestInfo.{RequestInfo}
 

@@ -1,9 +1,9 @@
 -- A sink that keeps replies as the bytes that are sent over one transport.
 use Rattle.std.specs.Prelude.{ℕ, List}
-use Rattle.hickory_wire.specs.serialize.writing.Reply.{Reply, size_limit}
+use Rattle.wire_messages.specs.serialize.writing.Reply.{Reply, size_limit}
 use Rattle.hickory_wire.specs.serialize.writing.ReplyParts.{ReplyEncoded}
-use Rattle.hickory_wire.specs.declared.op.header.Header.{Header}
-use Rattle.hickory_wire.specs.declared.protocol.Protocol.{Protocol}
+use Rattle.wire_messages.specs.declared.op.header.Header.{Header}
+use Rattle.wire_messages.specs.declared.protocol.Protocol.{Protocol}
 
 -- what the sink has: its transport, the bytes of each reply in the order in which they came, and how often it failed
 pub record EncodedReplies : Type 0 where

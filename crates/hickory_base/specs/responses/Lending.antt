@@ -2,8 +2,8 @@
 use Rattle.std.specs.Borrow.{Lends, Fml, RattleType, MutBor}
 use Rattle.std.specs.Prelude.{[]}
 use mir.Syntax.{named}
-use Rattle.hickory_wire.specs.contracts.op.header.Metadata.{the_row as metadata_row}
-use Rattle.hickory_wire.specs.declared.op.header.Metadata.{Metadata}
+use Rattle.wire_messages.specs.contracts.op.header.Metadata.{the_row as metadata_row}
+use Rattle.wire_messages.specs.declared.op.header.Metadata.{Metadata}
 use Rattle.hickory_base.specs.contracts.responses.message_response.MessageResponse.{the_row}
 use Rattle.hickory_base.specs.declared.responses.message_response.MessageResponse.{MessageResponse}
 

@@ -1,6 +1,6 @@
 -- For what a denial by NSEC3 records is asked (RFC 5155 section 7.2).
 use Rattle.std.specs.Prelude.{ℕ, Bool, List}
-use Rattle.hickory_wire.specs.rr.domain.DomainName.{DomainName}
+use Rattle.wire_names.specs.rr.domain.DomainName.{DomainName}
 use Rattle.hickory_base.specs.declared.zone_store.handler.Nsec3QueryInfo.{Nsec3QueryInfo}
 
 pub record Nsec3Question : Type 0 where

@@ -7,15 +7,15 @@ use Rattle.std.specs.BTreeMap.{BTreeMap}
 use Rattle.std.specs.declared.alloc.Global.{Global}
 use Rattle.std.specs.declared.rc.Rc.{Rc}
 use Rattle.std.specs.Ordering.{is_eq}
-use Rattle.hickory_wire.specs.rr.domain.DomainName.{DomainName}
-use Rattle.hickory_wire.specs.rr.domain.NameOrder.{SameName, name_eq}
-use Rattle.hickory_wire.specs.rr.RecordData.{type_of}
-use Rattle.hickory_wire.specs.rr.RecordSameness.{SameRecord}
-use Rattle.hickory_wire.specs.declared.rr.rdata.RData.{RData}
-use Rattle.hickory_wire.specs.declared.rr.rdata.RData.TheVariants as rdata
-use Rattle.hickory_wire.specs.declared.rr.record.Record.{Record}
-use Rattle.hickory_wire.specs.declared.rr.rr_key.RrKey.{RrKey}
-use Rattle.hickory_wire.specs.rr.RrKeys.{key_cmp}
+use Rattle.wire_names.specs.rr.domain.DomainName.{DomainName}
+use Rattle.wire_names.specs.rr.domain.NameOrder.{SameName, name_eq}
+use Rattle.wire_messages.specs.rr.RecordData.{type_of}
+use Rattle.wire_messages.specs.rr.RecordSameness.{SameRecord}
+use Rattle.wire_messages.specs.declared.rr.rdata.RData.{RData}
+use Rattle.wire_messages.specs.declared.rr.rdata.RData.TheVariants as rdata
+use Rattle.wire_messages.specs.declared.rr.record.Record.{Record}
+use Rattle.wire_messages.specs.declared.rr.rr_key.RrKey.{RrKey}
+use Rattle.wire_messages.specs.rr.RrKeys.{key_cmp}
 use Rattle.hickory_base.specs.declared.zone_store.record_set.RecordSet.{RecordSet}
 
 -- The record is of the key's name and type.

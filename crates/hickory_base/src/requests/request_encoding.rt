@@ -4,7 +4,7 @@ ghost use Rattle.std.specs.Prelude.{◌≡◌, ◌≢◌, ◌↔◌, ◌+◌, �
 ghost use Rattle.hickory_base.specs.requests.RequestForm.{questions_form, written_form};
 ghost use Rattle.hickory_wire.specs.serialize.writing.Encoder.{IsSameVector, max_size, written_bytes};
 ghost use Rattle.hickory_wire.specs.serialize.writing.ReplyParts.{CannotBeWritten, ReplyWritten};
-ghost use Rattle.hickory_wire.specs.declared.op.header.Header.{Header as MessageHeader};
+ghost use Rattle.wire_messages.specs.declared.op.header.Header.{Header as MessageHeader};
 
 use crate::requests::message_request::MessageRequest;
 use crate::responses::message_response::borrowed;

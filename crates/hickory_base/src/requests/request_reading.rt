@@ -3,14 +3,14 @@
 ghost use Rattle.std.specs.Prelude.{◌≡◌, ◌≢◌, ◌<◌, ◌≤◌, [], length, IfOk, IfErr, MatchResult, OnOk};
 ghost use Rattle.hickory_base.specs.requests.QuestionList.{question_list};
 ghost use Rattle.hickory_base.specs.requests.RequestReading.{FollowsHeader, HasNoAdditional, HasNoRecord, IsFaultOf, IsQuestionSection, message_of, question_section, additionals_of, sections};
-ghost use Rattle.hickory_wire.specs.serialize.layout.MessageLayout.{high_code, with_high_code};
-ghost use Rattle.hickory_wire.specs.serialize.reading.MessageReading.{Fault, Reads, message};
-ghost use Rattle.hickory_wire.specs.serialize.reading.Reading.{Gives, GivesSeenBy};
-ghost use Rattle.hickory_wire.specs.serialize.reading.RecordReading.{question};
-ghost use Rattle.hickory_wire.specs.serialize.reading.SectionReading.{items, section_record};
-ghost use Rattle.hickory_wire.specs.declared.error.DecodeError.{DecodeError};
-ghost use Rattle.hickory_wire.specs.declared.error.DecodeError.TheVariants as decode_error;
-ghost use Rattle.hickory_wire.specs.declared.op.message.Message.{Message};
+ghost use Rattle.wire_messages.specs.serialize.layout.MessageLayout.{high_code, with_high_code};
+ghost use Rattle.wire_reading.specs.serialize.reading.MessageReading.{Fault, Reads, message};
+ghost use Rattle.wire_messages.specs.serialize.reading.Reading.{Gives, GivesSeenBy};
+ghost use Rattle.wire_messages.specs.serialize.reading.RecordReading.{question};
+ghost use Rattle.wire_messages.specs.serialize.reading.SectionReading.{items, section_record};
+ghost use Rattle.wire_names.specs.declared.error.DecodeError.{DecodeError};
+ghost use Rattle.wire_names.specs.declared.error.DecodeError.TheVariants as decode_error;
+ghost use Rattle.wire_reading.specs.declared.op.message.Message.{Message};
 
 use crate::requests::message_request::{MessageRequest, Queries, Questions};
 use crate::server::Request;
@@ -48,7 +48,7 @@ fn read_query_list(
 }
 
 /// One question in the place of others. It takes no list.
-#[tactic(auto, unfolding(hickory_wire::specs::serialize::reading::SectionReading::items))]
+#[tactic(auto, unfolding(wire_messages::specs::serialize::reading::SectionReading::items))]
 fn read_one(
     alloc: Global,
     decoder: &mut BinDecoder<'_>,
@@ -75,7 +75,7 @@ impl Queries {
     }
 
     /// One question, and the bytes that hold it.
-    #[tactic(auto, unfolding(crate::specs::requests::RequestReading::question_section, hickory_wire::specs::serialize::reading::SectionReading::items))]
+    #[tactic(auto, unfolding(crate::specs::requests::RequestReading::question_section, wire_messages::specs::serialize::reading::SectionReading::items))]
     fn read_single(
         &mut self,
         alloc: Global,
@@ -168,7 +168,7 @@ fn read_some_records(
 }
 
 /// So many records of an answer or authority section, where none were read yet.
-#[tactic(auto, unfolding(hickory_wire::specs::serialize::reading::SectionReading::items))]
+#[tactic(auto, unfolding(wire_messages::specs::serialize::reading::SectionReading::items))]
 fn read_records(
     alloc: Global,
     decoder: &mut BinDecoder<'_>,
@@ -233,7 +233,7 @@ impl MessageRequest {
     }
 
     /// The same in the place of none, where most requests have none too.
-    #[tactic(auto, unfolding(crate::specs::requests::RequestReading::additionals_of, hickory_wire::specs::serialize::reading::SectionReading::additionals_after))]
+    #[tactic(auto, unfolding(crate::specs::requests::RequestReading::additionals_of, wire_messages::specs::serialize::reading::SectionReading::additionals_after))]
     fn read_additionals(
         &mut self,
         alloc: Global,
@@ -271,7 +271,7 @@ impl MessageRequest {
     /// one without a record.
     ///
     /// Then the decoder's place is the one behind it. After an error the place is left open.
-    #[tactic(auto, unfolding(crate::specs::requests::RequestReading::question_section, crate::specs::requests::RequestReading::sections, crate::specs::requests::RequestReading::additionals_of, hickory_wire::specs::serialize::reading::MessageReading::message))]
+    #[tactic(auto, unfolding(crate::specs::requests::RequestReading::question_section, crate::specs::requests::RequestReading::sections, crate::specs::requests::RequestReading::additionals_of, wire_reading::specs::serialize::reading::MessageReading::message))]
     fn read_in_place(
         &mut self,
         alloc: Global,

@@ -3,7 +3,7 @@
 ghost use Rattle.std.specs.Prelude.{◌≡◌, ◌↔◌, ◌+◌, ◌%◌, ◌^◌, ◌++◌, ◌∷◌, [], ℕ, List, IfErr, IfOk, IfSome, IsNone, OnErr};
 ghost use Rattle.std.specs.IoError.{error_kind};
 ghost use Rattle.std.specs.Iterator.{IsFinite};
-ghost use Rattle.hickory_wire.specs.serialize.writing.Reply.{Reply, size_limit};
+ghost use Rattle.wire_messages.specs.serialize.writing.Reply.{Reply, size_limit};
 ghost use Rattle.hickory_wire.specs.serialize.writing.ReplyParts.{ReplyEncoded};
 ghost use Rattle.hickory_base.specs.responses.EncodingSinks.{IsEncodingOf, TellsEncoding};
 ghost use Rattle.hickory_base.specs.responses.Responses.{IsReplyBy, header_of};

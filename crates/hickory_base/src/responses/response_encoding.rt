@@ -2,7 +2,7 @@
 
 ghost use Rattle.std.specs.Prelude.{◌≡◌, IfOk, OnOk, OnErr, map};
 ghost use Rattle.std.specs.Iterator.{IsFinite};
-ghost use Rattle.hickory_wire.specs.serialize.writing.Reply.{Reply, size_limit};
+ghost use Rattle.wire_messages.specs.serialize.writing.Reply.{Reply, size_limit};
 ghost use Rattle.hickory_wire.specs.serialize.writing.ReplyParts.{RecordLists, ReplyEncoded, reply_of};
 ghost use Rattle.hickory_base.specs.responses.LenderLists.{CanLend, lender_list};
 ghost use Rattle.hickory_base.specs.responses.Responses.{GivesBy, IsReplyBy, header_of};

@@ -12,8 +12,8 @@ use std::io;
 /// A reference to a record, as an item of an iterator.
 pub trait RecordRef: Drop {
     ghost use Rattle.std.specs.Prelude.{◌≡◌};
-    ghost use Rattle.hickory_wire.specs.declared.rr.rdata.RData.{RData};
-    ghost use Rattle.hickory_wire.specs.declared.rr.record.Record.{Record};
+    ghost use Rattle.wire_messages.specs.declared.rr.rdata.RData.{RData};
+    ghost use Rattle.wire_messages.specs.declared.rr.record.Record.{Record};
 
     ghost record_of: { Self → Record RData };
 
@@ -39,8 +39,8 @@ impl RecordRef for &Record {
 pub trait ResponseHandler {
     ghost use Rattle.std.specs.Prelude.{◌≡◌, ◌+◌, ◌%◌, ◌^◌, ◌⊎◌, ℕ, List, IfOk, OnOk, OnErr};
     ghost use Rattle.std.specs.Iterator.{IsFinite};
-    ghost use Rattle.hickory_wire.specs.serialize.writing.Reply.{Reply};
-    ghost use Rattle.hickory_wire.specs.declared.op.header.Header.{Header};
+    ghost use Rattle.wire_messages.specs.serialize.writing.Reply.{Reply};
+    ghost use Rattle.wire_messages.specs.declared.op.header.Header.{Header};
     ghost use Rattle.hickory_base.specs.responses.Responses.{IsReplyBy, header_of};
     ghost use Rattle.hickory_base.specs.responses.Sinks.{AddsEntry};
 

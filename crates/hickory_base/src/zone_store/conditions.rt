@@ -2,7 +2,7 @@
 
 ghost use Rattle.std.specs.Prelude.{◌≡◌, ◌↔◌, ◌<◌, ◌^◌, IsTrue};
 ghost use Rattle.std.specs.List.{AllByRecursion};
-ghost use Rattle.hickory_wire.specs.rr.RecordSameness.{SameRecord};
+ghost use Rattle.wire_messages.specs.rr.RecordSameness.{SameRecord};
 ghost use Rattle.hickory_base.specs.zone_store.RecordSets.{IsRecordSet, SameSet};
 ghost use Rattle.hickory_base.specs.zone_store.ZoneSets.{AreDistinct, IsUnder, IsWellTyped, IsZone, IsZoneSet, sets_of};
 

@@ -75,8 +75,8 @@ pub struct Nsec3QueryInfo<'q> {
 pub trait ZoneHandler: Drop {
     ghost use Rattle.std.specs.Prelude.{◌≡◌, ℕ, Bool, Option, None, Result, Ok, [], OnErr, IfSome};
     ghost use Rattle.std.specs.Option.{option_copied, option_map};
-    ghost use Rattle.hickory_wire.specs.rr.domain.DomainName.{DomainName};
-    ghost use Rattle.hickory_wire.specs.declared.rr.tsig.TSigResponseContext.{TSigResponseContext};
+    ghost use Rattle.wire_names.specs.rr.domain.DomainName.{DomainName};
+    ghost use Rattle.wire_messages.specs.declared.rr.tsig.TSigResponseContext.{TSigResponseContext};
     ghost use Rattle.hickory_base.specs.zone_store.Denials.{Nsec3Question, nsec3_question};
     ghost use Rattle.hickory_base.specs.zone_store.Lookups.{Flow, stored_result};
     ghost use Rattle.hickory_base.specs.requests.Requests.{ReceivedRequest, RequestInformation, information_of};

@@ -18,8 +18,8 @@ pub struct RecordSet {
 
 impl Model for RecordSet {
     ghost use Rattle.std.specs.Prelude.{List};
-    ghost use Rattle.hickory_wire.specs.declared.rr.rdata.RData.{RData};
-    ghost use Rattle.hickory_wire.specs.declared.rr.record.Record.{Record};
+    ghost use Rattle.wire_messages.specs.declared.rr.rdata.RData.{RData};
+    ghost use Rattle.wire_messages.specs.declared.rr.record.Record.{Record};
 
     ghost Value = { List (Record RData) };
 

@@ -2,7 +2,7 @@
 
 ghost use Rattle.std.specs.Prelude.{◌≡◌, ◌≤◌, ◌↔◌, [], ◌∷◌, length, true, IfOk, OnOk, OnErr, IsTrue};
 ghost use Rattle.std.specs.Str.Lines.{lines};
-ghost use Rattle.hickory_wire.specs.rr.domain.NameOrder.{is_wildcard};
+ghost use Rattle.wire_names.specs.rr.domain.NameOrder.{is_wildcard};
 ghost use Rattle.hickory_store.specs.Entries.{HasEntry, IsEntry, AreEntries, AddsEntry, AddsLines, AddsFirstLines};
 ghost use Rattle.hickory_store.specs.Blocked.{IsUnderWildcard};
 
@@ -22,7 +22,7 @@ pub(crate) struct Entries {
 
 impl Model for Entries {
     ghost use Rattle.std.specs.Prelude.{List};
-    ghost use Rattle.hickory_wire.specs.rr.domain.DomainName.{DomainName};
+    ghost use Rattle.wire_names.specs.rr.domain.DomainName.{DomainName};
     ghost use Rattle.hickory_store.specs.Entries.{AreKept};
 
     ghost Value = { List DomainName };

@@ -1,7 +1,7 @@
 //! The handler, and how its lists are filled.
 
 ghost use Rattle.std.specs.Prelude.{◌≡◌, [], length, IfOk};
-ghost use Rattle.hickory_wire.specs.rr.domain.NameOrder.{lower_name};
+ghost use Rattle.wire_names.specs.rr.domain.NameOrder.{lower_name};
 ghost use Rattle.hickory_store.specs.Adding.{Adds};
 ghost use Rattle.hickory_store.specs.Readers.{CountsIo};
 ghost use Rattle.hickory_store.specs.Entries.{AreEntries};

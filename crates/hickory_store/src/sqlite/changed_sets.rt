@@ -4,10 +4,10 @@ ghost use Rattle.std.specs.Prelude.{◌≡◌, IfOk, List, OnErr, OnOk, filter, 
 ghost use Rattle.std.specs.List.{AllByRecursion, flat_map};
 ghost use Rattle.std.specs.List.Sorted.{IsStrictlySortedBy};
 ghost use Rattle.std.specs.Map.{keys_of, values_of};
-ghost use Rattle.hickory_wire.specs.declared.rr.rdata.RData.{RData as Data};
-ghost use Rattle.hickory_wire.specs.declared.rr.record.Record.{Record as ResourceRecord};
+ghost use Rattle.wire_messages.specs.declared.rr.rdata.RData.{RData as Data};
+ghost use Rattle.wire_messages.specs.declared.rr.record.Record.{Record as ResourceRecord};
 ghost use Rattle.hickory_base.specs.zone_store.ZoneSets.{AreDistinct, IsWellTyped, keys_at, sets_of, zone_records};
-ghost use Rattle.hickory_wire.specs.rr.RrKeys.{key_cmp};
+ghost use Rattle.wire_messages.specs.rr.RrKeys.{key_cmp};
 ghost use Rattle.hickory_store.specs.Identity.{SameZone};
 ghost use Rattle.hickory_store.specs.NameUpdates.{AreNow};
 ghost use Rattle.hickory_store.specs.SetChanges.{Makes, has_key, put_sets};

@@ -1,11 +1,11 @@
 //! Laws of the definitions, each the contract of a function with nothing to do.
 
 ghost use Rattle.std.specs.Prelude.{◌≡◌, ◌↔◌, IsTrue};
-ghost use Rattle.hickory_wire.specs.rr.domain.DomainName.{DomainName};
-ghost use Rattle.hickory_wire.specs.rr.domain.NameOrder.{Encloses};
-ghost use Rattle.hickory_wire.specs.rr.RecordSameness.{SameRecord};
-ghost use Rattle.hickory_wire.specs.declared.rr.rdata.RData.{RData as Data};
-ghost use Rattle.hickory_wire.specs.declared.rr.record.Record.{Record as ResourceRecord};
+ghost use Rattle.wire_names.specs.rr.domain.DomainName.{DomainName};
+ghost use Rattle.wire_names.specs.rr.domain.NameOrder.{Encloses};
+ghost use Rattle.wire_messages.specs.rr.RecordSameness.{SameRecord};
+ghost use Rattle.wire_messages.specs.declared.rr.rdata.RData.{RData as Data};
+ghost use Rattle.wire_messages.specs.declared.rr.record.Record.{Record as ResourceRecord};
 ghost use Rattle.hickory_store.specs.Identity.{is_in_zone, same_record};
 ghost use Rattle.hickory_store.specs.NameUpdates.{FoldsByName};
 ghost use Rattle.hickory_store.specs.Replays.{Replays};

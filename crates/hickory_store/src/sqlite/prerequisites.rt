@@ -1,7 +1,7 @@
 //! What an update requires of the zone.
 
 ghost use Rattle.std.specs.Prelude.{◌≡◌, ◌==◌, IfOk};
-ghost use Rattle.hickory_wire.specs.rr.RecordData.{type_of};
+ghost use Rattle.wire_messages.specs.rr.RecordData.{type_of};
 ghost use Rattle.hickory_base.specs.zone_store.ZoneSets.{zone_records};
 ghost use Rattle.hickory_store.specs.Prerequisites.{absence_refusal, class_refusal, existence_refusal, name_is_in_use, prerequisite_refusal, prerequisites_refusal, rrset_exists};
 ghost use Rattle.hickory_store.specs.Refusals.{Tells, first_refusal, unless};

@@ -3,7 +3,7 @@
 ghost use Rattle.std.specs.Prelude.{◌≡◌, ◌==◌, ◌&&◌, IfOk};
 ghost use Rattle.std.specs.List.{list_any};
 ghost use Rattle.std.specs.Option.{option_copied};
-ghost use Rattle.hickory_wire.specs.rr.RecordData.{type_of};
+ghost use Rattle.wire_messages.specs.rr.RecordData.{type_of};
 ghost use Rattle.hickory_base.specs.zone_store.ZoneRecords.{existing, is_of, rrset};
 ghost use Rattle.hickory_base.specs.zone_store.ZoneSets.{zone_records};
 ghost use Rattle.hickory_store.specs.Identity.{same_record};

@@ -3,7 +3,7 @@
 ghost use Rattle.std.specs.Prelude.{◌≡◌, IsSome, None, OnErr, OnOk, false};
 ghost use Rattle.std.specs.BTreeMap.{IsUnchanged};
 ghost use Rattle.std.specs.Map.{remove_entry};
-ghost use Rattle.hickory_wire.specs.declared.rr.rr_key.RrKey.{RrKey as Key};
+ghost use Rattle.wire_messages.specs.declared.rr.rr_key.RrKey.{RrKey as Key};
 ghost use Rattle.hickory_store.specs.SetChanges.{AllPresent, KeepsKeys, at, equals, is_put, put_all, take_all, undone};
 
 use crate::sqlite::zone_sets::Sets;

@@ -1,8 +1,8 @@
 //! The names that an update touches, and their records as it leaves them.
 
 ghost use Rattle.std.specs.Prelude.{◌≡◌, IfOk, List, None, OnOk, Some, filter};
-ghost use Rattle.hickory_wire.specs.declared.rr.rdata.RData.{RData as Data};
-ghost use Rattle.hickory_wire.specs.declared.rr.record.Record.{Record as ResourceRecord};
+ghost use Rattle.wire_messages.specs.declared.rr.rdata.RData.{RData as Data};
+ghost use Rattle.wire_messages.specs.declared.rr.record.Record.{Record as ResourceRecord};
 ghost use Rattle.hickory_base.specs.zone_store.ZoneSets.{zone_records};
 ghost use Rattle.hickory_store.specs.Changes.{any_change, changes, fold, turn};
 ghost use Rattle.hickory_store.specs.NameUpdates.{AreNow, PutsName, records_now};

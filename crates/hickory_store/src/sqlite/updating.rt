@@ -2,8 +2,8 @@
 
 ghost use Rattle.std.specs.Prelude.{◌≡◌, ◌<◌, ◌^◌, IfErr, IfOk, List, MatchOption, MatchResult, None, Ok, OnOk, false, map, true};
 ghost use Rattle.std.specs.List.{AllByRecursion, list_any};
-ghost use Rattle.hickory_wire.specs.declared.rr.rdata.RData.{RData as Data};
-ghost use Rattle.hickory_wire.specs.declared.rr.record.Record.{Record as ResourceRecord};
+ghost use Rattle.wire_messages.specs.declared.rr.rdata.RData.{RData as Data};
+ghost use Rattle.wire_messages.specs.declared.rr.record.Record.{Record as ResourceRecord};
 ghost use Rattle.hickory_base.specs.zone_store.ZoneSets.{zone_records};
 ghost use Rattle.hickory_store.specs.NameUpdates.{AreNow};
 ghost use Rattle.hickory_store.specs.Prescan.{prescan_refusal};

@@ -25,7 +25,7 @@ pub enum VerifyError {
 pub trait Verifier: Drop {
     ghost use Rattle.std.specs.Prelude.{◌≡◌, ◌≢◌, ℕ, Bool, List, Option, Some, None, IfOk, IfErr};
     ghost use Rattle.std.specs.declared.ops.Range.{Range as Times};
-    ghost use Rattle.hickory_wire.specs.rr.domain.DomainName.{DomainName};
+    ghost use Rattle.wire_names.specs.rr.domain.DomainName.{DomainName};
 
     ghost knows_key: { Self → DomainName → Bool };
 

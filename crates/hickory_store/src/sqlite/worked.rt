@@ -6,9 +6,9 @@
 ghost use Rattle.std.specs.Prelude.{◌≡◌, ◌∷◌, [], ◌++◌, ℕ, None, Some, Ok, Err, true, false};
 ghost use Rattle.std.specs.declared.ops.Range.{Range};
 ghost use Rattle.hickory_wire.specs.worked.Worked.{record_of};
-ghost use Rattle.hickory_wire.specs.declared.rr.rdata.RData.TheVariants as rdata;
-ghost use Rattle.hickory_wire.specs.declared.rr.tsig.TSigResponseKind.TheVariants.{UnknownKey, BadSignature, Known};
-ghost use Rattle.hickory_wire.specs.declared.rr.tsig.TsigError.TheVariants.{BadTime};
+ghost use Rattle.wire_messages.specs.declared.rr.rdata.RData.TheVariants as rdata;
+ghost use Rattle.wire_messages.specs.declared.rr.tsig.TSigResponseKind.TheVariants.{UnknownKey, BadSignature, Known};
+ghost use Rattle.wire_messages.specs.declared.rr.tsig.TsigError.TheVariants.{BadTime};
 ghost use Rattle.hickory_base.specs.requests.Requests.{ReceivedRequest};
 ghost use Rattle.hickory_base.specs.declared.zone_store.handler.AxfrPolicy.TheVariants as policy;
 ghost use Rattle.hickory_store.specs.Identity.{same_record, ttl_at};

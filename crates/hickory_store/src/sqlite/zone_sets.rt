@@ -1,10 +1,10 @@
 //! Records of a zone, as sets by name and type.
 
 ghost use Rattle.std.specs.Prelude.{◌≡◌, ◌∷◌, [], ◌++◌, IfOk, List, None, OnOk, Some};
-ghost use Rattle.hickory_wire.specs.rr.domain.NameOrder.{lower_name};
-ghost use Rattle.hickory_wire.specs.rr.RecordData.{type_of};
-ghost use Rattle.hickory_wire.specs.declared.rr.rdata.RData.{RData as Data};
-ghost use Rattle.hickory_wire.specs.declared.rr.record.Record.{Record as ResourceRecord};
+ghost use Rattle.wire_names.specs.rr.domain.NameOrder.{lower_name};
+ghost use Rattle.wire_messages.specs.rr.RecordData.{type_of};
+ghost use Rattle.wire_messages.specs.declared.rr.rdata.RData.{RData as Data};
+ghost use Rattle.wire_messages.specs.declared.rr.record.Record.{Record as ResourceRecord};
 ghost use Rattle.hickory_base.specs.zone_store.ZoneSets.{sets_of};
 ghost use Rattle.hickory_store.specs.ZoneSets.{HoldsSets, PutsSet, records_under};
 

@@ -3,9 +3,9 @@
 ghost use Rattle.std.specs.Prelude.{◌≡◌, ◌+◌, ◌%◌, ◌^◌, [], IfOk, OnOk, OnErr, replicate};
 ghost use Rattle.std.specs.Iterator.{IsFinite};
 ghost use Rattle.std.specs.Option.{option_copied};
-ghost use Rattle.hickory_wire.specs.serialize.writing.Reply.{size_limit};
+ghost use Rattle.wire_messages.specs.serialize.writing.Reply.{size_limit};
 ghost use Rattle.hickory_wire.specs.serialize.writing.ReplyParts.{ReplyEncoded};
-ghost use Rattle.hickory_wire.specs.declared.protocol.Protocol.TheVariants as protocol;
+ghost use Rattle.wire_messages.specs.declared.protocol.Protocol.TheVariants as protocol;
 ghost use Rattle.hickory_base.specs.responses.Responses.{GivesBy, IsReplyBy};
 
 use crate::base::fixtures::{QUERY, request};
@@ -51,7 +51,7 @@ struct KeptEdns {
 }
 
 impl Model for KeptEdns {
-    ghost use Rattle.hickory_wire.specs.op.EdnsFields.{EdnsFields};
+    ghost use Rattle.wire_messages.specs.op.EdnsFields.{EdnsFields};
 
     ghost Value = { EdnsFields };
 
@@ -99,7 +99,7 @@ struct KeptReply {
 }
 
 impl Model for KeptReply {
-    ghost use Rattle.hickory_wire.specs.serialize.writing.Reply.{Reply};
+    ghost use Rattle.wire_messages.specs.serialize.writing.Reply.{Reply};
 
     ghost Value = { Reply };
 

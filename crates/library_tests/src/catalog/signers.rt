@@ -1,7 +1,7 @@
 //! Signers.
 
 ghost use Rattle.std.specs.Prelude.{◌≡◌, [], true, cond, Some, None, IfOk};
-ghost use Rattle.hickory_wire.specs.declared.rr.record.Proof.TheVariants.{Indeterminate};
+ghost use Rattle.wire_messages.specs.declared.rr.record.Proof.TheVariants.{Indeterminate};
 
 use crate::base::fixtures::request;
 use crate::base::zone_store::boxed::unasked;

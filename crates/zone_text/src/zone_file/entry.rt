@@ -1,8 +1,8 @@
 //! One entry of a zone file (RFC 1035 section 5.1).
 
 ghost use Rattle.std.specs.Prelude.{◌≡◌, ◌↔◌, ◌≤◌, All, IfOk, IsTrue, true};
-ghost use Rattle.hickory_wire.specs.rr.RecordData.{type_of};
-ghost use Rattle.hickory_wire.specs.serialize.writing.RecordSize.{data_len};
+ghost use Rattle.wire_messages.specs.rr.RecordData.{type_of};
+ghost use Rattle.wire_messages.specs.serialize.writing.RecordSize.{data_len};
 ghost use Rattle.zone_text.specs.ZoneFiles.{EndsInDot, HasBlankAt, IsEntryAt, IsLastOwner, IsNoRecord, IsRelativeTo, IsZoneRecord, IsZoneType, ttl_in_force};
 
 use crate::data::data_of;

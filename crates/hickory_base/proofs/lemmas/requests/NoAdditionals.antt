@@ -1,14 +1,14 @@
 -- A message without a record in its additional section stays as it is, where none is read.
 use Rattle.std.proofs.Common.{◌≡◌, ℕ, Option, None, List, [], Ok, sym, ap, ◌∙◌, arith}
-use Rattle.hickory_wire.specs.op.EdnsFields.{EdnsFields}
-use Rattle.hickory_wire.specs.serialize.layout.MessageLayout.{with_high_code}
-use Rattle.hickory_wire.specs.serialize.reading.Cursor.{Cursor}
-use Rattle.hickory_wire.specs.serialize.reading.Reading.{Read}
-use Rattle.hickory_wire.specs.serialize.reading.SectionReading.{additionals_after}
-use Rattle.hickory_wire.specs.declared.op.header.Metadata.{Metadata}
-use Rattle.hickory_wire.specs.declared.rr.rdata.RData.{RData}
-use Rattle.hickory_wire.specs.declared.rr.record.Record.{Record}
-use Rattle.hickory_wire.specs.declared.rr.tsig.TSIG.{TSIG}
+use Rattle.wire_messages.specs.op.EdnsFields.{EdnsFields}
+use Rattle.wire_messages.specs.serialize.layout.MessageLayout.{with_high_code}
+use Rattle.wire_messages.specs.serialize.reading.Cursor.{Cursor}
+use Rattle.wire_messages.specs.serialize.reading.Reading.{Read}
+use Rattle.wire_messages.specs.serialize.reading.SectionReading.{additionals_after}
+use Rattle.wire_messages.specs.declared.op.header.Metadata.{Metadata}
+use Rattle.wire_messages.specs.declared.rr.rdata.RData.{RData}
+use Rattle.wire_messages.specs.declared.rr.record.Record.{Record}
+use Rattle.wire_messages.specs.declared.rr.tsig.TSIG.{TSIG}
 use Rattle.hickory_base.specs.requests.RequestReading.{HasNoAdditional, additionals_of}
 use Rattle.hickory_base.specs.declared.requests.message_request.MessageRequest.{MessageRequest}
 

@@ -1,17 +1,17 @@
 -- Reading questions never goes back.
 use Rattle.std.proofs.Common.{◌≡◌, ℕ, zero, suc, ◌≤◌, List, [], ◌∷◌, ◌++◌, length, ltb, Ok, ap, take, arith}
 use Rattle.std.specs.Int.{Width, w16, byte_len, from_be_bytes}
-use Rattle.hickory_wire.specs.serialize.reading.Cursor.{Cursor}
-use Rattle.hickory_wire.specs.rr.domain.DomainName.{DomainName}
-use Rattle.hickory_wire.specs.serialize.reading.NameReading.{name}
-use Rattle.hickory_wire.specs.serialize.reading.Reading.{◌>>=◌, number, rest_of, moved}
-use Rattle.hickory_wire.specs.serialize.reading.RecordReading.{question}
-use Rattle.hickory_wire.specs.serialize.reading.SectionReading.{items}
-use Rattle.hickory_wire.specs.declared.error.DecodeError.TheVariants.{InsufficientBytes}
-use Rattle.hickory_wire.specs.declared.op.query.Query.{Query}
-use Rattle.hickory_wire.proofs.lemmas.serialize.layout.FormKeeps.{LabelsAt-longer}
-use Rattle.hickory_wire.proofs.lemmas.serialize.reading.NameLaws.{name_found}
-use Rattle.hickory_wire.proofs.lemmas.serialize.reading.StringSteps.{bind_ok, guard_ok, ok_is}
+use Rattle.wire_messages.specs.serialize.reading.Cursor.{Cursor}
+use Rattle.wire_names.specs.rr.domain.DomainName.{DomainName}
+use Rattle.wire_messages.specs.serialize.reading.NameReading.{name}
+use Rattle.wire_messages.specs.serialize.reading.Reading.{◌>>=◌, number, rest_of, moved}
+use Rattle.wire_messages.specs.serialize.reading.RecordReading.{question}
+use Rattle.wire_messages.specs.serialize.reading.SectionReading.{items}
+use Rattle.wire_names.specs.declared.error.DecodeError.TheVariants.{InsufficientBytes}
+use Rattle.wire_messages.specs.declared.op.query.Query.{Query}
+use Rattle.wire_messages.proofs.lemmas.serialize.layout.FormKeeps.{LabelsAt-longer}
+use Rattle.wire_reading.proofs.lemmas.serialize.reading.NameLaws.{name_found}
+use Rattle.wire_messages.proofs.lemmas.serialize.reading.StringSteps.{bind_ok, guard_ok, ok_is}
 
 name_moves : (c : Cursor) (x : DomainName × Cursor) → name c ≡ Ok x → c.place ≤ x.1.place
 name_moves c x e =

@@ -1,16 +1,16 @@
 -- The question section of a request stands behind its header.
 use Rattle.std.proofs.Common.{◌≡◌, ℕ, List, [], Ok, sym, ap, subst, ◌∙◌, slice_range}
-use Rattle.hickory_wire.specs.serialize.layout.Bytes.{AreBytes}
-use Rattle.hickory_wire.specs.serialize.reading.Cursor.{Cursor}
-use Rattle.hickory_wire.specs.serialize.layout.MessageLayout.{ItemsAt, QuestionRead}
-use Rattle.hickory_wire.specs.serialize.reading.MessageReading.{front_of}
-use Rattle.hickory_wire.specs.serialize.reading.RecordReading.{question}
-use Rattle.hickory_wire.specs.serialize.reading.SectionReading.{items}
-use Rattle.hickory_wire.specs.declared.op.query.Query.{Query}
-use Rattle.hickory_wire.proofs.lemmas.serialize.reading.CountedItems.{at_place, items_found}
-use Rattle.hickory_wire.proofs.lemmas.serialize.reading.HeaderLaws.{header_found}
-use Rattle.hickory_wire.proofs.lemmas.serialize.reading.SectionItems.{questions_find}
-use Rattle.hickory_wire.proofs.lemmas.serialize.reading.StringSteps.{bind_ok, ok_is}
+use Rattle.wire_names.specs.serialize.layout.Bytes.{AreBytes}
+use Rattle.wire_messages.specs.serialize.reading.Cursor.{Cursor}
+use Rattle.wire_messages.specs.serialize.layout.MessageLayout.{ItemsAt, QuestionRead}
+use Rattle.wire_reading.specs.serialize.reading.MessageReading.{front_of}
+use Rattle.wire_messages.specs.serialize.reading.RecordReading.{question}
+use Rattle.wire_messages.specs.serialize.reading.SectionReading.{items}
+use Rattle.wire_messages.specs.declared.op.query.Query.{Query}
+use Rattle.wire_reading.proofs.lemmas.serialize.reading.CountedItems.{at_place, items_found}
+use Rattle.wire_reading.proofs.lemmas.serialize.reading.HeaderLaws.{header_found}
+use Rattle.wire_reading.proofs.lemmas.serialize.reading.SectionItems.{questions_find}
+use Rattle.wire_messages.proofs.lemmas.serialize.reading.StringSteps.{bind_ok, ok_is}
 use Rattle.hickory_base.specs.requests.Questions.{QuestionSection}
 use Rattle.hickory_base.specs.requests.RequestReading.{question_section, FollowsHeader, IsQuestionSection}
 

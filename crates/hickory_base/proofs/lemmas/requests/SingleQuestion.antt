@@ -1,9 +1,9 @@
 -- A single question is read as a list of one.
 use Rattle.std.proofs.Common.{◌≡◌, ℕ, [], ◌∷◌, Ok, refl}
-use Rattle.hickory_wire.specs.declared.op.query.Query.{Query}
-use Rattle.hickory_wire.specs.serialize.reading.Cursor.{Cursor}
-use Rattle.hickory_wire.specs.serialize.reading.RecordReading.{question}
-use Rattle.hickory_wire.specs.serialize.reading.SectionReading.{items}
+use Rattle.wire_messages.specs.declared.op.query.Query.{Query}
+use Rattle.wire_messages.specs.serialize.reading.Cursor.{Cursor}
+use Rattle.wire_messages.specs.serialize.reading.RecordReading.{question}
+use Rattle.wire_messages.specs.serialize.reading.SectionReading.{items}
 
 module _ (count : ℕ) (c : Cursor) (single : count ≡ 1) where
   pub single_is_read : (q : Query) (next : Cursor) → question c ≡ Ok (q, next) → items question count [] c ≡ Ok (q ∷ [], next)

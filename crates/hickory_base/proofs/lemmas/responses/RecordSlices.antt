@@ -3,9 +3,9 @@ use Rattle.std.proofs.Common.{◌≡◌, List, Option, sym, ◌∙◌}
 use Rattle.std.specs.Borrow.{Bor}
 use Rattle.std.specs.Slice.Iter.{iter_steps, iter_rest}
 use Rattle.std.proofs.lemmas.Iterator.{YieldsList, items_from_drains, YieldsList-from_slice}
-use Rattle.hickory_wire.specs.serialize.writing.Endings.{GivesRecords}
-use Rattle.hickory_wire.specs.declared.rr.rdata.RData.{RData}
-use Rattle.hickory_wire.specs.declared.rr.record.Record.{Record}
+use Rattle.wire_writing.specs.serialize.writing.Endings.{GivesRecords}
+use Rattle.wire_messages.specs.declared.rr.rdata.RData.{RData}
+use Rattle.wire_messages.specs.declared.rr.record.Record.{Record}
 
 -- an iterator of which each run gives these records
 pub given_by : {S : Type 0} {steps : S → Option (Bor (Record RData)) → S → Type 0} {it : S} {records all : List (Record RData)} → GivesRecords steps it records → YieldsList steps (λ x. x.now) it all → records ≡ all

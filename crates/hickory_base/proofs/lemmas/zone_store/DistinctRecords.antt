@@ -6,17 +6,17 @@ use Rattle.std.specs.Map.{keys_of}
 use Rattle.std.specs.Ordering.{is_eq}
 use Rattle.std.specs.declared.cmp.Ordering.TheVariants.{Less}
 use Rattle.std.proofs.lemmas.Bool.{eq-eqb}
-use Rattle.hickory_wire.specs.rr.RecordData.{type_of}
-use Rattle.hickory_wire.specs.rr.RecordSameness.{SameRecord, lower_data}
-use Rattle.hickory_wire.specs.declared.rr.rdata.RData.{RData}
-use Rattle.hickory_wire.specs.declared.rr.rdata.RData.TheVariants as rdata
-use Rattle.hickory_wire.specs.declared.rr.record.Record.{Record}
-use Rattle.hickory_wire.proofs.lemmas.rr.RecordComparing.{hold_both}
-use Rattle.hickory_wire.proofs.lemmas.rr.domain.SameNames.{eq_from_same}
+use Rattle.wire_messages.specs.rr.RecordData.{type_of}
+use Rattle.wire_messages.specs.rr.RecordSameness.{SameRecord, lower_data}
+use Rattle.wire_messages.specs.declared.rr.rdata.RData.{RData}
+use Rattle.wire_messages.specs.declared.rr.rdata.RData.TheVariants as rdata
+use Rattle.wire_messages.specs.declared.rr.record.Record.{Record}
+use Rattle.wire_messages.proofs.lemmas.rr.RecordComparing.{hold_both}
+use Rattle.wire_names.proofs.lemmas.rr.domain.SameNames.{eq_from_same}
 use Rattle.hickory_base.specs.zone_store.ZoneRecords.{is_of}
 use Rattle.hickory_base.specs.zone_store.ZoneSets.{AreDistinct, AreSetsInOrder, IsUnder, IsZone, zone_records}
-use Rattle.hickory_wire.specs.rr.RrKeys.{key_cmp}
-use Rattle.hickory_wire.specs.declared.rr.rr_key.RrKey.{RrKey}
+use Rattle.wire_messages.specs.rr.RrKeys.{key_cmp}
+use Rattle.wire_messages.specs.declared.rr.rr_key.RrKey.{RrKey}
 use Rattle.hickory_base.proofs.lemmas.zone_store.ZoneByName.{of_under}
 
 abbrev Records : Type 0

@@ -12,11 +12,11 @@ use Rattle.std.specs.declared.cmp.Ordering.{Ordering}
 use Rattle.std.specs.declared.cmp.Ordering.TheVariants.{Less, Equal, Greater}
 use Rattle.std.proofs.lemmas.Bool.Decides.{nat_tests}
 use Rattle.std.proofs.lemmas.List.Elements.{filter_agree}
-use Rattle.hickory_wire.specs.rr.domain.NameOrder.{name_cmp, name_cmp_total}
+use Rattle.wire_names.specs.rr.domain.NameOrder.{name_cmp, name_cmp_total}
 use Rattle.hickory_base.specs.zone_store.ZoneSets.{has_name}
-use Rattle.hickory_wire.specs.rr.RrKeys.{key_cmp}
-use Rattle.hickory_wire.specs.declared.rr.rr_key.RrKey.{RrKey}
-use Rattle.hickory_wire.specs.contracts.rr.rr_key.RrKeyOrd.TheImpl as by_key
+use Rattle.wire_messages.specs.rr.RrKeys.{key_cmp}
+use Rattle.wire_messages.specs.declared.rr.rr_key.RrKey.{RrKey}
+use Rattle.wire_messages.specs.contracts.rr.rr_key.RrKeyOrd.TheImpl as by_key
 
 -- the order that is derived is by name, then by type
 pub comparison-is : (a b : RrKey) → by_key.ghosts.cmp a b ≡ key_cmp a b

@@ -5,11 +5,11 @@ use Rattle.std.specs.List.{flat_map, list_any}
 use Rattle.std.specs.Map.{keys_of, lookup}
 use Rattle.std.specs.declared.alloc.Global.{Global}
 use Rattle.std.specs.declared.rc.Rc.{Rc}
-use Rattle.hickory_wire.specs.declared.rr.rdata.RData.{RData}
-use Rattle.hickory_wire.specs.declared.rr.record.Record.{Record}
+use Rattle.wire_messages.specs.declared.rr.rdata.RData.{RData}
+use Rattle.wire_messages.specs.declared.rr.record.Record.{Record}
 use Rattle.hickory_base.specs.zone_store.ZoneSets.{shared_sets}
 use Rattle.hickory_base.specs.declared.zone_store.record_set.RecordSet.{RecordSet}
-use Rattle.hickory_wire.specs.declared.rr.rr_key.RrKey.{RrKey}
+use Rattle.wire_messages.specs.declared.rr.rr_key.RrKey.{RrKey}
 
 module _ (test : RrKey → Bool) where
   lookup_step : (b : Bool) (set : Rc RecordSet Global) (x : Option (List (Record RData))) (y : Option (Rc RecordSet Global)) → x ≡ option_map (λ s. s.value) y

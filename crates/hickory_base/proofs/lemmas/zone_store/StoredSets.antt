@@ -8,10 +8,10 @@ use Rattle.std.specs.Ordering.{is_eq, nat_cmp}
 use Rattle.std.specs.declared.alloc.Global.{Global}
 use Rattle.std.specs.declared.ops.Bound.TheVariants.{Included, Unbounded}
 use Rattle.std.specs.declared.rc.Rc.{Rc}
-use Rattle.hickory_wire.specs.rr.domain.NameOrder.{name_cmp}
-use Rattle.hickory_wire.specs.declared.rr.rdata.RData.{RData}
-use Rattle.hickory_wire.specs.declared.rr.record.Record.{Record}
-use Rattle.hickory_wire.specs.declared.rr.rr_key.RrKey.{RrKey}
+use Rattle.wire_names.specs.rr.domain.NameOrder.{name_cmp}
+use Rattle.wire_messages.specs.declared.rr.rdata.RData.{RData}
+use Rattle.wire_messages.specs.declared.rr.record.Record.{Record}
+use Rattle.wire_messages.specs.declared.rr.rr_key.RrKey.{RrKey}
 use Rattle.hickory_base.proofs.lemmas.zone_store.KeyOrder.{any_filtered, from_first_on, is_filled, of_name, while_of}
 use Rattle.hickory_base.proofs.lemmas.zone_store.SharedSets.{any-shared}
 use Rattle.hickory_base.proofs.lemmas.zone_store.ZoneByName.{eq_numbers, eq_then}
@@ -20,7 +20,7 @@ use Rattle.hickory_base.specs.declared.zone_store.lookup.AuthLookup.{AuthLookup}
 use Rattle.hickory_base.specs.declared.zone_store.record_set.RecordSet.{RecordSet}
 use Rattle.hickory_base.specs.zone_store.ZoneAnswers.{found, no_data, no_name, set_answer, set_or_denial}
 use Rattle.hickory_base.specs.zone_store.ZoneSets.{has_name, is_key, shared_sets}
-use Rattle.hickory_wire.specs.rr.RrKeys.{key_cmp}
+use Rattle.wire_messages.specs.rr.RrKeys.{key_cmp}
 
 abbrev Entries : Type 0
 Entries = List (RrKey × Rc RecordSet Global)

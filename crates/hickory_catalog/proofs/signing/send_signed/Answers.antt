@@ -1,5 +1,5 @@
 use Rattle.std.proofs.Common.{◌≡◌, ℕ, Option, Some, None, refl}
-use Rattle.hickory_wire.specs.op.EdnsFields.{EdnsFields}
+use Rattle.wire_messages.specs.op.EdnsFields.{EdnsFields}
 use Rattle.hickory_catalog.specs.Replies.{contents_of, error_reply, unsigned_reply}
 use Rattle.hickory_catalog.specs.ReplyEdns.{with_high_code}
 use Rattle.hickory_catalog.specs.Signing.{failed, plain, signed}

@@ -1,6 +1,6 @@
 use Rattle.std.proofs.Common.{◌≡◌, ◌+◌, take}
 use Rattle.std.specs.List.{sum_by}
-use Rattle.hickory_wire.specs.serialize.writing.RecordSize.{full_size}
+use Rattle.wire_messages.specs.serialize.writing.RecordSize.{full_size}
 use Rattle.hickory_catalog.proofs.transfer_replies.run_len.Given as goal
 
 -- what is left, and the sizes of those that were counted, make the room

@@ -1,5 +1,5 @@
 use Rattle.std.proofs.Common.{◌≡◌, ℕ, Option, Some, None, refl, subst}
-use Rattle.hickory_wire.specs.op.EdnsFields.{EdnsFields}
+use Rattle.wire_messages.specs.op.EdnsFields.{EdnsFields}
 use Rattle.hickory_base.specs.declared.requests.message_request.MessageRequest.{MessageRequest}
 use Rattle.hickory_catalog.specs.ReplyEdns.{with_high_code}
 use Rattle.hickory_catalog.specs.Transfers.{AreRuns, size_without_answers}

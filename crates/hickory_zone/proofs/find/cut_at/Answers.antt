@@ -2,7 +2,7 @@ use Rattle.std.proofs.Common.{◌≡◌, false, sym, ap, subst, ◌∙◌}
 use Rattle.std.specs.Option.{option_copied}
 use Rattle.std.proofs.lemmas.Bool.{false≢true}
 use Rattle.hickory_base.specs.zone_store.ZoneSets.{sets_of}
-use Rattle.hickory_wire.specs.rr.domain.NameOrder.{Encloses}
+use Rattle.wire_names.specs.rr.domain.NameOrder.{Encloses}
 use Rattle.hickory_zone.proofs.lemmas.zones.Cuts.{cut_here, cut_higher, parent_within}
 use Rattle.hickory_zone.specs.FoundRecords.{CutAt, EndsAt}
 use Rattle.hickory_zone.specs.Zones.{IsAuthoritativeAt, Zone, ancestor}

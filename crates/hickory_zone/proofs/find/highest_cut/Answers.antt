@@ -2,7 +2,7 @@ use Rattle.std.proofs.Common.{◌≡◌, ◌+◌, ◌<◌, false, true, length, 
 use Rattle.std.specs.Option.{option_copied}
 use Rattle.std.proofs.lemmas.Bool.{false≢true}
 use Rattle.hickory_base.specs.zone_store.ZoneSets.{sets_of}
-use Rattle.hickory_wire.specs.rr.domain.NameOrder.{Encloses}
+use Rattle.wire_names.specs.rr.domain.NameOrder.{Encloses}
 use Rattle.hickory_zone.specs.Zones.{Zone, ancestor}
 use Rattle.hickory_zone.proofs.lemmas.zones.Cuts.{CutSoFar, in_the_end, key_is, not_empty, step_cut, step_none}
 use Rattle.hickory_zone.proofs.lemmas.names.Enclosers.{ancestor-ancestor}

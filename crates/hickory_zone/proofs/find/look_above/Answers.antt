@@ -1,6 +1,6 @@
 use Rattle.std.proofs.Common.{subst, sym}
 use Rattle.hickory_base.specs.zone_store.ZoneSets.{sets_of}
-use Rattle.hickory_wire.specs.rr.domain.NameOrder.{Encloses}
+use Rattle.wire_names.specs.rr.domain.NameOrder.{Encloses}
 use Rattle.hickory_zone.proofs.lemmas.zones.Outcomes.{below_cut, below_encloser, if_ok, nothing, within}
 use Rattle.hickory_zone.specs.FoundRecords.{CutAt, IsEncloser}
 use Rattle.hickory_zone.specs.Zones.{Zone}

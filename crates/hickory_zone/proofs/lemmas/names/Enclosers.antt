@@ -4,7 +4,7 @@ use Rattle.std.proofs.Math.Seq.{drop-nil}
 use Rattle.std.proofs.lemmas.Bool.{cases_lt}
 use Rattle.std.proofs.lemmas.List.{drop-drop}
 use Rattle.std.specs.Option.{option_copied}
-use Rattle.hickory_wire.specs.rr.domain.DomainName.{DomainName}
+use Rattle.wire_names.specs.rr.domain.DomainName.{DomainName}
 use Rattle.hickory_zone.specs.declared.find.Neighbours.{Neighbours}
 use Rattle.hickory_zone.specs.FoundRecords.{IsAbove, Tells}
 use Rattle.hickory_zone.specs.Zones.{Exists, Sets, ancestor}

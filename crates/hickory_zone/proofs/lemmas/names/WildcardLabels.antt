@@ -1,15 +1,15 @@
 -- The labels of a wildcard are put one behind the other.
 use Rattle.std.proofs.Common.{◌≡◌, ℕ, zero, suc, ◌+◌, ◌-◌, ◌<◌, ◌≤◌, List, [], ◌∷◌, ◌++◌, length, take, drop, get_or, refl, sym, ap, ◌∙◌, arith, length-append}
 use Rattle.std.proofs.Common.{Bool}
-use Rattle.hickory_wire.specs.rr.domain.NameOrder.{Encloses, lower_labels, lower_name}
+use Rattle.wire_names.specs.rr.domain.NameOrder.{Encloses, lower_labels, lower_name}
 use Rattle.std.specs.Char.{to_ascii_lowercase}
 use Rattle.std.specs.Map.{keys_of}
 use Rattle.std.proofs.lemmas.List.Elements.{All-contains}
 use Rattle.hickory_zone.specs.Zones.{AreOwners, Exists, IsOwner, Sets, wildcard}
 use Rattle.std.proofs.lemmas.List.{length-map, length-take, length-drop, take_more, take_all}
-use Rattle.hickory_wire.specs.rr.domain.DomainName.{IsLabel, IsWire, DomainName, cut, label_offset, name_len, wire_form}
-use Rattle.hickory_wire.proofs.lemmas.rr.domain.LabelOrder.{Advance, Site, advance, site}
-use Rattle.hickory_wire.proofs.lemmas.rr.domain.WireForm.{below_at, cut-wire, name_len-wire_form}
+use Rattle.wire_names.specs.rr.domain.DomainName.{IsLabel, IsWire, DomainName, cut, label_offset, name_len, wire_form}
+use Rattle.wire_names.proofs.lemmas.rr.domain.LabelOrder.{Advance, Site, advance, site}
+use Rattle.wire_names.proofs.lemmas.rr.domain.WireForm.{below_at, cut-wire, name_len-wire_form}
 
 front_size : (ls : List (List ℕ)) (i : ℕ) → length (wire_form (take i ls)) ≡ label_offset ls i
 front_size [] zero = refl

@@ -1,13 +1,13 @@
 -- From what a chain gave to what the zone answers.
 use Rattle.std.proofs.Common.{◌≡◌, ℕ, [], ◌++◌, inl, inr, Result, Ok, refl, sym, ap, subst, ◌∙◌}
-use Rattle.hickory_wire.specs.rr.domain.DomainName.{DomainName}
+use Rattle.wire_names.specs.rr.domain.DomainName.{DomainName}
 use Rattle.hickory_base.specs.declared.errors.LookupError.{LookupError}
 use Rattle.hickory_base.specs.declared.zone_store.lookup.AuthLookup.{AuthLookup}
 use Rattle.hickory_base.specs.zone_store.ZoneAnswers.{MemoryZone, OrMemory, no_data as nothing_there, no_name as nobody_there}
 use Rattle.std.proofs.Common.{◌∷◌, None}
 use Rattle.std.specs.List.{AllByRecursion}
-use Rattle.hickory_wire.specs.declared.rr.rdata.RData.{RData}
-use Rattle.hickory_wire.specs.declared.rr.record.Record.{Record}
+use Rattle.wire_messages.specs.declared.rr.rdata.RData.{RData}
+use Rattle.wire_messages.specs.declared.rr.record.Record.{Record}
 use Rattle.hickory_base.specs.declared.zone_store.lookup.AuthLookup.TheVariants as lookup
 use Rattle.hickory_zone.specs.Additionals.{additionals_from, first_addresses, host_in}
 use Rattle.hickory_zone.specs.Chains.{Chases, Ending, IsIn, found, has_none, is_none}

@@ -3,9 +3,9 @@ use Rattle.std.proofs.Common.{◌≡◌, ℕ, Bool, List, ◌-◌, ◌||◌, suc
 use Rattle.std.specs.List.{list_any}
 use Rattle.std.specs.Option.{IsSomeAnd}
 use Rattle.std.specs.Ordering.{is_eq}
-use Rattle.hickory_wire.specs.rr.domain.DomainName.{DomainName}
-use Rattle.hickory_wire.specs.rr.domain.NameOrder.{Encloses, SameName, lower_labels, lower_name}
-use Rattle.hickory_wire.proofs.lemmas.rr.domain.SameNames.{lower_labels-twice, same_order}
+use Rattle.wire_names.specs.rr.domain.DomainName.{DomainName}
+use Rattle.wire_names.specs.rr.domain.NameOrder.{Encloses, SameName, lower_labels, lower_name}
+use Rattle.wire_names.proofs.lemmas.rr.domain.SameNames.{lower_labels-twice, same_order}
 use Rattle.hickory_base.proofs.lemmas.zone_store.ZoneByName.{itself}
 use Rattle.hickory_base.specs.zone_store.ZoneRecords.{is_at}
 use Rattle.hickory_zone.specs.Chains.{Chases, Ending, IsIn, canonical, comes_back, follows, is_owner_among, leaves, left_open, stops}

@@ -2,8 +2,8 @@
 use Rattle.std.proofs.Common.{◌≡◌, ℕ, ◌++◌, Some, refl, sym, ap, subst, ◌∙◌}
 use Rattle.std.specs.Option.{IsSomeAnd}
 use Rattle.std.proofs.lemmas.Bool.{false≢true}
-use Rattle.hickory_wire.specs.rr.domain.DomainName.{DomainName}
-use Rattle.hickory_wire.specs.rr.domain.NameOrder.{lower_name}
+use Rattle.wire_names.specs.rr.domain.DomainName.{DomainName}
+use Rattle.wire_names.specs.rr.domain.NameOrder.{lower_name}
 use Rattle.hickory_zone.proofs.lemmas.zones.Unique.{once}
 use Rattle.hickory_zone.specs.Chains.{Chases, Ending, IsIn, canonical, comes_back, follows, found, has_none, is_none, is_owner_among, leaves, referred, refers, stops}
 use Rattle.hickory_zone.specs.Zones.{Records, Zone, alias, answer, no_data, no_name, referral}

@@ -12,10 +12,10 @@ use Rattle.std.specs.Ordering.{is_gt, is_lt, ordering_reverse}
 use Rattle.std.specs.Cmp.{upto}
 use Rattle.std.proofs.lemmas.List.{map-append, take-append-drop}
 use Rattle.std.proofs.lemmas.List.Elements.{All-contains, All-filter, Contains-push}
-use Rattle.hickory_wire.specs.rr.domain.DomainName.{DomainName}
-use Rattle.hickory_wire.specs.rr.domain.NameOrder.{Encloses, lower_label, lower_labels, name_cmp, name_cmp_total}
-use Rattle.hickory_wire.specs.rr.RrKeys.{key_cmp}
-use Rattle.hickory_wire.specs.declared.rr.rr_key.RrKey.{RrKey}
+use Rattle.wire_names.specs.rr.domain.DomainName.{DomainName}
+use Rattle.wire_names.specs.rr.domain.NameOrder.{Encloses, lower_label, lower_labels, name_cmp, name_cmp_total}
+use Rattle.wire_messages.specs.rr.RrKeys.{key_cmp}
+use Rattle.wire_messages.specs.declared.rr.rr_key.RrKey.{RrKey}
 use Rattle.hickory_base.proofs.lemmas.zone_store.ZoneByName.{key_total, keys-shared}
 use Rattle.hickory_base.specs.zone_store.ZoneSets.{sets_of}
 use Rattle.hickory_zone.proofs.lemmas.names.Between.{between, encloses_up_to}

@@ -3,11 +3,11 @@ use Rattle.std.proofs.Common.{true, Bool, Bor, List, None, Option, Some, [], ap,
 use Rattle.std.specs.Prelude.{◌↔◌, IsTrue, is_some}
 use Rattle.std.proofs.lemmas.Bool.{cases_lt, false≢true}
 use Rattle.std.proofs.lemmas.List.{append-nil, length-map}
-use Rattle.hickory_wire.specs.declared.rr.rr_key.RrKey.{RrKey}
+use Rattle.wire_messages.specs.declared.rr.rr_key.RrKey.{RrKey}
 use Rattle.hickory_zone.proofs.lemmas.zones.Beside.{encloses_drop}
 use Rattle.hickory_zone.proofs.lemmas.names.Enclosers.{ancestor-ancestor}
-use Rattle.hickory_wire.specs.rr.domain.DomainName.{DomainName}
-use Rattle.hickory_wire.specs.rr.domain.NameOrder.{Encloses, lower_label, lower_labels}
+use Rattle.wire_names.specs.rr.domain.DomainName.{DomainName}
+use Rattle.wire_names.specs.rr.domain.NameOrder.{Encloses, lower_label, lower_labels}
 use Rattle.hickory_zone.specs.declared.find.Delegation.{Delegation}
 use Rattle.hickory_zone.specs.FoundRecords.{CutAt, EndsAt}
 use Rattle.hickory_zone.specs.Zones.{IsAuthoritativeAt, IsCut, Records, Zone, ancestor, rrset}

@@ -3,10 +3,10 @@ use Rattle.std.proofs.Common.{◌≡◌, ◌∷◌, [], true, false, cond, Optio
 use Rattle.std.specs.List.{flat_map}
 use Rattle.std.specs.Ordering.{is_eq}
 use Rattle.std.proofs.lemmas.List.Elements.{filter_agree}
-use Rattle.hickory_wire.specs.rr.domain.NameHash.{equal_is}
-use Rattle.hickory_wire.specs.rr.domain.NameOrder.{SameName, name_cmp}
-use Rattle.hickory_wire.proofs.lemmas.rr.domain.SameNames.{same_order}
-use Rattle.hickory_wire.specs.declared.rr.rr_key.RrKey.{RrKey}
+use Rattle.wire_names.specs.rr.domain.NameHash.{equal_is}
+use Rattle.wire_names.specs.rr.domain.NameOrder.{SameName, name_cmp}
+use Rattle.wire_names.proofs.lemmas.rr.domain.SameNames.{same_order}
+use Rattle.wire_messages.specs.declared.rr.rr_key.RrKey.{RrKey}
 use Rattle.hickory_base.proofs.lemmas.zone_store.KeyOrder.{from_first_on, of_name, while_of}
 use Rattle.hickory_base.proofs.lemmas.zone_store.SharedSets.{records-shared}
 use Rattle.hickory_base.proofs.lemmas.zone_store.ZoneByName.{itself}

@@ -8,9 +8,9 @@ use Rattle.std.specs.Ordering.{is_eq, nat_cmp}
 use Rattle.std.specs.declared.alloc.Global.{Global}
 use Rattle.std.specs.declared.ops.Bound.TheVariants.{Included, Unbounded}
 use Rattle.std.specs.declared.rc.Rc.{Rc}
-use Rattle.hickory_wire.specs.rr.domain.NameOrder.{name_cmp}
-use Rattle.hickory_wire.specs.rr.RrKeys.{key_cmp}
-use Rattle.hickory_wire.specs.declared.rr.rr_key.RrKey.{RrKey}
+use Rattle.wire_names.specs.rr.domain.NameOrder.{name_cmp}
+use Rattle.wire_messages.specs.rr.RrKeys.{key_cmp}
+use Rattle.wire_messages.specs.declared.rr.rr_key.RrKey.{RrKey}
 use Rattle.hickory_base.proofs.lemmas.zone_store.KeyOrder.{from_first_on, of_name, while_of}
 use Rattle.hickory_base.proofs.lemmas.zone_store.ZoneByName.{eq_numbers, eq_then}
 use Rattle.hickory_base.specs.declared.zone_store.record_set.RecordSet.{RecordSet}

@@ -1,7 +1,7 @@
 -- A zone gives a name and a type at most one answer.
 use Rattle.std.proofs.Common.{◌≡◌, ℕ, suc, Some, inl, inr, refl, sym, ap, ◌∙◌, arith}
 use Rattle.std.proofs.lemmas.Bool.{cases_lt}
-use Rattle.hickory_wire.specs.rr.domain.DomainName.{DomainName}
+use Rattle.wire_names.specs.rr.domain.DomainName.{DomainName}
 use Rattle.hickory_zone.proofs.lemmas.zones.Outcomes.{closest_once}
 use Rattle.hickory_zone.specs.Zones.{Answers, Delegates, Outcome, Records, Zone, ancestor, at_cut, at_node, delegated, denied, matched, referral, rrset, synthesized, wild, wildcard}
 

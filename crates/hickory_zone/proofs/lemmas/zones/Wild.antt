@@ -1,7 +1,7 @@
 -- Whether a wildcard stands for a name.
 use Rattle.std.proofs.Common.{◌≡◌, ℕ, true, inl, inr, Option, refl, sym, ap, subst, ◌∙◌}
-use Rattle.hickory_wire.specs.rr.domain.DomainName.{DomainName}
-use Rattle.hickory_wire.specs.declared.rr.rr_key.RrKey.{RrKey}
+use Rattle.wire_names.specs.rr.domain.DomainName.{DomainName}
+use Rattle.wire_messages.specs.declared.rr.rr_key.RrKey.{RrKey}
 use Rattle.hickory_base.specs.zone_store.ZoneSets.{sets_of}
 use Rattle.hickory_zone.proofs.lemmas.zones.Owners.{exists_behind}
 use Rattle.hickory_zone.specs.declared.find.Found.{Found}

@@ -1,5 +1,5 @@
 use Rattle.std.proofs.Common.{◌+◌, ◌<◌, length, ap, subst, ◌∙◌}
-use Rattle.hickory_wire.specs.rr.domain.DomainName.{wire_form}
+use Rattle.wire_names.specs.rr.domain.DomainName.{wire_form}
 use Rattle.hickory_zone.proofs.lemmas.names.WildcardLabels.{too_long, wildcard_is}
 use Rattle.hickory_zone.proofs.wildcards.wildcard_below.Goals as goal
 

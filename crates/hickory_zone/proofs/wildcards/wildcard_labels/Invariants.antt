@@ -1,6 +1,6 @@
 -- The labels in front of the place stand behind `*`.
 use Rattle.std.proofs.Common.{◌≡◌, ℕ, ◌-◌, ◌<◌, ◌≤◌, [], ◌∷◌, length, take}
-use Rattle.hickory_wire.specs.rr.domain.DomainName.{cut, label_offset}
+use Rattle.wire_names.specs.rr.domain.DomainName.{cut, label_offset}
 use Rattle.hickory_zone.proofs.wildcards.wildcard_labels.Given as goal
 
 abbrev pub invariant-loop-place : goal.invariant-loop-place

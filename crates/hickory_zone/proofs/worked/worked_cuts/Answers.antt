@@ -1,6 +1,6 @@
 use Rattle.std.proofs.Common.{refl, arith}
 use Rattle.std.proofs.Common.{[], ◌∷◌}
-use Rattle.hickory_wire.specs.declared.rr.rdata.RData.TheVariants as rdata
+use Rattle.wire_messages.specs.declared.rr.rdata.RData.TheVariants as rdata
 use Rattle.hickory_zone.proofs.lemmas.zones.Written.{as_at_cut, as_matched, as_referred}
 use Rattle.hickory_zone.specs.WorkedZones.{child, cuts, deep, example, grandchild, ns_child, owned}
 use Rattle.hickory_zone.specs.Zones.{type_a, type_any, type_ds, type_ns}

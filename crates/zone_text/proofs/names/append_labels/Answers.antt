@@ -1,8 +1,8 @@
 use Rattle.std.proofs.Common.{◌≡◌, ◌<◌, ◌≤◌, ◌∙◌, ◌+◌, ◌-◌, ◌∷◌, ◌++◌, ℕ, List, ap, arith, rules, get_or, length, length-append, [], take, drop, refl, subst, sym}
 use Rattle.std.proofs.lemmas.List.{append_assoc, append-nil, take_all, take_more}
 use Rattle.std.proofs.lemmas.List.Elements.{All-get_or}
-use Rattle.hickory_wire.specs.rr.domain.DomainName.{wire_form, label_offset, IsLabel}
-use Rattle.hickory_wire.proofs.lemmas.rr.domain.WireForm.{Step, step, below_at, wire-push}
+use Rattle.wire_names.specs.rr.domain.DomainName.{wire_form, label_offset, IsLabel}
+use Rattle.wire_names.proofs.lemmas.rr.domain.WireForm.{Step, step, below_at, wire-push}
 use Rattle.zone_text.proofs.names.append_labels.Goals as goal
 
 -- the label at the place, and where it ends

@@ -1,5 +1,5 @@
 use Rattle.std.proofs.Common.{◌≡◌, ◌≤◌, ◌+◌, ◌-◌, ◌++◌, length, take}
-use Rattle.hickory_wire.specs.rr.domain.DomainName.{label_offset, wire_form}
+use Rattle.wire_names.specs.rr.domain.DomainName.{label_offset, wire_form}
 use Rattle.zone_text.proofs.names.append_labels.Given as goal
 
 abbrev pub invariant-labels : goal.invariant-labels

@@ -1,9 +1,9 @@
 use Rattle.std.proofs.Common.{◌≡◌, arith, ap, sym, subst, ◌∙◌, IfOk, Result, Ok, Err, List, ℕ}
-use Rattle.hickory_wire.specs.serialize.reading.Cursor.{Cursor}
-use Rattle.hickory_wire.specs.serialize.reading.MessageReading.{message, front_of, Reads}
-use Rattle.hickory_wire.specs.serialize.reading.Reading.{GivesSeenBy}
-use Rattle.hickory_wire.specs.declared.error.DecodeError.{DecodeError}
-use Rattle.hickory_wire.specs.serialize.layout.Bytes.{AreBytes}
+use Rattle.wire_messages.specs.serialize.reading.Cursor.{Cursor}
+use Rattle.wire_reading.specs.serialize.reading.MessageReading.{message, front_of, Reads}
+use Rattle.wire_messages.specs.serialize.reading.Reading.{GivesSeenBy}
+use Rattle.wire_names.specs.declared.error.DecodeError.{DecodeError}
+use Rattle.wire_names.specs.serialize.layout.Bytes.{AreBytes}
 use Rattle.hickory_base.specs.requests.RequestReading.{FollowsHeader, IsQuestionSection, message_of}
 use Rattle.hickory_base.specs.declared.requests.message_request.MessageRequest.{MessageRequest}
 use Rattle.hickory_base.proofs.lemmas.requests.RequestParts.{section_stands}

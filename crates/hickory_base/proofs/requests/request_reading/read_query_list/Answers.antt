@@ -1,8 +1,8 @@
 use Rattle.std.proofs.Common.{◌∙◌, ◌∷◌, [], arith}
 use Rattle.std.proofs.lemmas.List.{length-append}
 use Rattle.std.proofs.lemmas.Result.{err_from_is_err_and}
-use Rattle.hickory_wire.specs.serialize.reading.RecordReading.{question}
-use Rattle.hickory_wire.proofs.lemmas.serialize.reading.ItemsRead.{items_go_on, items_fail, items_done}
+use Rattle.wire_messages.specs.serialize.reading.RecordReading.{question}
+use Rattle.wire_reading.proofs.lemmas.serialize.reading.ItemsRead.{items_go_on, items_fail, items_done}
 use Rattle.hickory_base.proofs.requests.request_reading.read_query_list.Goals as goal
 
 pub returns-in_err-read_lower_query-clause-exact : goal.returns-in_err-read_lower_query-clause-exact

@@ -1,6 +1,6 @@
 use Rattle.std.proofs.Common.{◌≡◌, ◌-◌, ◌≤◌, [], length}
-use Rattle.hickory_wire.specs.serialize.reading.SectionReading.{items}
-use Rattle.hickory_wire.specs.serialize.reading.RecordReading.{question}
+use Rattle.wire_messages.specs.serialize.reading.SectionReading.{items}
+use Rattle.wire_messages.specs.serialize.reading.RecordReading.{question}
 use Rattle.hickory_base.proofs.requests.request_reading.read_query_list.Given as goal
 
 abbrev pub invariant-queries : goal.invariant-queries

@@ -1,9 +1,9 @@
 use Rattle.std.proofs.Common.{◌≡◌, List, ℕ, rules}
 use Rattle.std.proofs.lemmas.Iterator.{YieldsList-from_slice, YieldsList-from_map_by}
 use Rattle.std.proofs.lemmas.Iterator.Consumers.{YieldsList-at}
-use Rattle.hickory_wire.specs.serialize.writing.Reply.{Reply}
+use Rattle.wire_messages.specs.serialize.writing.Reply.{Reply}
 use Rattle.hickory_wire.specs.serialize.writing.ReplyParts.{RecordLists, ReplyEncoded, reply_of}
-use Rattle.hickory_wire.specs.declared.op.header.Header.{Header}
+use Rattle.wire_messages.specs.declared.op.header.Header.{Header}
 use Rattle.hickory_base.proofs.lemmas.responses.RecordSlices.{given_by}
 use Rattle.hickory_base.proofs.lemmas.ResultMaps.{if_ok_map}
 use Rattle.hickory_base.proofs.responses.response_encoding.encode_lent.Goals as goal

@@ -1,8 +1,8 @@
 use Rattle.std.proofs.Common.{◌≡◌, List, ℕ, refl, sym}
 use Rattle.std.specs.Option.{option_copied}
-use Rattle.hickory_wire.specs.serialize.writing.Reply.{Reply}
+use Rattle.wire_messages.specs.serialize.writing.Reply.{Reply}
 use Rattle.hickory_wire.specs.serialize.writing.ReplyParts.{ReplyEncoded}
-use Rattle.hickory_wire.specs.declared.op.header.Header.{Header}
+use Rattle.wire_messages.specs.declared.op.header.Header.{Header}
 use Rattle.hickory_base.proofs.responses.response_encoding.encode_response.Goals as goal
 
 -- the reply that was encoded, at the limit and with the header that the contract names

@@ -3,8 +3,8 @@ use Rattle.std.specs.Option.{option_copied}
 use Rattle.std.specs.Result.{MatchResult, result_ok}
 use Rattle.std.specs.declared.alloc.Global.{Global}
 use Rattle.std.specs.declared.rc.Rc.{Rc}
-use Rattle.hickory_wire.specs.declared.rr.rdata.RData.{RData}
-use Rattle.hickory_wire.specs.declared.rr.record.Record.{Record}
+use Rattle.wire_messages.specs.declared.rr.rdata.RData.{RData}
+use Rattle.wire_messages.specs.declared.rr.record.Record.{Record}
 use Rattle.hickory_base.proofs.lemmas.zone_store.SharedSets.{lookup-is}
 use Rattle.hickory_base.specs.zone_store.ZoneSets.{is_key}
 use Rattle.hickory_base.specs.declared.zone_store.record_set.RecordSet.{RecordSet}

@@ -1,8 +1,8 @@
 use Rattle.std.proofs.Common.{◌≡◌, List, Result, Ok, IfOk, rules, refl}
 use Rattle.std.specs.Net.Socket.{socket_ip}
-use Rattle.hickory_wire.specs.rr.domain.DomainName.{DomainName}
-use Rattle.hickory_wire.specs.serialize.reading.MessageReading.{Reads}
-use Rattle.hickory_wire.specs.declared.error.ProtoError.{ProtoError}
+use Rattle.wire_names.specs.rr.domain.DomainName.{DomainName}
+use Rattle.wire_reading.specs.serialize.reading.MessageReading.{Reads}
+use Rattle.wire_names.specs.declared.error.ProtoError.{ProtoError}
 use Rattle.access_control.specs.Access.{AccessSets, IsAllowed}
 use Rattle.hickory_base.specs.requests.RequestReading.{IsQuestionSection, message_of}
 use Rattle.hickory_base.specs.requests.Requests.{ReceivedRequest}

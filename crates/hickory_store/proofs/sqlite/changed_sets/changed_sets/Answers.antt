@@ -2,7 +2,7 @@
 use Rattle.std.proofs.Common.{sym, subst}
 use Rattle.std.specs.List.Sorted.{IsStrictlySortedBy}
 use Rattle.std.specs.Map.{keys_of}
-use Rattle.hickory_wire.specs.rr.RrKeys.{key_cmp}
+use Rattle.wire_messages.specs.rr.RrKeys.{key_cmp}
 use Rattle.hickory_base.proofs.lemmas.zone_store.ZoneByName.{keys-shared}
 use Rattle.hickory_store.specs.SetChanges.{put_sets}
 use Rattle.hickory_store.proofs.ChangedSets.{makes_now}

@@ -1,11 +1,11 @@
 -- What is committed holds the records, so it is a zone, and the records' own.
 use Rattle.std.proofs.Common.{◌∙◌, ap, sym, subst, List}
 use Rattle.std.specs.List.Sorted.{IsStrictlySortedBy}
-use Rattle.hickory_wire.specs.declared.rr.rdata.RData.{RData}
-use Rattle.hickory_wire.specs.declared.rr.record.Record.{Record}
+use Rattle.wire_messages.specs.declared.rr.rdata.RData.{RData}
+use Rattle.wire_messages.specs.declared.rr.record.Record.{Record}
 use Rattle.hickory_base.specs.zone_store.ZoneAnswers.{MemoryZone}
 use Rattle.hickory_base.specs.zone_store.ZoneSets.{sets_of, zone_records}
-use Rattle.hickory_wire.specs.rr.RrKeys.{key_cmp}
+use Rattle.wire_messages.specs.rr.RrKeys.{key_cmp}
 use Rattle.hickory_base.proofs.lemmas.zone_store.ZoneByName.{keys-shared}
 use Rattle.hickory_store.specs.Identity.{ttl_at}
 use Rattle.hickory_store.specs.SetChanges.{Makes, at, put_all, put_sets, take_all}

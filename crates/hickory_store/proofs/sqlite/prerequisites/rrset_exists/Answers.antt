@@ -1,7 +1,7 @@
 use Rattle.std.proofs.Common.{◌≡◌, ap, ◌∙◌, refl, Some, None, Option, Bor}
 use Rattle.std.specs.Prelude.{is_some}
 use Rattle.std.specs.Option.{option_copied}
-use Rattle.hickory_wire.specs.rr.RecordData.{type_of}
+use Rattle.wire_messages.specs.rr.RecordData.{type_of}
 use Rattle.hickory_base.specs.zone_store.ZoneRecords.{is_of}
 use Rattle.hickory_base.specs.zone_store.ZoneSets.{zone_records}
 use Rattle.hickory_store.proofs.NamedSets.{exists_any}

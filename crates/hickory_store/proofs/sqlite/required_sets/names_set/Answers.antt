@@ -1,6 +1,6 @@
 use Rattle.std.proofs.Common.{sym, ◌∙◌}
 use Rattle.std.specs.Prelude.{◌==◌}
-use Rattle.hickory_wire.specs.rr.RecordData.{type_of}
+use Rattle.wire_messages.specs.rr.RecordData.{type_of}
 use Rattle.hickory_base.specs.zone_store.ZoneRecords.{is_of}
 use Rattle.hickory_store.proofs.NamedSets.{any_filter}
 use Rattle.hickory_store.proofs.sqlite.required_sets.names_set.Goals as goal

@@ -1,7 +1,7 @@
 use Rattle.std.proofs.Common.{◌∙◌, ap}
 use Rattle.std.specs.Map.{remove_entry}
 use Rattle.hickory_store.specs.SetChanges.{equals}
-use Rattle.hickory_wire.specs.rr.RrKeys.{key_cmp}
+use Rattle.wire_messages.specs.rr.RrKeys.{key_cmp}
 use Rattle.hickory_store.proofs.SetChanges.{is_itself, keeps_step, remove_absent, remove_inserted}
 use Rattle.hickory_store.proofs.sqlite.set_changes.put_absent.Goals as goal
 

@@ -1,6 +1,6 @@
 use Rattle.std.proofs.Common.{◌≡◌, length, true, false}
 use Rattle.hickory_store.specs.SetChanges.{AllPresent, KeepsKeys, SharedSets, at, is_put, undone}
-use Rattle.hickory_wire.specs.declared.rr.rr_key.RrKey.{RrKey}
+use Rattle.wire_messages.specs.declared.rr.rr_key.RrKey.{RrKey}
 use Rattle.hickory_store.proofs.sqlite.set_changes.put_all_new.Given as goal
 
 abbrev pub invariant-loop-left : goal.invariant-loop-left

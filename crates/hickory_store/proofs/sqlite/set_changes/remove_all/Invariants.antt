@@ -1,6 +1,6 @@
 use Rattle.std.proofs.Common.{◌≡◌, length}
 use Rattle.hickory_store.specs.SetChanges.{at, take_all}
-use Rattle.hickory_wire.specs.declared.rr.rr_key.RrKey.{RrKey}
+use Rattle.wire_messages.specs.declared.rr.rr_key.RrKey.{RrKey}
 use Rattle.hickory_store.proofs.sqlite.set_changes.remove_all.Given as goal
 
 abbrev pub invariant-loop-left : goal.invariant-loop-left

@@ -1,7 +1,7 @@
 use Rattle.std.proofs.Common.{◌≡◌}
 use Rattle.std.specs.Vec.Iter.{into_iter_items}
 use Rattle.hickory_store.specs.SetChanges.{AllPresent, at, put_all}
-use Rattle.hickory_wire.specs.declared.rr.rr_key.RrKey.{RrKey}
+use Rattle.wire_messages.specs.declared.rr.rr_key.RrKey.{RrKey}
 use Rattle.hickory_store.proofs.sqlite.set_changes.replace_all.Given as goal
 
 abbrev pub invariant-loop-put : goal.invariant-loop-put

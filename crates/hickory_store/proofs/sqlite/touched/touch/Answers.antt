@@ -1,6 +1,6 @@
 -- The name of the record takes its turn, and every other name stays.
 use Rattle.std.proofs.Common.{◌∙◌, ap, subst, Some, None}
-use Rattle.hickory_wire.specs.rr.domain.DomainName.{DomainName}
+use Rattle.wire_names.specs.rr.domain.DomainName.{DomainName}
 use Rattle.hickory_base.specs.zone_store.ZoneSets.{zone_records}
 use Rattle.hickory_store.specs.Changes.{changes, turn}
 use Rattle.hickory_store.specs.NameUpdates.{PutsName, records_now}

@@ -1,8 +1,8 @@
 -- One record more of the update section.
 use Rattle.std.proofs.Common.{◌≡◌, ◌∙◌, ◌∷◌, ◌||◌, Bool, true, false, List, ◌+◌, arith, ap, sym, subst, drop, refl}
 use Rattle.std.proofs.lemmas.List.{drop_all, drop_more}
-use Rattle.hickory_wire.specs.declared.rr.rdata.RData.{RData}
-use Rattle.hickory_wire.specs.declared.rr.record.Record.{Record}
+use Rattle.wire_messages.specs.declared.rr.rdata.RData.{RData}
+use Rattle.wire_messages.specs.declared.rr.record.Record.{Record}
 use Rattle.hickory_base.specs.zone_store.ZoneSets.{zone_records}
 use Rattle.hickory_store.specs.Changes.{any_change, fold, turn}
 use Rattle.hickory_store.specs.NameUpdates.{AreNow}

@@ -1,7 +1,7 @@
 -- What is left of the updates does to the records of now what all of them do to the records before.
 use Rattle.std.proofs.Common.{◌≡◌, ◌||◌, List, drop}
-use Rattle.hickory_wire.specs.declared.rr.rdata.RData.{RData}
-use Rattle.hickory_wire.specs.declared.rr.record.Record.{Record}
+use Rattle.wire_messages.specs.declared.rr.rdata.RData.{RData}
+use Rattle.wire_messages.specs.declared.rr.record.Record.{Record}
 use Rattle.hickory_base.specs.zone_store.ZoneSets.{zone_records}
 use Rattle.hickory_store.specs.Changes.{any_change, fold}
 use Rattle.hickory_store.specs.NameUpdates.{AreNow}

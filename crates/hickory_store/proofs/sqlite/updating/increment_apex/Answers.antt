@@ -3,7 +3,7 @@ use Rattle.std.proofs.Common.{◌≡◌, ◌∙◌, ap, sym, subst, arith, ◌++
 use Rattle.std.proofs.Math.Seq.{take-append_seam}
 use Rattle.std.proofs.lemmas.List.{length-map}
 use Rattle.std.specs.List.{list_any}
-use Rattle.hickory_wire.specs.rr.domain.DomainName.{DomainName}
+use Rattle.wire_names.specs.rr.domain.DomainName.{DomainName}
 use Rattle.hickory_base.specs.zone_store.ZoneSets.{zone_records}
 use Rattle.hickory_store.specs.NameUpdates.{PutsName, records_now}
 use Rattle.hickory_store.specs.UpdateAnswers.{incremented, is_apex_soa}

@@ -1,8 +1,8 @@
 -- The sets hold the records of a front.
 use Rattle.std.proofs.Common.{◌≡◌, ◌++◌, List}
 use Rattle.std.specs.Vec.Iter.{into_iter_items}
-use Rattle.hickory_wire.specs.declared.rr.rdata.RData.{RData}
-use Rattle.hickory_wire.specs.declared.rr.record.Record.{Record}
+use Rattle.wire_messages.specs.declared.rr.rdata.RData.{RData}
+use Rattle.wire_messages.specs.declared.rr.record.Record.{Record}
 use Rattle.hickory_base.specs.zone_store.ZoneSets.{sets_of}
 use Rattle.hickory_store.specs.ZoneSets.{HoldsSets}
 use Rattle.hickory_store.proofs.sqlite.zone_sets.sets_of_records.Given as goal

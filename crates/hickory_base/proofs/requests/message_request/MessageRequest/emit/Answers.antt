@@ -1,7 +1,7 @@
 use Rattle.std.proofs.Common.{◌∙◌, ap, subst, refl}
 use Rattle.std.proofs.lemmas.Result.{IfOk-weaker, IfErr-weaker}
 use Rattle.hickory_wire.specs.serialize.writing.Encoder.{max_size, written_bytes}
-use Rattle.hickory_wire.specs.serialize.writing.Reply.{Reply}
+use Rattle.wire_messages.specs.serialize.writing.Reply.{Reply}
 use Rattle.hickory_wire.specs.serialize.writing.ReplyParts.{CannotBeWritten, ReplyWritten}
 use Rattle.hickory_base.specs.requests.RequestForm.{questions_form}
 use Rattle.hickory_base.proofs.lemmas.requests.RequestForms.{form_is}

@@ -1,7 +1,7 @@
 use Rattle.std.proofs.Common.{sym, ap, ◌∙◌}
 use Rattle.std.specs.List.{list_any}
 use Rattle.hickory_base.specs.zone_store.ZoneSets.{has_name, sets_of}
-use Rattle.hickory_wire.specs.declared.rr.rr_key.RrKey.{RrKey}
+use Rattle.wire_messages.specs.declared.rr.rr_key.RrKey.{RrKey}
 use Rattle.hickory_base.proofs.lemmas.zone_store.ZoneByName.{name_found}
 use Rattle.hickory_base.proofs.zone_store.in_memory.InMemoryZoneHandler.is_in_use.Goals as goal
 

@@ -3,7 +3,7 @@ use Rattle.std.proofs.lemmas.List.{map-append}
 use Rattle.std.proofs.lemmas.Iterator.Consumers.{YieldsList-so_far, YieldsList-turn, YieldsList-end}
 use Rattle.std.proofs.lemmas.Iterator.Splits.{YieldsList-from_lines}
 use Rattle.std.specs.Str.Lines.{lines}
-use Rattle.hickory_wire.specs.rr.domain.DomainName.{DomainName}
+use Rattle.wire_names.specs.rr.domain.DomainName.{DomainName}
 use Rattle.hickory_store.specs.Entries.{AddsLines, AddsFirstLines}
 use Rattle.hickory_store.proofs.Listing.{adds_more, on_any_err}
 use Rattle.hickory_store.proofs.blocklist.entries.Entries.add_lines.Goals as goal

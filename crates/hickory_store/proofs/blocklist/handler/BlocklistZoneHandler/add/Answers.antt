@@ -1,7 +1,7 @@
 use Rattle.std.proofs.Common.{◌≡◌, List, ℕ, Err, ap, ◌∙◌, subst}
 use Rattle.std.specs.Str.{IsUtf8}
 use Rattle.std.specs.Str.Lines.{lines}
-use Rattle.hickory_wire.specs.rr.domain.DomainName.{DomainName}
+use Rattle.wire_names.specs.rr.domain.DomainName.{DomainName}
 use Rattle.hickory_store.specs.BlockAnswers.{Blocklist}
 use Rattle.hickory_store.specs.Entries.{AddsLines, AddsFirstLines}
 use Rattle.hickory_store.proofs.Adding.{nothing_added, front_added}

@@ -1,7 +1,7 @@
 -- What is committed is a zone: no record is there twice, and what is of type SOA has the data of one.
 use Rattle.std.proofs.Common.{◌≡◌, sym, subst, refl, Bool, false, Option, Some, Ok}
 use Rattle.std.specs.Option.{MatchOption}
-use Rattle.hickory_wire.specs.rr.domain.DomainName.{DomainName}
+use Rattle.wire_names.specs.rr.domain.DomainName.{DomainName}
 use Rattle.hickory_base.specs.zone_store.ZoneSets.{zone_records}
 use Rattle.hickory_store.specs.NameUpdates.{AreNow, ByName}
 use Rattle.hickory_store.specs.UpdateAnswers.{IsOutcome, Outcome, applied}
