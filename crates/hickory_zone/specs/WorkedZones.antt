@@ -5,9 +5,10 @@ use Rattle.hickory_wire.specs.worked.Worked.{named, record_of}
 use Rattle.wire_messages.specs.declared.rr.rdata.RData.{RData}
 use Rattle.wire_messages.specs.declared.rr.rdata.RData.TheVariants as rdata
 use Rattle.wire_messages.specs.declared.rr.record.Record.{Record}
+use Rattle.hickory_zone.specs.Additionals.{type_srv}
 use Rattle.hickory_zone.specs.Zones.{Zone, type_a, type_cname, type_ns}
 
--- more types by their names (RFC 1035 section 3.2.2, RFC 2782)
+-- more types by their names (RFC 1035 section 3.2.2)
 abbrev pub type_soa : ℕ
 type_soa = 6
 
@@ -16,9 +17,6 @@ type_mx = 15
 
 abbrev pub type_txt : ℕ
 type_txt = 16
-
-abbrev pub type_srv : ℕ
-type_srv = 33
 
 -- a record of class IN
 abbrev pub owned : DomainName → RData → Record RData

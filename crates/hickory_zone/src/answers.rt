@@ -1,6 +1,6 @@
 //! The zone as a handler of the catalog.
 
-ghost use Rattle.std.specs.Prelude.{◌≡◌, ◌↔◌, IfOk, IfSome, Err, None, IsTrue};
+ghost use Rattle.std.specs.Prelude.{◌≡◌, ◌↔◌, IfOk, IfSome, Err, IsTrue, true};
 ghost use Rattle.std.specs.List.{All};
 ghost use Rattle.std.specs.BTreeMap.{keys};
 ghost use Rattle.hickory_base.specs.zone_store.ZoneAnswers.{OrMemory, no_data};
@@ -8,12 +8,12 @@ ghost use Rattle.hickory_base.specs.zone_store.ZoneSets.{sets_of};
 ghost use Rattle.hickory_zone.specs.Zones.{AreOwners, IsOwner, Sets};
 ghost use Rattle.std.specs.List.{AllByRecursion};
 ghost use Rattle.hickory_base.specs.zone_store.Lookups.{stored_result};
-ghost use Rattle.hickory_zone.specs.Additionals.{additionals, host_in};
+ghost use Rattle.hickory_zone.specs.Additionals.{additionals, is_hostless};
 ghost use Rattle.hickory_zone.specs.Chains.{IsIn};
 ghost use Rattle.hickory_zone.specs.ChainEnds.{ending_of};
 ghost use Rattle.hickory_zone.specs.Replies.{IsStandard, StandardAnswer, reply_of, zone_of};
 
-use crate::additionals::{append_additionals, host};
+use crate::additionals::{append_additionals, is_hostless};
 use crate::chains::{ChainEnd, append_copies, follow};
 use crate::find::{Found, look_up};
 use hickory_base::errors::{DnsError, LookupError};
@@ -161,16 +161,9 @@ pub fn answer(
     answer_within(alloc, zone, name, record_type)
 }
 
-/// Whether a record names no host.
-fn is_hostless(q: &Record) -> bool
-    ensures { IsTrue result ↔ (host_in q.now.rdata ≡ None) }
-{
-    host(q).is_none()
-}
-
 /// Whether none of the records names a host.
 fn are_hostless(records: &[Record]) -> bool
-    ensures { IsTrue result ↔ AllByRecursion (λ q. host_in q.rdata ≡ None) records.now }
+    ensures { IsTrue result ↔ AllByRecursion (λ q. is_hostless q.rdata ≡ true) records.now }
 {
     records.iter().all(|q| is_hostless(q))
 }

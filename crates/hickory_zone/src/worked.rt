@@ -2,10 +2,11 @@
 //!
 //! The functions do nothing. Their contracts are the examples.
 
-ghost use Rattle.std.specs.Prelude.{◌∷◌, []};
+ghost use Rattle.std.specs.Prelude.{◌≡◌, ◌∷◌, [], None, Some};
 ghost use Rattle.wire_messages.specs.declared.rr.rdata.RData.TheVariants as rdata;
 ghost use Rattle.hickory_zone.specs.Chains.{Chases, answered, left_open, missing, referred, without};
-ghost use Rattle.hickory_zone.specs.WorkedZones.{address, any_name, away, child, cuts, deep, example, first_alias, foo_bar, ghost_any, grandchild, host1, host3, host_subdel, into_child, itself_alias, mail, nobody, ns_child, owned, ping, pong, second_alias, server, sub_any, subdel, tcp_host1, telnet_host1, text, to_child, to_nobody, to_text, type_mx, type_srv, type_txt, wildcards};
+ghost use Rattle.hickory_zone.specs.Additionals.{host_in, type_srv};
+ghost use Rattle.hickory_zone.specs.WorkedZones.{address, any_name, away, child, cuts, deep, example, first_alias, foo_bar, ghost_any, grandchild, host1, host3, host_subdel, into_child, itself_alias, mail, nobody, ns_child, owned, ping, pong, second_alias, server, service, sub_any, subdel, tcp_host1, telnet_host1, text, to_child, to_nobody, to_text, type_mx, type_txt, wildcards};
 ghost use Rattle.hickory_zone.specs.Zones.{Answers, answer, no_data, no_name, referral, type_a, type_any, type_cname, type_ds, type_ns};
 
 /// What is synthesized in the zone of RFC 4592 section 2.2.1, as it says there.
@@ -40,6 +41,13 @@ pub fn worked_cuts()
     ensures below_both { Answers cuts deep type_a (referral (owned child (rdata.NS ns_child) ∷ [])) }
     ensures servers_at_apex { Answers cuts example type_ns (answer (owned example (rdata.NS server) ∷ [])) }
     ensures ds_above_cut { Answers cuts example type_ds no_data }
+{}
+
+/// Which hosts data name, read from the octets of an SRV record.
+pub fn worked_hosts()
+    ensures mail { host_in mail ≡ Some host1 }
+    ensures service { host_in service ≡ Some host1 }
+    ensures service_cut { host_in (rdata.Unknown type_srv (0 ∷ 0 ∷ [])) ≡ None }
 {}
 
 /// How chains of aliases end.

@@ -9,7 +9,9 @@ use Rattle.std.specs.List.{AllByRecursion}
 use Rattle.wire_messages.specs.declared.rr.rdata.RData.{RData}
 use Rattle.wire_messages.specs.declared.rr.record.Record.{Record}
 use Rattle.hickory_base.specs.declared.zone_store.lookup.AuthLookup.TheVariants as lookup
-use Rattle.hickory_zone.specs.Additionals.{additionals_from, first_addresses, host_in}
+use Rattle.wire_messages.specs.declared.rr.rdata.RData.TheVariants as rdata
+use Rattle.std.proofs.Common.{List, Option, Some, true}
+use Rattle.hickory_zone.specs.Additionals.{addresses_after, at_most_one, host_in, hosts_of, is_hostless, is_none_named, name_from, target_start}
 use Rattle.hickory_zone.specs.Chains.{Chases, Ending, IsIn, found, has_none, is_none}
 use Rattle.hickory_zone.specs.ChainEnds.{Chased}
 use Rattle.hickory_zone.specs.Replies.{IsStandard, StandardAnswer, inside, reply_of, zone_of}
@@ -32,17 +34,35 @@ finished zone name first t origin sets old new e result o s f none within x made
     or_memory (zone_of zone) name t (reply_of zone.sets new e) result (inside within (subst (λ (rs : Records). Chases (zone_of zone) t 8 [] name rs e) (sym all) c))
     (subst (λ (d : Sets). OrMemory (reply_of d new e) result) s made)
 
--- records that name no host need no additionals
-no_additionals : (sets : Sets) (before rs : Records) → AllByRecursion (λ (q : Record RData). host_in q.rdata ≡ None) rs → additionals_from sets before rs ≡ []
-no_additionals sets before [] h = refl
-no_additionals sets before (r ∷ rs) h = ap (λ o. first_addresses sets before o ++ additionals_from sets (before ++ r ∷ []) rs) h.0 ∙ no_additionals sets (before ++ r ∷ []) rs h.1
+none_from : (start : Option ℕ) (bytes : List ℕ) → is_none_named start ≡ true → name_from start bytes ≡ None
+none_from None bytes h = refl
+none_from (Some start) bytes h = absurd cc
+
+none_in : (content : RData) → is_hostless content ≡ true → host_in content ≡ None
+none_in (rdata.A address) h = refl
+none_in (rdata.AAAA address) h = refl
+none_in (rdata.NS name) h = absurd cc
+none_in (rdata.CNAME name) h = refl
+none_in (rdata.PTR name) h = refl
+none_in (rdata.MX mx) h = absurd cc
+none_in (rdata.SOA soa) h = refl
+none_in (rdata.TXT strings) h = refl
+none_in (rdata.OPT options) h = refl
+none_in (rdata.TSIG tsig) h = refl
+none_in (rdata.NULL bytes) h = refl
+none_in (rdata.Update0 t) h = refl
+none_in (rdata.Unknown t bytes) h = none_from (target_start t) bytes h
+
+no_hosts : (rs : Records) → AllByRecursion (λ (q : Record RData). is_hostless q.rdata ≡ true) rs → hosts_of rs ≡ []
+no_hosts [] h = refl
+no_hosts (r ∷ rs) h = ap (λ o. at_most_one o ++ hosts_of rs) (none_in r.rdata h.0) ∙ no_hosts rs h.1
 
 module _ (zone : MemoryZone) (name : DomainName) (t : ℕ) (within : IsIn (zone_of zone) name) (origin : DomainName) (sets : Sets) (o : origin ≡ zone.origin) (s : sets ≡ zone.sets) where
   moved : (outcome : Outcome) → Answers (record { origin = origin; sets = sets }) name t outcome → Answers (zone_of zone) name t outcome
   moved outcome a = subst (λ (z : Zone). Answers z name t outcome) (zone_is zone origin sets o s) a
 
-  pub lent : (rs : Records) → Answers (record { origin = origin; sets = sets }) name t (answer rs) → AllByRecursion (λ (q : Record RData). host_in q.rdata ≡ None) rs → StandardAnswer (zone_of zone) name t (Ok (lookup.Records rs []))
-  lent rs a h = subst (λ more. StandardAnswer (zone_of zone) name t (Ok (lookup.Records rs more))) (no_additionals zone.sets [] rs h) (inside within (found (moved (answer rs) a)))
+  pub lent : (rs : Records) → Answers (record { origin = origin; sets = sets }) name t (answer rs) → AllByRecursion (λ (q : Record RData). is_hostless q.rdata ≡ true) rs → StandardAnswer (zone_of zone) name t (Ok (lookup.Records rs []))
+  lent rs a h = subst (λ more. StandardAnswer (zone_of zone) name t (Ok (lookup.Records rs more))) (ap (addresses_after zone.sets []) (no_hosts rs h)) (inside within (found (moved (answer rs) a)))
 
   pub lent_no_data : Answers (record { origin = origin; sets = sets }) name t no_data → StandardAnswer (zone_of zone) name t nothing_there
   lent_no_data a = inside within (has_none (moved no_data a))
