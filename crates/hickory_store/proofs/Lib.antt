@@ -25,3 +25,5 @@ pub mod UpdatesKeep
 pub mod KeptAtApex
 pub mod Replays
 pub mod ReplayedRuns
+pub mod FirstRecords
+pub mod RecordZones

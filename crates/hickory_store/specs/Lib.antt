@@ -3,7 +3,9 @@ pub mod BlockAnswers
 pub mod Blocked
 pub mod Changes
 pub mod ConfigSameness
+pub mod Digests
 pub mod Entries
+pub mod FirstRecords
 pub mod Identity
 pub mod LendingZone
 pub mod ListLines
@@ -12,6 +14,7 @@ pub mod Permission
 pub mod Prerequisites
 pub mod Prescan
 pub mod Readers
+pub mod RecordZones
 pub mod Refusals
 pub mod Replays
 pub mod Serials

@@ -2,4 +2,5 @@
 #![tactic(auto)]
 
 pub mod blocklist;
+pub mod file;
 pub mod sqlite;

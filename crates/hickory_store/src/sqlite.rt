@@ -16,7 +16,7 @@ mod update_requests;
 mod updating;
 mod verifier;
 pub mod worked;
-mod zone_sets;
+pub(crate) mod zone_sets;
 
 pub use handler::SqliteZoneHandler;
 pub use verifier::{Verifier, VerifyError};

@@ -1,0 +1,21 @@
+-- The record goes behind the front.
+use Rattle.std.proofs.Common.{◌∙◌, ◌∷◌, [], ◌++◌, List, sym, ap, subst}
+use Rattle.std.specs.Vec.Iter.{into_iter_items}
+use Rattle.hickory_wire.specs.declared.rr.rdata.RData.{RData}
+use Rattle.hickory_wire.specs.declared.rr.record.Record.{Record}
+use Rattle.hickory_store.specs.FirstRecords.{keep_first}
+use Rattle.hickory_store.proofs.FirstRecords.{next_first}
+use Rattle.hickory_store.proofs.SetsOfRecords.{append_one}
+use Rattle.hickory_store.proofs.file.first_records.first_records.Goals as goal
+
+pub loop-q-preserved : goal.loop-q-preserved
+loop-q-preserved c =
+    let front : List (Record RData) = c.loop-q.invariant.2 in
+    let kept = c.in_ok-keep.ensures c.loop-q.invariant.5 in (
+      tt,
+      tt,
+      front ++ c.in-Some.q ∷ [],
+      append_one front c.in-Some.q (into_iter_items c.next.new.self) ∙ ap (λ (xs : List (Record RData)). front ++ xs) (sym c.in-Some.ensures.steps.0) ∙ c.loop-q.invariant.3,
+      kept.0 ∙ ap (λ (xs : List (Record RData)). keep_first xs c.in-Some.q) c.loop-q.invariant.4 ∙ sym (next_first front c.in-Some.q),
+      kept.1,
+    )
