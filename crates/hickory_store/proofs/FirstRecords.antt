@@ -7,14 +7,14 @@ use Rattle.std.proofs.lemmas.Bool.{eq-eqb}
 use Rattle.std.proofs.lemmas.List.Folds.{list_any-append}
 use Rattle.std.proofs.lemmas.List.Sums.{fold-append}
 use Rattle.std.specs.HashSet.{HashSet, contains}
-use Rattle.hickory_wire.specs.rr.domain.DomainName.{DomainName}
-use Rattle.hickory_wire.specs.rr.domain.NameHash.{name_hash_input}
-use Rattle.hickory_wire.specs.rr.domain.NameOrder.{SameName, lower_name}
-use Rattle.hickory_wire.specs.rr.RecordSameness.{SameData, SameRecord, lower_data}
-use Rattle.hickory_wire.specs.declared.rr.rdata.RData.{RData}
-use Rattle.hickory_wire.specs.declared.rr.rdata.RData.TheVariants as rdata
-use Rattle.hickory_wire.specs.declared.rr.record.Record.{Record}
-use Rattle.hickory_wire.proofs.lemmas.rr.domain.SameNames.{both_ways}
+use Rattle.wire_names.specs.rr.domain.DomainName.{DomainName}
+use Rattle.wire_names.specs.rr.domain.NameHash.{name_hash_input}
+use Rattle.wire_names.specs.rr.domain.NameOrder.{SameName, lower_name}
+use Rattle.wire_messages.specs.rr.RecordSameness.{SameData, SameRecord, lower_data}
+use Rattle.wire_messages.specs.declared.rr.rdata.RData.{RData}
+use Rattle.wire_messages.specs.declared.rr.rdata.RData.TheVariants as rdata
+use Rattle.wire_messages.specs.declared.rr.record.Record.{Record}
+use Rattle.wire_names.proofs.lemmas.rr.domain.SameNames.{both_ways}
 use Rattle.hickory_base.specs.zone_store.ZoneSets.{AreDistinct}
 use Rattle.hickory_store.specs.Digests.{data_writes, digest_of}
 use Rattle.hickory_store.specs.FirstRecords.{Knows, digested, first_records, keep_first, same_digested}

@@ -2,10 +2,10 @@
 use Rattle.std.specs.Prelude.{ℕ, List, [], ◌∷◌, ◌++◌, fold}
 use Rattle.std.specs.Hash.DefaultHasher as sip
 use Rattle.std.specs.Net.Addr.{ipv4_octets, ipv6_octets}
-use Rattle.hickory_wire.specs.rr.domain.NameHash.{name_hash_input}
-use Rattle.hickory_wire.specs.declared.rr.rdata.RData.{RData}
-use Rattle.hickory_wire.specs.declared.rr.rdata.RData.TheVariants as rdata
-use Rattle.hickory_wire.specs.declared.rr.record.Record.{Record}
+use Rattle.wire_names.specs.rr.domain.NameHash.{name_hash_input}
+use Rattle.wire_messages.specs.declared.rr.rdata.RData.{RData}
+use Rattle.wire_messages.specs.declared.rr.rdata.RData.TheVariants as rdata
+use Rattle.wire_messages.specs.declared.rr.record.Record.{Record}
 
 -- what data feed: an address, the name that they lead to in any letter case, or their bytes; others nothing
 abbrev pub data_writes : RData → List (List ℕ)

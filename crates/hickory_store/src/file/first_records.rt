@@ -2,8 +2,8 @@
 
 ghost use Rattle.std.specs.Prelude.{◌≡◌, IfOk, List, OnOk, not};
 ghost use Rattle.std.specs.List.{list_any};
-ghost use Rattle.hickory_wire.specs.declared.rr.rdata.RData.{RData as Data};
-ghost use Rattle.hickory_wire.specs.declared.rr.record.Record.{Record as ResourceRecord};
+ghost use Rattle.wire_messages.specs.declared.rr.rdata.RData.{RData as Data};
+ghost use Rattle.wire_messages.specs.declared.rr.record.Record.{Record as ResourceRecord};
 ghost use Rattle.hickory_store.specs.Identity.{same_record};
 ghost use Rattle.hickory_store.specs.FirstRecords.{Knows, digested, first_records, keep_first};
 

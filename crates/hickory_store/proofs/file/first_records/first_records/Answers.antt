@@ -1,8 +1,8 @@
 -- The record goes behind the front.
 use Rattle.std.proofs.Common.{◌∙◌, ◌∷◌, [], ◌++◌, List, sym, ap, subst}
 use Rattle.std.specs.Vec.Iter.{into_iter_items}
-use Rattle.hickory_wire.specs.declared.rr.rdata.RData.{RData}
-use Rattle.hickory_wire.specs.declared.rr.record.Record.{Record}
+use Rattle.wire_messages.specs.declared.rr.rdata.RData.{RData}
+use Rattle.wire_messages.specs.declared.rr.record.Record.{Record}
 use Rattle.hickory_store.specs.FirstRecords.{keep_first}
 use Rattle.hickory_store.proofs.FirstRecords.{next_first}
 use Rattle.hickory_store.proofs.SetsOfRecords.{append_one}

@@ -1,8 +1,8 @@
 -- The records that are kept are the first of those of a front, and the set knows them.
 use Rattle.std.proofs.Common.{◌≡◌, ◌++◌, List}
 use Rattle.std.specs.Vec.Iter.{into_iter_items}
-use Rattle.hickory_wire.specs.declared.rr.rdata.RData.{RData}
-use Rattle.hickory_wire.specs.declared.rr.record.Record.{Record}
+use Rattle.wire_messages.specs.declared.rr.rdata.RData.{RData}
+use Rattle.wire_messages.specs.declared.rr.record.Record.{Record}
 use Rattle.hickory_store.specs.FirstRecords.{Knows, first_records}
 use Rattle.hickory_store.proofs.file.first_records.first_records.Given as goal
 

@@ -1,8 +1,8 @@
 -- The set has one record more, or had the same.
 use Rattle.std.proofs.Common.{◌≡◌, Bool, cond, not, subst, true}
 use Rattle.std.specs.HashSet.{contains}
-use Rattle.hickory_wire.specs.declared.rr.rdata.RData.{RData}
-use Rattle.hickory_wire.specs.declared.rr.record.Record.{Record}
+use Rattle.wire_messages.specs.declared.rr.rdata.RData.{RData}
+use Rattle.wire_messages.specs.declared.rr.record.Record.{Record}
 use Rattle.hickory_store.specs.FirstRecords.{digested, same_digested}
 use Rattle.hickory_store.specs.declared.file.digests.Digested.{Digested}
 use Rattle.hickory_store.proofs.FirstRecords.{met_more}

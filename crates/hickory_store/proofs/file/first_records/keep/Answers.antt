@@ -1,7 +1,7 @@
 -- The record is kept where it is the first.
 use Rattle.std.proofs.Common.{◌∙◌, ◌++◌, ◌∷◌, [], List, subst, sym}
-use Rattle.hickory_wire.specs.declared.rr.rdata.RData.{RData}
-use Rattle.hickory_wire.specs.declared.rr.record.Record.{Record}
+use Rattle.wire_messages.specs.declared.rr.rdata.RData.{RData}
+use Rattle.wire_messages.specs.declared.rr.record.Record.{Record}
 use Rattle.hickory_store.specs.FirstRecords.{Knows}
 use Rattle.hickory_store.proofs.FirstRecords.{kept_as_before, kept_more}
 use Rattle.hickory_store.proofs.file.first_records.keep.Goals as goal

@@ -1,7 +1,7 @@
 -- The front has one record more, in which nothing is wrong.
 use Rattle.std.proofs.Common.{◌≡◌, ◌∙◌, ◌-◌, ◌++◌, ◌∷◌, [], List, ap, append_assoc, drop, length, sym, take}
-use Rattle.hickory_wire.specs.declared.rr.rdata.RData.{RData}
-use Rattle.hickory_wire.specs.declared.rr.record.Record.{Record}
+use Rattle.wire_messages.specs.declared.rr.rdata.RData.{RData}
+use Rattle.wire_messages.specs.declared.rr.record.Record.{Record}
 use Rattle.hickory_store.proofs.RecordZones.{front_of, more_right}
 use Rattle.hickory_store.proofs.file.zones.check_records.Goals as goal
 

@@ -1,7 +1,7 @@
 -- The records are a front in which none is wrong, and the rest. The rest gets shorter.
 use Rattle.std.proofs.Common.{◌≡◌, ◌++◌, List, length}
-use Rattle.hickory_wire.specs.declared.rr.rdata.RData.{RData}
-use Rattle.hickory_wire.specs.declared.rr.record.Record.{Record}
+use Rattle.wire_messages.specs.declared.rr.rdata.RData.{RData}
+use Rattle.wire_messages.specs.declared.rr.record.Record.{Record}
 use Rattle.hickory_store.specs.RecordZones.{AreOfZone}
 use Rattle.hickory_store.proofs.file.zones.check_records.Given as goal
 

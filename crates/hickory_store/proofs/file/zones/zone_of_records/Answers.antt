@@ -1,9 +1,9 @@
 -- The sets hold each record once, so they make a zone.
 use Rattle.std.proofs.Common.{◌∙◌, List, ap, subst, sym}
 use Rattle.std.specs.List.Sorted.{IsStrictlySortedBy}
-use Rattle.hickory_wire.specs.rr.RrKeys.{key_cmp}
-use Rattle.hickory_wire.specs.declared.rr.rdata.RData.{RData}
-use Rattle.hickory_wire.specs.declared.rr.record.Record.{Record}
+use Rattle.wire_messages.specs.rr.RrKeys.{key_cmp}
+use Rattle.wire_messages.specs.declared.rr.rdata.RData.{RData}
+use Rattle.wire_messages.specs.declared.rr.record.Record.{Record}
 use Rattle.hickory_base.specs.zone_store.ZoneAnswers.{MemoryZone}
 use Rattle.hickory_base.specs.zone_store.ZoneSets.{sets_of}
 use Rattle.hickory_base.proofs.lemmas.zone_store.ZoneByName.{keys-shared}
