@@ -36,11 +36,19 @@ fn catalog<H: ZoneHandler>(
     origin: LowerName,
     handler: H,
 ) -> Option<Catalog<NoSigner, H>> {
-    let mut chain = Vec::new(alloc);
-    chain.push(handler).ok()?;
+    let chain = vec![in alloc; handler].ok()?;
     let mut catalog = Catalog::new(alloc, NoSigner);
-    catalog.upsert(origin, chain).ok()?;
-    Some(catalog)
+    match catalog.upsert(origin, chain) {
+        Ok(old) => {
+            drop(old);
+            Some(catalog)
+        }
+        Err(back) => {
+            drop(back);
+            drop(catalog);
+            None
+        }
+    }
 }
 
 #[inline(never)]
@@ -72,9 +80,23 @@ fn answer<H: ZoneHandler>(
     rounds: u64,
 ) -> Option<u64> {
     let mut catalog = catalog(alloc, origin, handler)?;
-    let mut sizes = ReplySizes::new(alloc);
+    let total = answered(alloc, &mut catalog, bytes, rounds);
+    drop(catalog);
+    total
+}
+
+/// The same, by this catalog.
+fn answered<H: ZoneHandler>(
+    alloc: Global,
+    catalog: &mut Catalog<NoSigner, H>,
+    bytes: &[u8],
+    rounds: u64,
+) -> Option<u64> {
     let mut request = request(alloc, bytes)?;
-    measured_answer_request(alloc, &mut catalog, &mut sizes, &mut request, bytes, rounds)?;
+    let mut sizes = ReplySizes::new(alloc);
+    let answered = measured_answer_request(alloc, catalog, &mut sizes, &mut request, bytes, rounds);
+    drop(request);
+    answered?;
     Some(sizes.total())
 }
 

@@ -36,10 +36,24 @@ fn measured_update(
 /// In how many rounds both updates changed the zone.
 fn updated(alloc: Global, zone: &[u8], updates: &[u8], rounds: u64) -> Option<u64> {
     let (_, mut zone) = updatable_zone(alloc, zone)?;
+    let changed = changed(alloc, &mut zone, updates, rounds);
+    drop(zone);
+    changed
+}
+
+/// The same, of this zone.
+fn changed(
+    alloc: Global,
+    zone: &mut SqliteZoneHandler<NoKeys>,
+    updates: &[u8],
+    rounds: u64,
+) -> Option<u64> {
     let message = Message::read(alloc, updates).ok()?;
     let first = message.answers.as_slice();
     let second = message.authorities.as_slice();
-    measured_update(alloc, &mut zone, first, second, rounds)
+    let changed = measured_update(alloc, zone, first, second, rounds);
+    drop(message);
+    changed
 }
 
 /// Makes two updates of a zone, whose records are the answers of messages, each behind its length: what the answers of

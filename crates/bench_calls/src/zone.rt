@@ -8,50 +8,109 @@ use std::alloc::Global;
 use std::collections::BTreeMap;
 use std::rc::Rc;
 
+/// Records by name and type.
+type Groups = BTreeMap<RrKey, Vec<Record>>;
+
+/// The sets of a zone.
+type Sets = BTreeMap<RrKey, Rc<RecordSet>>;
+
+/// Puts a record among those of this name and type.
+fn put_at(alloc: Global, groups: &mut Groups, key: RrKey, record: Record) -> Option<()> {
+    let Ok(entry) = groups.entry(key) else {
+        drop(record);
+        return None;
+    };
+    entry.or_insert(Vec::new(alloc)).push(record).ok()
+}
+
+/// Puts a record among those of its name and type.
+fn put(alloc: Global, groups: &mut Groups, record: Record) -> Option<()> {
+    let Ok(name) = LowerName::new(alloc, &record.name) else {
+        drop(record);
+        return None;
+    };
+    let key = RrKey::new(name, record.rdata.record_type());
+    put_at(alloc, groups, key, record)
+}
+
 /// The records by name and type.
-fn grouped(alloc: Global, records: Vec<Record>) -> Option<BTreeMap<RrKey, Vec<Record>>> {
+fn grouped(alloc: Global, records: Vec<Record>) -> Option<Groups> {
     let mut groups = BTreeMap::new(alloc);
     for record in records {
-        let name = LowerName::new(alloc, &record.name).ok()?;
-        let key = RrKey::new(name, record.rdata.record_type());
-        groups
-            .entry(key)
-            .ok()?
-            .or_insert(Vec::new(alloc))
-            .push(record)
-            .ok()?;
+        if put(alloc, &mut groups, record).is_none() {
+            drop(groups);
+            return None;
+        }
     }
     Some(groups)
 }
 
+/// These records as a set, if they make one.
+fn set_of(alloc: Global, records: Vec<Record>) -> Option<Rc<RecordSet>> {
+    if !RecordSet::accepts(records.as_slice()) {
+        drop(records);
+        return None;
+    }
+    Rc::new(alloc, RecordSet::new(records)).ok()
+}
+
 /// The records as the sets of a zone.
-fn record_sets(alloc: Global, records: Vec<Record>) -> Option<BTreeMap<RrKey, Rc<RecordSet>>> {
+fn record_sets(alloc: Global, records: Vec<Record>) -> Option<Sets> {
+    let groups = grouped(alloc, records)?;
     let mut sets = BTreeMap::new(alloc);
-    for (key, records) in grouped(alloc, records)? {
-        if !RecordSet::accepts(records.as_slice()) {
+    for (key, records) in groups {
+        if put_set(alloc, &mut sets, key, records).is_none() {
+            drop(sets);
             return None;
         }
-        let set = Rc::new(alloc, RecordSet::new(records)).ok()?;
-        sets.insert(key, set).ok()?;
     }
     Some(sets)
 }
 
-/// The zone of these records, the first at the origin.
-fn zone_of(alloc: Global, records: Vec<Record>) -> Option<(LowerName, InMemoryZoneHandler)> {
-    let origin = LowerName::new(alloc, &records.as_slice().first()?.name).ok()?;
-    let apex = origin.clone().ok()?;
-    let sets = record_sets(alloc, records)?;
+/// Puts a set of these records among sets.
+fn put_set(alloc: Global, sets: &mut Sets, key: RrKey, records: Vec<Record>) -> Option<()> {
+    let set = set_of(alloc, records)?;
+    sets.insert(key, set).ok()?;
+    Some(())
+}
+
+/// The zone of these sets.
+fn zone_at(origin: LowerName, sets: Sets) -> Option<(LowerName, InMemoryZoneHandler)> {
+    let Ok(apex) = origin.clone() else {
+        drop(sets);
+        return None;
+    };
     if !InMemoryZoneHandler::accepts(&sets) {
+        drop(sets);
         return None;
     }
     let handler = InMemoryZoneHandler::new(apex, sets, ZoneType::Primary, AxfrPolicy::Deny);
     Some((origin, handler))
 }
 
+/// The name of the first of records.
+fn first_name(alloc: Global, records: &[Record]) -> Option<LowerName> {
+    LowerName::new(alloc, &records.first()?.name).ok()
+}
+
+/// The zone of these records, the first at the origin.
+fn zone_of(alloc: Global, records: Vec<Record>) -> Option<(LowerName, InMemoryZoneHandler)> {
+    let Some(origin) = first_name(alloc, records.as_slice()) else {
+        drop(records);
+        return None;
+    };
+    zone_at(origin, record_sets(alloc, records)?)
+}
+
+/// The answers of the message that bytes begin with.
+fn answers(alloc: Global, bytes: &[u8]) -> Option<Vec<Record>> {
+    let message = Message::read(alloc, bytes).ok()?;
+    Some(message.answers.into_vec())
+}
+
 /// The zone whose records are the answers of the message that bytes begin with, the first at the origin.
 pub(crate) fn zone(alloc: Global, bytes: &[u8]) -> Option<(LowerName, InMemoryZoneHandler)> {
-    zone_of(alloc, Message::read(alloc, bytes).ok()?.answers.into_vec())
+    zone_of(alloc, answers(alloc, bytes)?)
 }
 
 /// A message behind its length, and what stands behind both (RFC 1035 section 4.2.2).
@@ -63,6 +122,14 @@ fn framed(bytes: &[u8]) -> Option<(&[u8], &[u8])> {
     Some((rest.get(..len)?, rest.get(len..)?))
 }
 
+/// Puts the answers of a message behind other records.
+fn put_answers(alloc: Global, records: &mut Vec<Record>, message: &[u8]) -> Option<()> {
+    let mut answers = answers(alloc, message)?;
+    let put = records.append(&mut answers);
+    drop(answers);
+    put.ok()
+}
+
 /// The answers of messages, each behind its length.
 fn answers_of(alloc: Global, bytes: &[u8]) -> Option<Vec<Record>> {
     let mut records = Vec::new(alloc);
@@ -71,9 +138,10 @@ fn answers_of(alloc: Global, bytes: &[u8]) -> Option<Vec<Record>> {
         let Some((message, behind)) = framed(rest) else {
             break;
         };
-        records
-            .append(&mut Message::read(alloc, message).ok()?.answers.into_vec())
-            .ok()?;
+        if put_answers(alloc, &mut records, message).is_none() {
+            drop(records);
+            return None;
+        }
         rest = behind;
     }
     Some(records)

@@ -13,6 +13,17 @@ pub(crate) fn lower_name(alloc: Global, decoder: &mut BinDecoder<'_>) -> Option<
     LowerName::new(alloc, &name).ok()
 }
 
+/// Puts a zone without handlers, whose name stands at the decoder's place, into a catalog.
+fn put(
+    alloc: Global,
+    catalog: &mut Catalog<NoSigner, InMemoryZoneHandler>,
+    decoder: &mut BinDecoder<'_>,
+) -> Option<()> {
+    let name = lower_name(alloc, decoder)?;
+    catalog.upsert(name, Vec::new(alloc)).ok()?;
+    Some(())
+}
+
 /// A catalog with a zone for each of the names that stand in bytes one behind the other. No zone has a handler.
 fn catalog(alloc: Global, names: &[u8]) -> Option<Catalog<NoSigner, InMemoryZoneHandler>> {
     let mut catalog = Catalog::new(alloc, NoSigner);
@@ -21,8 +32,10 @@ fn catalog(alloc: Global, names: &[u8]) -> Option<Catalog<NoSigner, InMemoryZone
         if decoder.index() >= names.len() {
             break;
         }
-        let name = lower_name(alloc, &mut decoder)?;
-        catalog.upsert(name, Vec::new(alloc)).ok()?;
+        if put(alloc, &mut catalog, &mut decoder).is_none() {
+            drop(catalog);
+            return None;
+        }
     }
     Some(catalog)
 }
@@ -44,9 +57,11 @@ fn measured_find_zone(
 
 /// In how many rounds there was a zone for the name.
 fn found(alloc: Global, names: &[u8], wanted: &[u8], rounds: u64) -> Option<u64> {
-    let catalog = catalog(alloc, names)?;
     let wanted = lower_name(alloc, &mut BinDecoder::new(wanted))?;
-    measured_find_zone(&catalog, &wanted, rounds)
+    let catalog = catalog(alloc, names)?;
+    let found = measured_find_zone(&catalog, &wanted, rounds);
+    drop(catalog);
+    found
 }
 
 /// Finds the zone of a name among zones whose names stand in bytes one behind the other; answers in how many rounds
