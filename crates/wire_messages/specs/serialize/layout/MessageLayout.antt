@@ -1,13 +1,9 @@
 -- How a message stands in bytes: its header, its sections one behind the other, and what each section may hold (RFC 1035 section 4.1).
-use Rattle.std.specs.Prelude.{◌≡◌, ℕ, ◌+◌, ◌*◌, ◌/◌, ◌%◌, ◌^◌, List, [], ◌∷◌, ◌++◌, length, Bool, false, not, ◌||◌, filter, map, Option, Some, None, option_to_list, ◌==◌}
-use Rattle.std.specs.List.{AllByRecursion}
+use Rattle.std.specs.Prelude.{◌≡◌, ℕ, ◌+◌, ◌*◌, ◌/◌, ◌%◌, ◌^◌, List, [], ◌∷◌, ◌++◌, Bool, false, not, ◌||◌, filter, map, Option, Some, None, option_to_list, ◌==◌}
 use Rattle.wire_messages.specs.op.EdnsFields.{EdnsFields}
-use Rattle.wire_messages.specs.serialize.layout.HeaderLayout.{HeaderAt}
 use Rattle.wire_messages.specs.serialize.layout.QuestionLayout.{QuestionAt, IsFormedQuestion}
 use Rattle.wire_messages.specs.rr.RecordData.{type_of}
-use Rattle.wire_messages.specs.serialize.layout.RecordLayout.{RecordAt}
 use Rattle.wire_messages.specs.declared.op.edns.EdnsOption.{EdnsOption}
-use Rattle.wire_messages.specs.declared.op.header.Header.{Header}
 use Rattle.wire_messages.specs.declared.op.header.Metadata.{Metadata}
 use Rattle.wire_messages.specs.declared.op.query.Query.{Query}
 use Rattle.wire_messages.specs.declared.rr.rdata.RData.{RData}
