@@ -12,7 +12,7 @@ REPOSITORY = os.path.dirname(FOLDER)
 PROGRAMS = {"": "zone_script", "zone_reply": "zone_reply", "zone_serve": "zone_serve"}
 
 # The folders of files that programs may be told to read, by the names that their arguments use.
-DATA = {"zone_serve": ["zone_files", "zone_serve/files"]}
+DATA = {"zone_serve": ["zone_files", "zone_serve/files"], "zone_script": ["zone_files", "zone_serve/files"]}
 
 # What a program reads and where it prints are needed of each case, in one of these forms.
 NEEDED = [("in", "hex", "stdin"), ("out", "outhex", "stdout")]

@@ -41,7 +41,7 @@ def prove(name):
     """Has `rt ci` prove a crate and try its wrong edits; returns how many of these passed and how many failed."""
     ran = subprocess.run(["rt", "ci", name], cwd=ROOT, stdin=subprocess.DEVNULL, stdout=subprocess.PIPE, stderr=subprocess.STDOUT, text=True, errors="replace")
     lines = ran.stdout.rstrip("\n").split("\n")
-    found = re.fullmatch(r"(\d+) passed, (\d+) failed", lines[-1])
+    found = re.fullmatch(r"(\d+) passed, (\d+) failed\b.*", lines[-1])
     told = [it for it in lines if it.startswith("rt: ") and re.search(rf"\b{name}\b", it)]
     tell(f"rt ci {name}:\n" + "\n".join(f"  {it}" for it in told or lines[-4:]))
     passed, failed = (int(found[1]), int(found[2])) if found else (0, 1)
