@@ -1,0 +1,295 @@
+//! Chains of handlers, and scripted ones.
+
+use crate::commands::zones::{close, zone_type};
+use crate::fault::Fault;
+use crate::handler::{Handler, Source};
+use crate::part::{Answer, Call, Flow, Outcome, Part};
+use crate::script::{Place, Script};
+use crate::sections::Section;
+use crate::text::lower_name;
+use crate::words::setting;
+use hickory_server::proto::{CodeTextError, LowerName, Octets, Proof, Record, ResponseCode};
+use hickory_server::zone_handler::{AxfrPolicy, NxProofKind, UpdateFault, ZoneType};
+use std::alloc::Global;
+use std::fmt::Write;
+use std::mem;
+
+const PART_USAGE: &str =
+    "part ORIGIN [primary|secondary|external] [validates] [nsec|nsec3=ITERATIONS] [signs]";
+
+/// What the words of a part say.
+#[derive(Clone, Copy)]
+struct PartWords {
+    zone_type: ZoneType,
+    validates: bool,
+    nsec: bool,
+    nsec3: Option<u16>,
+    signs: bool,
+}
+
+impl PartWords {
+    /// A primary handler that neither validates nor denies nor signs.
+    fn new() -> PartWords {
+        PartWords {
+            zone_type: ZoneType::Primary,
+            validates: false,
+            nsec: false,
+            nsec3: None,
+            signs: false,
+        }
+    }
+
+    /// Sets what a word says.
+    fn set(&mut self, word: &str) -> Result<(), Fault> {
+        match setting(word) {
+            ("validates", None) => self.validates = true,
+            ("signs", None) => self.signs = true,
+            ("nsec", None) => self.nsec = true,
+            ("nsec3", Some(iterations)) => self.nsec3 = Some(iterations.parse::<u16>()?),
+            _ => match zone_type(word) {
+                Some(zone_type) => self.zone_type = zone_type,
+                None => return Err(Fault::Usage(PART_USAGE)),
+            },
+        }
+        Ok(())
+    }
+
+    /// What the words of a line say.
+    fn read(words: &[&str]) -> Result<PartWords, Fault> {
+        let mut part = PartWords::new();
+        for word in words {
+            part.set(word)?;
+        }
+        Ok(part)
+    }
+
+    /// By which records the part denies. NSEC3 has the salt AB.
+    fn proof_kind(&self, alloc: Global) -> Result<Option<NxProofKind>, Fault> {
+        match self.nsec3 {
+            Some(iterations) => Ok(Some(NxProofKind::Nsec3 {
+                algorithm: 1,
+                salt: Octets::from_slice(alloc, &[0xab])?,
+                iterations,
+                opt_out: false,
+            })),
+            None if self.nsec => Ok(Some(NxProofKind::Nsec)),
+            None => Ok(None),
+        }
+    }
+}
+
+/// A scripted handler at the place behind those that are begun.
+fn part_handler(
+    script: &Script,
+    alloc: Global,
+    origin: LowerName,
+    words: PartWords,
+) -> Result<Handler, Fault> {
+    let part = Part {
+        place: script.chain.len(),
+        signs: words.signs,
+        answers: Vec::new(alloc),
+        update: Err(UpdateFault::Code(ResponseCode::NOT_IMP)),
+        log: script.log.share()?,
+    };
+    Ok(Handler {
+        zone_type: words.zone_type,
+        axfr_policy: AxfrPolicy::Deny,
+        origin,
+        validates: words.validates,
+        proof_kind: words.proof_kind(alloc)?,
+        source: Source::Part(part),
+    })
+}
+
+/// Begins a scripted handler.
+fn begin(script: &mut Script, alloc: Global, origin: &str, words: &[&str]) -> Result<(), Fault> {
+    let words = PartWords::read(words)?;
+    let origin = lower_name(alloc, origin)?;
+    close(script, alloc)?;
+    let handler = part_handler(script, alloc, origin, words)?;
+    script.chain.push(handler)?;
+    script.place = Place::Nothing;
+    Ok(())
+}
+
+const ANSWER_USAGE: &str =
+    "on search|consult|lookup|denial|transfer skip|continue|break|add [CODE|resolved [secure|insecure|bogus]|empty|no-records CODE|bogus|failed|unreadable|memory], on update changed|unchanged|CODE|memory";
+
+/// The call of a word.
+fn call(word: &str) -> Result<Call, Fault> {
+    match word {
+        "search" => Ok(Call::Search),
+        "consult" => Ok(Call::Consult),
+        "lookup" => Ok(Call::Lookup),
+        "denial" => Ok(Call::Denial),
+        "transfer" => Ok(Call::Transfer),
+        _ => Err(Fault::Usage(ANSWER_USAGE)),
+    }
+}
+
+/// The flow of a word.
+fn flow(word: &str) -> Result<Flow, Fault> {
+    match word {
+        "skip" => Ok(Flow::Skip),
+        "continue" => Ok(Flow::Continue),
+        "break" => Ok(Flow::Break),
+        "add" => Ok(Flow::Add),
+        _ => Err(Fault::Usage(ANSWER_USAGE)),
+    }
+}
+
+/// What an answer is, by the words behind its flow. The last form is a response code.
+fn outcome(words: &[&str]) -> Result<Outcome, CodeTextError> {
+    Ok(match words {
+        [] => Outcome::Found,
+        ["resolved"] => Outcome::Resolved(Proof::Indeterminate),
+        ["resolved", "secure"] => Outcome::Resolved(Proof::Secure),
+        ["resolved", "insecure"] => Outcome::Resolved(Proof::Insecure),
+        ["resolved", "bogus"] => Outcome::Resolved(Proof::Bogus),
+        ["empty"] => Outcome::Empty,
+        ["no-records", code] => Outcome::NoRecords(code.parse::<ResponseCode>()?),
+        ["bogus"] => Outcome::Bogus,
+        ["failed"] => Outcome::Failed,
+        ["unreadable"] => Outcome::Unreadable,
+        ["memory"] => Outcome::Memory,
+        [code, ..] => Outcome::Code(code.parse::<ResponseCode>()?),
+    })
+}
+
+/// The part last begun.
+fn last_part(script: &mut Script) -> Result<&mut Part, Fault> {
+    if script.zone.is_some() {
+        return Err(Fault::NoPart);
+    }
+    match script.chain.last_mut() {
+        Some(
+            Handler {
+                source: Source::Part(part),
+                ..
+            },
+        ) => Ok(part),
+        _ => Err(Fault::NoPart),
+    }
+}
+
+/// Begins what a call of the part last begun answers.
+fn begin_answer(script: &mut Script, alloc: Global, words: &[&str]) -> Result<(), Fault> {
+    let [call_word, flow_word, words @ ..] = words else {
+        return Err(Fault::Usage(ANSWER_USAGE));
+    };
+    let call = call(call_word)?;
+    let flow = flow(flow_word)?;
+    let outcome = outcome(words)?;
+    let part = last_part(script)?;
+    part.answers.push(Answer::new(alloc, call, flow, outcome))?;
+    script.place = Place::Answer(Section::Answers);
+    Ok(())
+}
+
+/// What an update answers, by a word.
+fn updated(word: &str) -> Result<Result<bool, UpdateFault>, CodeTextError> {
+    Ok(match word {
+        "changed" => Ok(true),
+        "unchanged" => Ok(false),
+        "memory" => Err(UpdateFault::Memory),
+        code => Err(UpdateFault::Code(code.parse::<ResponseCode>()?)),
+    })
+}
+
+/// Sets what an update of the part last begun answers.
+fn set_update(script: &mut Script, word: &str) -> Result<(), Fault> {
+    let answer = updated(word)?;
+    last_part(script)?.update = answer;
+    script.place = Place::Nothing;
+    Ok(())
+}
+
+/// Puts a copy of a record into a section of the answer last begun, of the part last begun.
+pub(crate) fn put(script: &mut Script, section: Section, record: &Record) -> Result<(), Fault> {
+    let part = last_part(script)?;
+    match part.answers.last_mut() {
+        None => Err(Fault::NoSection),
+        Some(answer) => answer
+            .records
+            .push(section, record.clone()?)
+            .map_err(Fault::from),
+    }
+}
+
+/// Serves a chain at a name, and tells what it takes the place of.
+fn upsert(
+    script: &mut Script,
+    apex: LowerName,
+    chain: Vec<Handler>,
+    out: &mut String,
+) -> Result<(), Fault> {
+    match script.catalog.upsert(apex, chain) {
+        Ok(None) => Ok(()),
+        Ok(Some(old)) => writeln!(out, "in place of a chain of {}", old.len()).map_err(Fault::from),
+        Err(_) => Err(Fault::Memory),
+    }
+}
+
+/// Ends the chain that is to be served at a name.
+fn end_chain(script: &mut Script, alloc: Global, apex: &LowerName) -> Result<(), Fault> {
+    close(script, alloc)?;
+    if script.chain.is_empty() {
+        return Err(Fault::NoHandler);
+    }
+    script.served.insert(apex.clone()?)?;
+    script.place = Place::Nothing;
+    Ok(())
+}
+
+/// Serves the handlers since the last such command as the chain of a name.
+fn serve(script: &mut Script, alloc: Global, apex: &str, out: &mut String) -> Result<(), Fault> {
+    let apex = lower_name(alloc, apex)?;
+    match end_chain(script, alloc, &apex) {
+        Ok(()) => {
+            let chain = mem::replace(&mut script.chain, Vec::new(alloc));
+            upsert(script, apex, chain, out)
+        }
+        Err(e) => Err(e),
+    }
+}
+
+/// Takes the chain of a name away.
+fn remove(script: &mut Script, alloc: Global, apex: &str) -> Result<(), Fault> {
+    let apex = lower_name(alloc, apex)?;
+    match script.catalog.remove(&apex) {
+        None => Err(Fault::NoChain),
+        Some(_) => Ok(()),
+    }
+}
+
+/// Puts the names that have a chain behind a text.
+fn print_served(script: &Script, out: &mut String) -> Result<(), Fault> {
+    for apex in &script.served {
+        if script.catalog.contains(apex) {
+            writeln!(out, "{apex}")?;
+        }
+    }
+    Ok(())
+}
+
+/// Obeys a command on chains, if it is one.
+pub(crate) fn obey(
+    script: &mut Script,
+    alloc: Global,
+    words: &[&str],
+    out: &mut String,
+) -> Option<Result<(), Fault>> {
+    Some(match words {
+        ["part", origin, words @ ..] => begin(script, alloc, origin, words),
+        ["part"] => Err(Fault::Usage(PART_USAGE)),
+        ["on", "update", word] => set_update(script, word),
+        ["on", words @ ..] => begin_answer(script, alloc, words),
+        ["serve", apex] => serve(script, alloc, apex, out),
+        ["serve", ..] => Err(Fault::Usage("serve NAME")),
+        ["remove", apex] => remove(script, alloc, apex),
+        ["remove", ..] => Err(Fault::Usage("remove NAME")),
+        ["zones"] => print_served(script, out),
+        _ => return None,
+    })
+}
