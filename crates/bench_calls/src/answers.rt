@@ -36,7 +36,8 @@ fn catalog<H: ZoneHandler>(
     origin: LowerName,
     handler: H,
 ) -> Option<Catalog<NoSigner, H>> {
-    let chain = vec![in alloc; handler].ok()?;
+    let mut chain = Vec::new(alloc);
+    chain.push(handler).ok()?;
     let mut catalog = Catalog::new(alloc, NoSigner);
     match catalog.upsert(origin, chain) {
         Ok(old) => {
