@@ -15,6 +15,6 @@ pub use either::Either;
 pub use handler::{AxfrPolicy, Nsec3QueryInfo, NxProofKind, ZoneHandler, ZoneType};
 pub use in_memory::InMemoryZoneHandler;
 pub use lookup::{
-    AuthLookup, Lookup, LookupControlFlow, LookupOptions, StoredAnswer, ZoneTransfer,
+    AuthLookup, Lookup, LookupControlFlow, LookupOptions, StoredAnswer, WholeReply, ZoneTransfer,
 };
 pub use record_set::RecordSet;

@@ -1,5 +1,5 @@
 -- Each reply belongs to its request.
-use Rattle.std.proofs.Common.{◌≡◌, ℕ, Bool, true, false, cond, List, [], ◌∷◌, map, Option, Some, None, Result, Ok, Err, refl, sym, subst, ◌∙◌}
+use Rattle.std.proofs.Common.{◌≡◌, ℕ, Bool, true, false, cond, List, [], ◌∷◌, map, Option, Some, None, MatchOption, Result, Ok, Err, refl, sym, subst, ◌∙◌, ◌<◌, ◌^◌}
 use Rattle.std.specs.List.{AllByRecursion}
 use Rattle.std.specs.Prelude.{is_some}
 use Rattle.wire_names.specs.rr.domain.DomainName.{DomainName}
@@ -16,10 +16,12 @@ use Rattle.hickory_base.specs.declared.zone_store.handler.ZoneHandler.{Ghosts}
 use Rattle.hickory_base.specs.declared.zone_store.handler.ZoneType.{ZoneType}
 use Rattle.hickory_base.specs.declared.zone_store.handler.ZoneType.TheVariants.{Primary, Secondary, External}
 use Rattle.hickory_base.specs.declared.zone_store.lookup.AuthLookup.{AuthLookup}
+use Rattle.hickory_base.specs.declared.zone_store.lookup.WholeReply.{WholeReply}
 use Rattle.hickory_base.specs.declared.zone_store.lookup.ZoneTransfer.{ZoneTransfer}
+use Rattle.hickory_base.specs.zone_store.Lookups.{whole_reply}
 use Rattle.hickory_catalog.specs.Authoritative.{AuthoritativeReply, refuses, denies, finds}
 use Rattle.hickory_catalog.specs.Forwarded.{findings_of, findings_contents, forwarded_contents, forwarded_metadata, is_authentic, validated}
-use Rattle.hickory_catalog.specs.Queries.{GivenReplies, HandlerReply, QueryReplies, ZoneReplies, ZoneReply, lookup, no_zone, one, other_count, split, transfer, unanswered, untransferred, whole, zone}
+use Rattle.hickory_catalog.specs.Queries.{GivenReplies, HandlerReply, QueryReplies, ReplyByType, ZoneReplies, ZoneReply, lookup, no_zone, one, other_count, split, transfer, unanswered, untransferred, whole, whole_contents, zone}
 use Rattle.hickory_catalog.specs.Replies.{Contents, bare_contents, error_reply, unsigned_reply}
 use Rattle.hickory_catalog.specs.ReplyEdns.{reply_edns, with_high_code}
 use Rattle.hickory_catalog.specs.Requests.{BelongsTo}
@@ -76,10 +78,18 @@ module _ (request : ReceivedRequest) (query : Query) (contents : Contents) where
   authoritative_fits handler h _ (denies _ _ _ _ _ _ _ is) = fits_by is (record { id = refl; untruncated = refl })
   authoritative_fits handler h _ (finds _ _ _ is) = fits_by is (record { id = refl; untruncated = refl })
 
+  typed_fits : {H : Type 0} (handler : Ghosts H) (h : H) (zone_type : ZoneType) (result : Result AuthLookup LookupError) → ReplyByType handler h zone_type request query result contents → FitsRequest request.message.metadata contents
+  typed_fits handler h Primary result r = authoritative_fits handler h result r
+  typed_fits handler h Secondary result r = authoritative_fits handler h result r
+  typed_fits handler h External result is = forwarded_fits (handler.validates_dnssec h) result is
+
   handler_fits : {H : Type 0} (handler : Ghosts H) (h : H) (zone_type : ZoneType) (result : Result AuthLookup LookupError) → HandlerReply handler h zone_type request query result contents → FitsRequest request.message.metadata contents
-  handler_fits handler h Primary result r = authoritative_fits handler h result r
-  handler_fits handler h Secondary result r = authoritative_fits handler h result r
-  handler_fits handler h External result is = forwarded_fits (handler.validates_dnssec h) result is
+  handler_fits handler h zone_type result r = fits (whole_reply result) r where
+    fits : (reply : Option WholeReply)
+        → MatchOption reply (ReplyByType handler h zone_type request query result contents) (λ w. (contents ≡ whole_contents request.message.metadata w) × (w.response_code < 2 ^ 12))
+        → FitsRequest request.message.metadata contents
+    fits None r = typed_fits handler h zone_type result r
+    fits (Some reply) r = fits_by r.0 (record { id = refl; untruncated = refl })
 
 module _ (request : ReceivedRequest) (edns : Option EdnsFields) (replies : List Reply) where
   -- one reply that belongs to its request, as a list

@@ -18,7 +18,7 @@ use Rattle.hickory_base.specs.declared.errors.LookupError.{LookupError}
 use Rattle.hickory_base.specs.declared.errors.LookupError.TheVariants.{Net, ResponseCode}
 use Rattle.hickory_base.specs.declared.requests.message_request.MessageRequest.{MessageRequest}
 use Rattle.hickory_base.specs.declared.zone_store.lookup.AuthLookup.{AuthLookup}
-use Rattle.hickory_base.specs.declared.zone_store.lookup.AuthLookup.TheVariants.{Empty, Resolved, Records}
+use Rattle.hickory_base.specs.declared.zone_store.lookup.AuthLookup.TheVariants.{Empty, Resolved, Records, Whole}
 use Rattle.hickory_catalog.specs.Forwarded.{Findings, code_alone, findings_contents, findings_of, forwarded_contents, forwarded_metadata, has_name, is_authentic, is_bogus, is_bogus_proof, is_dnssec_bogus, is_dnssec_type, is_no_record, is_no_soa, is_passed_on, is_secure, is_secure_proof, judged_records, nothing_found, passed_on, records_found, validated, without_bogus}
 use Rattle.hickory_catalog.specs.ForwardedLaws.{CarriesSoa, HasJudgedRecords, HasSoa, IsAuthenticated, IsNotBogus, IsPlainOrAskedFor, IsProved, IsSoa}
 use Rattle.hickory_catalog.specs.Replies.{Contents, bare_contents}
@@ -90,11 +90,13 @@ found_soa : (found : AuthLookup) → (records_found found).soa ≡ None
 found_soa Empty = refl
 found_soa (Resolved found) = refl
 found_soa (Records answers additionals) = refl
+found_soa (Whole reply) = refl
 
 found_answers : (found : AuthLookup) → (records_found found).answers ≡ answers_of found
 found_answers Empty = refl
 found_answers (Resolved found) = refl
 found_answers (Records answers additionals) = refl
+found_answers (Whole reply) = refl
 
 no_answers : (name : DomainName) (e : LookupError) → (findings_of name (Err e)).answers ≡ []
 no_answers name e = elim (is_no_records_found e || is_nx_domain e) as (λ b. (cond b (nothing_found name e) (code_alone 2 (is_dnssec_bogus e))).answers ≡ []) [ true ↦ refl | false ↦ refl ]

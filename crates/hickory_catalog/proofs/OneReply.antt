@@ -1,5 +1,5 @@
 -- A query has one list of replies where each call of a handler has one answer.
-use Rattle.std.proofs.Common.{◌≡◌, ℕ, suc, Bool, true, false, List, [], ◌∷◌, map, Option, Some, None, Result, Ok, Err, refl, sym, ap, subst, ◌∙◌}
+use Rattle.std.proofs.Common.{◌≡◌, ℕ, suc, Bool, true, false, List, [], ◌∷◌, map, Option, Some, None, MatchOption, Result, Ok, Err, refl, sym, ap, subst, ◌∙◌, ◌<◌, ◌^◌}
 use Rattle.std.specs.Bool.{MatchBool}
 use Rattle.std.specs.Prelude.{◌==◌, slice_get}
 use Rattle.std.specs.List.{remove}
@@ -12,7 +12,7 @@ use Rattle.wire_messages.specs.declared.rr.rdata.RData.{RData}
 use Rattle.wire_messages.specs.declared.rr.record.Record.{Record}
 use Rattle.wire_messages.specs.declared.rr.tsig.TSIG.{TSIG}
 use Rattle.wire_messages.specs.declared.rr.tsig.TSigResponseContext.{TSigResponseContext}
-use Rattle.hickory_base.specs.zone_store.Lookups.{Flow, answers_of, result_of}
+use Rattle.hickory_base.specs.zone_store.Lookups.{Flow, answers_of, result_of, whole_reply}
 use Rattle.hickory_base.specs.requests.Requests.{ReceivedRequest, RequestInformation, information}
 use Rattle.hickory_base.specs.declared.errors.LookupError.{LookupError}
 use Rattle.hickory_base.specs.declared.zone_store.handler.NxProofKind.{NxProofKind}
@@ -23,12 +23,13 @@ use Rattle.hickory_base.specs.declared.zone_store.handler.ZoneType.TheVariants.{
 use Rattle.hickory_base.specs.declared.zone_store.lookup.AuthLookup.{AuthLookup}
 use Rattle.hickory_base.specs.declared.zone_store.lookup.LookupControlFlow.TheVariants.{Continue, Break, Skip}
 use Rattle.hickory_base.specs.declared.zone_store.lookup.LookupOptions.{LookupOptions}
+use Rattle.hickory_base.specs.declared.zone_store.lookup.WholeReply.{WholeReply}
 use Rattle.hickory_base.specs.declared.zone_store.lookup.ZoneTransfer.{ZoneTransfer}
 use Rattle.hickory_catalog.specs.Authoritative.{AuthoritativeReply, BesideAnswer, authoritative_metadata, denies, finds, negative_contents, positive_contents, refuses}
 use Rattle.hickory_catalog.specs.Denying.{DenialGiven, DenialOfNegative, is_wildcard_match, needs_denial}
 use Rattle.hickory_catalog.specs.Find.{Finds}
 use Rattle.hickory_catalog.specs.OneReply.{AnswersOnce, Given, SignsOnce, TransferGiven, transfer_wants_memory}
-use Rattle.hickory_catalog.specs.Queries.{GivenReplies, HandlerReply, QueryReplies, ZoneReplies, ZoneReply, consult_options, is_out_of_memory, lookup, no_zone, other_count, transfer, unanswered, untransferred, zone}
+use Rattle.hickory_catalog.specs.Queries.{GivenReplies, HandlerReply, QueryReplies, ReplyByType, ZoneReplies, ZoneReply, consult_options, is_out_of_memory, lookup, no_zone, other_count, transfer, unanswered, untransferred, whole_contents, zone}
 use Rattle.hickory_catalog.specs.Queries as queries
 use Rattle.hickory_catalog.specs.Replies.{Contents, bare_contents}
 use Rattle.hickory_catalog.specs.ReplyEdns.{with_high_code}
@@ -164,10 +165,19 @@ module _ {H : Type 0} (handler : Ghosts H) (once : AnswersOnce handler) (request
         let beside : b ≡ c = beside_once (options_of request) found b c bf cf bg cg in
         is ∙ ap (λ (z : Flow). positive_contents request.message.metadata query.query_type found z) beside ∙ sym are
 
+    typed_once : (zone_type : ZoneType) (result : Result AuthLookup LookupError) (one other : Contents) → ReplyByType handler h zone_type request query result one → ReplyByType handler h zone_type request query result other → one ≡ other
+    typed_once Primary result one other r s = authoritative_once result one other r s
+    typed_once Secondary result one other r s = authoritative_once result one other r s
+    typed_once External result one other r s = r ∙ sym s
+
     handler_once : (zone_type : ZoneType) (result : Result AuthLookup LookupError) (one other : Contents) → HandlerReply handler h zone_type request query result one → HandlerReply handler h zone_type request query result other → one ≡ other
-    handler_once Primary result one other r s = authoritative_once result one other r s
-    handler_once Secondary result one other r s = authoritative_once result one other r s
-    handler_once External result one other r s = r ∙ sym s
+    handler_once zone_type result one other r s = once_of (whole_reply result) r s where
+      once_of : (reply : Option WholeReply)
+          → MatchOption reply (ReplyByType handler h zone_type request query result one) (λ w. (one ≡ whole_contents request.message.metadata w) × (w.response_code < 2 ^ 12))
+          → MatchOption reply (ReplyByType handler h zone_type request query result other) (λ w. (other ≡ whole_contents request.message.metadata w) × (w.response_code < 2 ^ 12))
+          → one ≡ other
+      once_of None r s = typed_once zone_type result one other r s
+      once_of (Some reply) r s = r.0 ∙ sym s.0
 
 module _ {H : Type 0} (server : Server H) (once : AnswersOnce server.handler) (signs : SignsOnce server.signer) (request : ReceivedRequest) (edns : Option EdnsFields) (now : ℕ) (one other : Reply) where
   zone_once : (chain : List H) (query : Query) → ZoneReply server chain request edns now query one → ZoneReply server chain request edns now query other → one ≡ other

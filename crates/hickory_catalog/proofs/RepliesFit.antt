@@ -1,5 +1,5 @@
 -- Each reply to a query or an update is a reply to its request.
-use Rattle.std.proofs.Common.{◌≡◌, ℕ, ◌<◌, ◌^◌, ◌||◌, nat_eq, Bool, true, false, cond, List, [], ◌∷◌, map, Option, Result, Ok, Err, refl, sym, ap, subst, ◌∙◌, arith}
+use Rattle.std.proofs.Common.{◌≡◌, ℕ, ◌<◌, ◌^◌, ◌||◌, nat_eq, Bool, true, false, cond, List, [], ◌∷◌, map, Option, Some, None, MatchOption, Result, Ok, Err, refl, sym, ap, subst, ◌∙◌, arith}
 use Rattle.std.specs.Prelude.{◌==◌}
 use Rattle.std.specs.List.{AllByRecursion}
 use Rattle.std.proofs.lemmas.Bool.Decides.{nat_tests}
@@ -20,13 +20,15 @@ use Rattle.hickory_base.specs.declared.zone_store.handler.ZoneHandler.{Ghosts}
 use Rattle.hickory_base.specs.declared.zone_store.handler.ZoneType.{ZoneType}
 use Rattle.hickory_base.specs.declared.zone_store.handler.ZoneType.TheVariants.{Primary, Secondary, External}
 use Rattle.hickory_base.specs.declared.zone_store.lookup.AuthLookup.{AuthLookup}
+use Rattle.hickory_base.specs.declared.zone_store.lookup.WholeReply.{WholeReply}
 use Rattle.hickory_base.specs.declared.zone_store.lookup.ZoneTransfer.{ZoneTransfer}
+use Rattle.hickory_base.specs.zone_store.Lookups.{whole_reply}
 use Rattle.hickory_catalog.specs.Authoritative.{AuthoritativeReply, refuses, denies, finds}
 use Rattle.hickory_catalog.specs.AuthoritativeLaws.{AuthoritativeCodes}
 use Rattle.hickory_catalog.specs.DecodedReplies.{IsReplyHeader, RepliesTo}
 use Rattle.hickory_catalog.specs.Forwarded.{findings_contents, findings_of, forwarded_contents, forwarded_metadata, is_authentic, validated}
 use Rattle.hickory_catalog.specs.ForwardedLaws.{ForwardedCodes, is_one_of}
-use Rattle.hickory_catalog.specs.Queries.{GivenReplies, HandlerReply, QueryReplies, ZoneReplies, ZoneReply, lookup, no_zone, one, other_count, split, transfer, unanswered, untransferred, whole, zone}
+use Rattle.hickory_catalog.specs.Queries.{GivenReplies, HandlerReply, QueryReplies, ReplyByType, ZoneReplies, ZoneReply, lookup, no_zone, one, other_count, split, transfer, unanswered, untransferred, whole, whole_contents, zone}
 use Rattle.hickory_catalog.specs.Replies.{Contents, bare_contents, error_reply, unsigned_reply}
 use Rattle.hickory_catalog.specs.ReplyEdns.{with_high_code}
 use Rattle.hickory_catalog.specs.Server.{Server}
@@ -106,10 +108,18 @@ module _ (request : ReceivedRequest) (query : Query) (contents : Contents) where
     authoritative_fits _ (denies _ _ _ _ _ _ _ is) small = known _ is small refl refl refl
     authoritative_fits _ (finds _ _ _ is) small = known _ is small refl refl refl
 
+    typed_fits : ForwardedCodes → (zone_type : ZoneType) (result : Result AuthLookup LookupError) → ReplyByType handler h zone_type request query result contents → IsReplyHeader request.message.metadata contents.metadata
+    typed_fits forwarded Primary result r = authoritative_fits result r (coded result r)
+    typed_fits forwarded Secondary result r = authoritative_fits result r (coded result r)
+    typed_fits forwarded External result is = forwarded_fits forwarded (handler.validates_dnssec h) result is
+
     handler_fits : ForwardedCodes → (zone_type : ZoneType) (result : Result AuthLookup LookupError) → HandlerReply handler h zone_type request query result contents → IsReplyHeader request.message.metadata contents.metadata
-    handler_fits forwarded Primary result r = authoritative_fits result r (coded result r)
-    handler_fits forwarded Secondary result r = authoritative_fits result r (coded result r)
-    handler_fits forwarded External result is = forwarded_fits forwarded (handler.validates_dnssec h) result is
+    handler_fits forwarded zone_type result r = fits (whole_reply result) r where
+      fits : (reply : Option WholeReply)
+          → MatchOption reply (ReplyByType handler h zone_type request query result contents) (λ w. (contents ≡ whole_contents request.message.metadata w) × (w.response_code < 2 ^ 12))
+          → IsReplyHeader request.message.metadata contents.metadata
+      fits None r = typed_fits forwarded zone_type result r
+      fits (Some reply) r = fits_by r.0 (record { id = refl; op_code = refl; response_code = r.1; untruncated = refl })
 
 -- one reply that fits, as a list
 fits_alone : (request : MessageRequest) (edns : Option EdnsFields) (reply : Reply) (replies : List Reply) → replies ≡ reply ∷ [] → RepliesTo request edns reply → AllByRecursion (RepliesTo request edns) replies

@@ -1,12 +1,14 @@
 -- Which replies a query gets.
-use Rattle.std.specs.Prelude.{◌≡◌, ◌==◌, ℕ, Bool, true, false, List, [], ◌∷◌, slice_get, Option, Some, None, Result, Ok, Err}
+use Rattle.std.specs.Prelude.{◌≡◌, ◌==◌, ◌<◌, ◌^◌, ℕ, Bool, true, false, List, [], ◌∷◌, slice_get, Option, Some, None, MatchOption, Result, Ok, Err}
 use Rattle.wire_names.specs.rr.domain.DomainName.{DomainName}
 use Rattle.wire_messages.specs.op.EdnsFields.{EdnsFields}
 use Rattle.wire_names.specs.rr.domain.NameOrder.{lower_name}
 use Rattle.wire_messages.specs.serialize.writing.Reply.{Reply}
+use Rattle.wire_messages.specs.op.Metadata.{response_to}
+use Rattle.wire_messages.specs.declared.op.header.Metadata.{Metadata}
 use Rattle.wire_messages.specs.declared.op.query.Query.{Query}
 use Rattle.wire_messages.specs.declared.rr.tsig.TSigResponseContext.{TSigResponseContext}
-use Rattle.hickory_base.specs.zone_store.Lookups.{Flow, asks_for_dnssec, result_of}
+use Rattle.hickory_base.specs.zone_store.Lookups.{Flow, asks_for_dnssec, result_of, whole_reply}
 use Rattle.hickory_base.specs.requests.Questions.{one_query}
 use Rattle.hickory_base.specs.requests.Requests.{ReceivedRequest, information}
 use Rattle.hickory_base.specs.declared.errors.LookupError.{LookupError}
@@ -15,6 +17,7 @@ use Rattle.hickory_base.specs.declared.zone_store.handler.ZoneType.{ZoneType}
 use Rattle.hickory_base.specs.declared.zone_store.handler.ZoneType.TheVariants.{Primary, Secondary, External}
 use Rattle.hickory_base.specs.declared.zone_store.lookup.AuthLookup.{AuthLookup}
 use Rattle.hickory_base.specs.declared.zone_store.lookup.LookupOptions.{LookupOptions}
+use Rattle.hickory_base.specs.declared.zone_store.lookup.WholeReply.{WholeReply}
 use Rattle.hickory_base.specs.declared.zone_store.lookup.ZoneTransfer.{ZoneTransfer}
 use Rattle.hickory_catalog.specs.Authoritative.{AuthoritativeReply}
 use Rattle.hickory_catalog.specs.Find.{Finds}
@@ -29,12 +32,27 @@ use Rattle.hickory_catalog.specs.Transfers.{AreTransferReplies, TransferAsked, i
 abbrev pub consult_options : Option EdnsFields → LookupOptions
 consult_options edns = record { dnssec_ok = asks_for_dnssec edns }
 
--- What a handler that was asked replies to what the chain answered in the end: a primary or a secondary server answers of its zone,
--- any other passes on what it was told.
+-- What a handler that was asked replies to what the chain answered in the end, where that is not the whole reply: a primary or a secondary
+-- server answers of its zone, any other passes on what it was told.
+abbrev pub ReplyByType : {H : Type 0} → Ghosts H → H → ZoneType → ReceivedRequest → Query → Result AuthLookup LookupError → Contents → Type 0
+ReplyByType handler h Primary request query result contents = AuthoritativeReply handler h request query contents result
+ReplyByType handler h Secondary request query result contents = AuthoritativeReply handler h request query contents result
+ReplyByType handler h External request query result contents = contents ≡ forwarded_contents request.message query (handler.validates_dnssec h) result
+
+-- What a reply says that a handler has whole: its code, AA and sections, as they are. RA, AD and TC are clear (RFC 1035 section 4.1.1).
+abbrev pub whole_contents : Metadata → WholeReply → Contents
+whole_contents request reply = record {
+  metadata = record (response_to request) { authoritative = reply.authoritative; response_code = reply.response_code };
+  answers = reply.answers;
+  authorities = reply.authorities;
+  additionals = reply.additionals;
+}
+
+-- What is replied to what the chain answered in the end: the whole reply, if it is one, whatever the handler that was asked is to the zone. Its
+-- code has twelve bits (RFC 6891 section 6.1.3).
 abbrev pub HandlerReply : {H : Type 0} → Ghosts H → H → ZoneType → ReceivedRequest → Query → Result AuthLookup LookupError → Contents → Type 0
-HandlerReply handler h Primary request query result contents = AuthoritativeReply handler h request query contents result
-HandlerReply handler h Secondary request query result contents = AuthoritativeReply handler h request query contents result
-HandlerReply handler h External request query result contents = contents ≡ forwarded_contents request.message query (handler.validates_dnssec h) result
+HandlerReply handler h zone_type request query result contents = MatchOption (whole_reply result) (ReplyByType handler h zone_type request query result contents)
+    (λ reply. (contents ≡ whole_contents request.message.metadata reply) × (reply.response_code < 2 ^ 12))
 
 -- the answer says that memory was refused
 abbrev pub is_out_of_memory : {T : Type 0} → Result T LookupError → Bool

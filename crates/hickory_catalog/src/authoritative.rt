@@ -87,6 +87,10 @@ fn take_records(alloc: Global, found: &mut AuthLookup) -> (Items<Record>, Items<
             let answers = mem::replace(answers, Items::new(alloc));
             (answers, mem::replace(additionals, Items::new(alloc)))
         }
+        AuthLookup::Whole(reply) => {
+            let answers = mem::replace(&mut reply.answers, Items::new(alloc));
+            (answers, Items::new(alloc))
+        }
     }
 }
 

@@ -19,6 +19,7 @@ pub(crate) fn answers(found: &AuthLookup) -> &[Record]
         AuthLookup::Empty => &[],
         AuthLookup::Resolved(found) => found.answers.as_slice(),
         AuthLookup::Records { answers, .. } => answers.as_slice(),
+        AuthLookup::Whole(reply) => reply.answers.as_slice(),
     }
 }
 

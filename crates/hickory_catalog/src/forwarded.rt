@@ -9,7 +9,7 @@ ghost use Rattle.hickory_catalog.specs.Replies.{contents_of};
 use crate::contents::ReplyContents;
 use hickory_base::errors::{DnsError, LookupError};
 use hickory_base::message_request::MessageRequest;
-use hickory_base::zone_store::{AuthLookup, LookupOptions};
+use hickory_base::zone_store::{AuthLookup, LookupOptions, WholeReply};
 use hickory_wire::{
     Boxed, Items, LowerQuery, Metadata, Name, Proof, Record, RecordType, ResponseCode,
 };
@@ -60,14 +60,16 @@ fn records_found(alloc: Global, found: AuthLookup) -> Findings
             additionals: found.additionals,
             is_bogus: false,
         },
-        AuthLookup::Records { answers, .. } => Findings {
-            code: ResponseCode::NO_ERROR,
-            answers,
-            authorities: Items::new(alloc),
-            soa: None,
-            additionals: Items::new(alloc),
-            is_bogus: false,
-        },
+        AuthLookup::Records { answers, .. } | AuthLookup::Whole(WholeReply { answers, .. }) => {
+            Findings {
+                code: ResponseCode::NO_ERROR,
+                answers,
+                authorities: Items::new(alloc),
+                soa: None,
+                additionals: Items::new(alloc),
+                is_bogus: false,
+            }
+        }
     }
 }
 

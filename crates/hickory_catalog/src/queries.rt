@@ -1,13 +1,13 @@
 //! From a query to its replies.
 
-ghost use Rattle.std.specs.Prelude.{◌≡◌, ◌==◌, ◌<◌, true, false, List, Option, IfOk, IfErr, IfSome, IsSome, Some, length, slice_get};
+ghost use Rattle.std.specs.Prelude.{◌≡◌, ◌==◌, ◌<◌, ◌^◌, true, false, List, Option, IfOk, IfErr, IfSome, IsSome, Some, length, slice_get};
 ghost use Rattle.wire_messages.specs.op.EdnsFields.{EdnsFields};
 ghost use Rattle.wire_messages.specs.serialize.writing.Reply.{Reply};
 ghost use Rattle.hickory_base.specs.zone_store.Lookups.{result_of};
 ghost use Rattle.hickory_base.specs.requests.Requests.{information};
 ghost use Rattle.hickory_base.specs.responses.Responses.{header_of};
 ghost use Rattle.hickory_catalog.specs.Forwarded.{forwarded_contents};
-ghost use Rattle.hickory_catalog.specs.Queries.{GivenReplies, HandlerReply, QueryReplies, ZoneReplies, ZoneReply, consult_options, is_out_of_memory};
+ghost use Rattle.hickory_catalog.specs.Queries.{GivenReplies, HandlerReply, QueryReplies, ReplyByType, ZoneReplies, ZoneReply, consult_options, is_out_of_memory, whole_contents};
 ghost use Rattle.hickory_catalog.specs.Replies.{Contents, contents_of, lent_contents, unsigned_reply};
 ghost use Rattle.hickory_catalog.specs.Sending.{IsUntouched, Sends, SendsInOrder};
 ghost use Rattle.hickory_catalog.specs.Server.{server_of};
@@ -29,9 +29,11 @@ use crate::transfers::{ask_for_transfer, split_records, transfer_contents};
 use hickory_base::errors::{CatalogError, LookupError};
 use hickory_base::server::{Request, RequestInfo, ResponseHandler, ResponseInfo};
 use hickory_base::zone_store::{
-    AuthLookup, LookupControlFlow, LookupOptions, ZoneHandler, ZoneTransfer, ZoneType,
+    AuthLookup, LookupControlFlow, LookupOptions, WholeReply, ZoneHandler, ZoneTransfer, ZoneType,
 };
-use hickory_wire::{Edns, LowerQuery, RecordType, ResponseCode, TSigResponseContext};
+use hickory_wire::{
+    Edns, Items, LowerQuery, Metadata, RecordType, ResponseCode, TSigResponseContext,
+};
 use std::alloc::Global;
 use std::mem;
 
@@ -76,6 +78,23 @@ fn external_contents<H: ZoneHandler>(
     forwarded_contents(alloc, request.message(), query, validates, outcome)
 }
 
+/// What a reply says that a handler has whole, whose records are taken out.
+fn whole_contents(alloc: Global, request: &Metadata, reply: &mut WholeReply) -> ReplyContents
+    ensures says { contents_of result ≡ whole_contents request.now reply.old }
+    ensures in_range { reply.old.response_code < 2 ^ 12 }
+{
+    // That a code has twelve bits is known of one whose number was looked at.
+    let _ = reply.response_code.value();
+    let mut metadata = Metadata::response_from_request(request);
+    metadata.authoritative = reply.authoritative;
+    metadata.response_code = reply.response_code;
+    let mut contents = ReplyContents::bare(alloc, metadata);
+    contents.answers = mem::replace(&mut reply.answers, Items::new(alloc));
+    contents.authorities = mem::replace(&mut reply.authorities, Items::new(alloc));
+    contents.additionals = mem::replace(&mut reply.additionals, Items::new(alloc));
+    contents
+}
+
 /// What the handler that was asked replies to what the chain answered in the end, whose records may be taken out.
 fn handler_contents<H: ZoneHandler>(
     handler: &H,
@@ -91,6 +110,23 @@ fn handler_contents<H: ZoneHandler>(
     if is_out_of_memory(outcome) {
         return Err(CatalogError::Memory);
     }
+    match outcome {
+        Ok(AuthLookup::Whole(reply)) => Ok(whole_contents(alloc, request.metadata(), reply)),
+        other => contents_by_type(handler, alloc, request, query, other),
+    }
+}
+
+/// The same where that is not the whole reply.
+fn contents_by_type<H: ZoneHandler>(
+    handler: &H,
+    alloc: Global,
+    request: &Request,
+    query: &LowerQuery,
+    outcome: &mut Result<AuthLookup, LookupError>,
+) -> Result<ReplyContents, CatalogError>
+    ensures replied { IfOk result (λ contents. ReplyByType H.ZoneHandler handler.now (H.zone_type_of handler.now) request.now query.now outcome.old (contents_of contents)) }
+    ensures refused { IfErr result (λ e. e ≡ CatalogError.Memory) }
+{
     match handler.zone_type() {
         ZoneType::Primary | ZoneType::Secondary => {
             authoritative_contents(handler, alloc, request, query, outcome)

@@ -7,7 +7,7 @@ pub use hickory_base::message_sameness::message_comparisons;
 pub use hickory_base::update_request::UpdateRequest;
 pub use hickory_base::zone_store::{
     AuthLookup, AxfrPolicy, Lookup, LookupControlFlow, LookupOptions, Nsec3QueryInfo, NxProofKind,
-    StoredAnswer, ZoneHandler, ZoneTransfer, ZoneType,
+    StoredAnswer, WholeReply, ZoneHandler, ZoneTransfer, ZoneType,
 };
 pub use hickory_base::{message_request, message_response, update_request};
 pub use hickory_catalog::catalog::Catalog;

@@ -7,10 +7,11 @@ use Rattle.hickory_base.specs.declared.errors.DnsError.TheVariants.{NoRecords}
 use Rattle.hickory_base.specs.declared.errors.LookupError.{LookupError}
 use Rattle.hickory_base.specs.declared.errors.LookupError.TheVariants.{ResponseCode, Net}
 use Rattle.hickory_base.specs.declared.zone_store.lookup.AuthLookup.{AuthLookup}
-use Rattle.hickory_base.specs.declared.zone_store.lookup.AuthLookup.TheVariants.{Empty, Resolved, Records}
+use Rattle.hickory_base.specs.declared.zone_store.lookup.AuthLookup.TheVariants.{Empty, Resolved, Records, Whole}
 use Rattle.hickory_base.specs.declared.zone_store.lookup.LookupControlFlow.{LookupControlFlow}
 use Rattle.hickory_base.specs.declared.zone_store.lookup.LookupControlFlow.TheVariants.{Continue, Break, Skip}
 use Rattle.hickory_base.specs.declared.zone_store.lookup.StoredAnswer.{StoredAnswer}
+use Rattle.hickory_base.specs.declared.zone_store.lookup.WholeReply.{WholeReply}
 use Rattle.hickory_base.specs.declared.zone_store.lookup.StoredAnswer.TheVariants as stored
 
 -- the flag DO (RFC 3225 section 3)
@@ -41,6 +42,7 @@ abbrev pub answers_of : AuthLookup → List (Record RData)
 answers_of Empty = []
 answers_of (Resolved found) = found.answers
 answers_of (Records answers additionals) = answers
+answers_of (Whole reply) = reply.answers
 
 -- the additionals of records of the zone
 abbrev pub additionals_of : AuthLookup → Option (List (Record RData))
@@ -51,6 +53,11 @@ additionals_of other = None
 abbrev pub without_additionals : AuthLookup → AuthLookup
 without_additionals (Records answers additionals) = Records answers []
 without_additionals other = other
+
+-- the whole reply that a handler answers, if it does
+abbrev pub whole_reply : Result AuthLookup LookupError → Option WholeReply
+whole_reply (Ok (Whole reply)) = Some reply
+whole_reply other = None
 
 -- The result that a stored answer stands for: the records; NXDomain, which is 3, where the name has none (RFC 2308 section 2.1); NoError without records where it has
 -- others (section 2.2).

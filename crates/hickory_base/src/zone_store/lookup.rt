@@ -6,7 +6,7 @@ ghost use Rattle.std.specs.Slice.Iter.{iter_rest};
 ghost use Rattle.hickory_base.specs.zone_store.Lookups.{asks_for_dnssec, result_of, is_continue, is_break, answers_of, additionals_of, without_additionals};
 
 use crate::errors::LookupError;
-use hickory_wire::{Edns, Items, Query, Record};
+use hickory_wire::{Edns, Items, Query, Record, ResponseCode};
 use std::mem;
 use std::slice::Iter;
 
@@ -82,6 +82,21 @@ pub struct Lookup {
     pub additionals: Items<Record>,
 }
 
+/// A reply as a handler has it, but for what is the request's: its id, opcode, RD and CD, its question and its EDNS.
+#[derive(Debug, Drop)]
+pub struct WholeReply {
+    /// The response code. Its high eight bits go into the OPT record, if there is one (RFC 6891 section 6.1.3).
+    pub response_code: ResponseCode,
+    /// Whether the reply is authority's word, by AA (RFC 1035 section 4.1.1).
+    pub authoritative: bool,
+    /// The answer section.
+    pub answers: Items<Record>,
+    /// The authority section.
+    pub authorities: Items<Record>,
+    /// The additional section, without the OPT record.
+    pub additionals: Items<Record>,
+}
+
 /// What a lookup found.
 #[derive(Debug, Drop)]
 pub enum AuthLookup {
@@ -96,6 +111,8 @@ pub enum AuthLookup {
         /// Those that help to use them.
         additionals: Items<Record>,
     },
+    /// The whole reply, whatever the handler is to the zone: nothing more is looked up for it.
+    Whole(WholeReply),
 }
 
 impl AuthLookup {
@@ -107,6 +124,7 @@ impl AuthLookup {
             AuthLookup::Empty => &[],
             AuthLookup::Resolved(found) => found.answers.as_slice(),
             AuthLookup::Records { answers, .. } => answers.as_slice(),
+            AuthLookup::Whole(reply) => reply.answers.as_slice(),
         };
         answers.iter()
     }
