@@ -1,6 +1,6 @@
 //! What a server that asked elsewhere replies.
 
-ghost use Rattle.std.specs.Prelude.{◌≡◌, filter, option_to_list};
+ghost use Rattle.std.specs.Prelude.{◌≡◌, false, filter, option_to_list};
 ghost use Rattle.std.specs.List.{list_all, list_any};
 ghost use Rattle.hickory_base.specs.zone_store.Lookups.{asks_for_dnssec};
 ghost use Rattle.hickory_catalog.specs.Forwarded.{code_alone, findings_contents, findings_of, forwarded_code, forwarded_contents, forwarded_metadata, has_name, is_authentic, is_bogus, is_bogus_proof, is_dnssec_bogus, is_dnssec_type, is_named, is_no_soa, is_passed_on, is_secure, is_secure_proof, nothing_found, passed_on, records_found, seen_findings, validated, without_bogus};
@@ -9,7 +9,7 @@ ghost use Rattle.hickory_catalog.specs.Replies.{contents_of};
 use crate::contents::ReplyContents;
 use hickory_base::errors::{DnsError, LookupError};
 use hickory_base::message_request::MessageRequest;
-use hickory_base::zone_store::{AuthLookup, LookupOptions, WholeReply};
+use hickory_base::zone_store::{AuthLookup, LookupOptions};
 use hickory_wire::{
     Boxed, Items, LowerQuery, Metadata, Name, Proof, Record, RecordType, ResponseCode,
 };
@@ -46,6 +46,15 @@ fn code_alone(alloc: Global, code: ResponseCode, is_bogus: bool) -> Findings
     }
 }
 
+/// Answers, without a response code and anything else.
+fn answers_alone(alloc: Global, answers: Items<Record>) -> Findings
+    ensures { seen_findings result ≡ record (code_alone 0 false) { answers = answers } }
+{
+    let mut findings = code_alone(alloc, ResponseCode::NO_ERROR, false);
+    findings.answers = answers;
+    findings
+}
+
 /// What there is to pass on of records that were found.
 fn records_found(alloc: Global, found: AuthLookup) -> Findings
     ensures { seen_findings result ≡ records_found found }
@@ -60,16 +69,8 @@ fn records_found(alloc: Global, found: AuthLookup) -> Findings
             additionals: found.additionals,
             is_bogus: false,
         },
-        AuthLookup::Records { answers, .. } | AuthLookup::Whole(WholeReply { answers, .. }) => {
-            Findings {
-                code: ResponseCode::NO_ERROR,
-                answers,
-                authorities: Items::new(alloc),
-                soa: None,
-                additionals: Items::new(alloc),
-                is_bogus: false,
-            }
-        }
+        AuthLookup::Records { answers, .. } => answers_alone(alloc, answers),
+        AuthLookup::Whole(reply) => answers_alone(alloc, reply.answers),
     }
 }
 

@@ -1,7 +1,7 @@
 //! What a server that holds the zone replies with records where they lie in it.
 
 ghost use Rattle.std.specs.Prelude.{◌≡◌, ◌==◌, false, [], IfSome, None, Ok, Err, Result};
-ghost use Rattle.hickory_base.specs.zone_store.Lookups.{Flow, stored_result};
+ghost use Rattle.hickory_base.specs.zone_store.Lookups.{Flow, stored_result, whole_reply};
 ghost use Rattle.hickory_base.specs.declared.errors.LookupError.{LookupError};
 ghost use Rattle.hickory_base.specs.declared.zone_store.lookup.AuthLookup.{AuthLookup};
 ghost use Rattle.hickory_base.specs.declared.zone_store.lookup.AuthLookup.TheVariants.{Records};
@@ -62,7 +62,7 @@ fn stored_reply<'z, H: ZoneHandler>(
     query: &LowerQuery,
 ) -> Option<LentContents<'z>>
     ensures { IfSome result (λ contents. (answer : Result AuthLookup LookupError) × H.search_gives handler.now request.now (options_of request.now) (Continue answer) None ×
-        (is_out_of_memory answer ≡ false) × AuthoritativeReply H.ZoneHandler handler.now request.now query.now (lent_contents contents) answer) }
+        (is_out_of_memory answer ≡ false) × (whole_reply answer ≡ None) × AuthoritativeReply H.ZoneHandler handler.now request.now query.now (lent_contents contents) answer) }
 {
     if handler.nx_proof_kind().is_some() {
         return None;

@@ -16,6 +16,7 @@ returns-in-Records g c =
       Ok (Records c.in-Records.records.now []),
       gives,
       refl,
+      refl,
       found_stored g.H.ZoneHandler c.args.handler.now c.args.request.now c.args.query.now cannot c.in-Records.records.now (lent_contents contents)
           (rw c.query_type.ensures at other) (rw (c.metadata.ensures, c.query_type.ensures) at says),
     ))
@@ -29,6 +30,7 @@ returns-in-NoName g c =
       Err (ResponseCode 3),
       gives,
       refl,
+      refl,
       denied_stored g.H.ZoneHandler c.args.handler.now c.args.request.now c.args.query.now cannot (ResponseCode 3) w.0 (lent_contents contents) refl w.1 w.2 (w.3 (ResponseCode 3) refl),
     ))
 
@@ -40,6 +42,7 @@ returns-in-NoData g c =
     (λ contents w. (
       Err (Net (NoRecords 0 [] None)),
       gives,
+      refl,
       refl,
       denied_stored g.H.ZoneHandler c.args.handler.now c.args.request.now c.args.query.now cannot (Net (NoRecords 0 [] None)) w.0 (lent_contents contents) refl w.1 w.2 (w.3 (Net (NoRecords 0 [] None)) refl),
     ))
