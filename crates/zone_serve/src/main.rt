@@ -1,5 +1,5 @@
 //! A server of zones for whoever owns the sockets: `zone_serve [--zone NAME=FILE].. [--blocklist FILE].. [--allow NET].. [--deny NET]..
-//! [--nsid TEXT] udp|tcp|lines` answers what the standard input brings on the standard output, and tells on the standard error why it
+//! [--nsid TEXT] [--max-udp N] udp|tcp|lines` answers what the standard input brings on the standard output, and tells on the standard error why it
 //! ends before its input does.
 //!
 //! `udp`: the input is one datagram. `tcp`: it is messages behind their lengths (RFC 1035 section 4.2.2), and each is answered as soon
@@ -8,7 +8,9 @@
 //! file is not taken.
 #![tactic(auto)]
 
+mod answer;
 mod arguments;
+mod datagrams;
 mod fault;
 mod frames;
 mod handler;
@@ -23,7 +25,7 @@ use crate::arguments::{ArgumentFault, Mode, Settings, ZoneArgument};
 use crate::fault::Fault;
 use crate::handler::Handler;
 use crate::keys::NoKeys;
-use crate::server::{Zones, access, apex, chain, identifier, put_chain};
+use crate::server::{Zones, apex, chain, identifier, put_chain, rules_of};
 use crate::serving::{serve_datagram, serve_lines, serve_stream};
 use crate::zones::{ZoneFault, read_zone};
 use hickory_server::proto::Name;
@@ -182,17 +184,15 @@ fn serve<R: Files + Env + Clock + Input + Print + Alloc<A = Global>>(
     address: IpAddr,
 ) -> Result<(), Fault> {
     let alloc = rt.alloc();
-    let access = access(alloc, settings)?;
+    let rules = rules_of(alloc, settings)?;
     let mut catalog = catalog(rt, settings)?;
     let zones = &mut catalog;
     let mut reader = rt.reader();
     let mut writer = io::writer(rt);
     match settings.mode {
-        Mode::Udp => {
-            serve_datagram(alloc, rt, &access, zones, address, &mut reader, &mut writer)
-        }
-        Mode::Tcp => serve_stream(alloc, rt, &access, zones, address, &mut reader, &mut writer),
-        Mode::Lines => serve_lines(alloc, rt, &access, zones, &mut reader, &mut writer),
+        Mode::Udp => { serve_datagram(alloc, rt, &rules, zones, address, &mut reader, &mut writer) }
+        Mode::Tcp => serve_stream(alloc, rt, &rules, zones, address, &mut reader, &mut writer),
+        Mode::Lines => serve_lines(alloc, rt, &rules, zones, &mut reader, &mut writer),
     }
 }
 

@@ -11,15 +11,36 @@ use hickory_server::zone_handler::Catalog;
 use std::alloc::{AllocError, Global};
 use std::rc::Rc;
 
+/// How many bytes a reply over UDP has at most where the arguments say nothing: what IPv6 carries in one piece everywhere, of which 48 bytes are
+/// headers (RFC 8200 sections 3 and 5, RFC 768).
+const MAX_UDP: u16 = 1232;
+
 /// A catalog of this program.
 pub type Zones = Catalog<NoKeys, Handler>;
 
+/// What holds of every message.
+#[derive(Drop)]
+pub struct Rules {
+    /// Who may use the server.
+    pub access: AccessControl,
+    /// How many bytes a reply over UDP has at most.
+    pub max_udp: u16,
+}
+
 /// The access list that the arguments ask for.
-pub fn access(alloc: Global, settings: &Settings<'_>) -> Result<AccessControl, AllocError> {
+fn access(alloc: Global, settings: &Settings<'_>) -> Result<AccessControl, AllocError> {
     let mut access = AccessControl::new(alloc);
     access.insert_deny(&settings.denied)?;
     access.insert_allow(&settings.allowed)?;
     Ok(access)
+}
+
+/// The rules that the arguments ask for.
+pub fn rules_of(alloc: Global, settings: &Settings<'_>) -> Result<Rules, AllocError> {
+    Ok(Rules {
+        access: access(alloc, settings)?,
+        max_udp: settings.max_udp.unwrap_or(MAX_UDP),
+    })
 }
 
 /// The name of the apex of a zone, with or without a dot at its end; the root is a dot alone. `place` tells which argument it is.
