@@ -17,6 +17,7 @@ use Rattle.hickory_server.specs.declared.server.serve.Incoming.{Incoming}
 use Rattle.hickory_server.specs.declared.server.serve.Outcome.{Outcome}
 use Rattle.hickory_server.specs.declared.server.serve.Outcome.TheVariants.{Replies}
 use Rattle.hickory_server.specs.declared.server.serve.ServeError.{ServeError}
+use Rattle.hickory_server.specs.declared.server.serve.ServeError.TheVariants as serve_error
 use Rattle.zone_reply.specs.Command.{transport_of, refusal_line, refusal_status}
 use Rattle.zone_reply.specs.declared.command.Refusal.{Refusal}
 use Rattle.zone_reply.specs.declared.command.Refusal.TheVariants.{Usage, NotHex, Unreadable, Memory}
@@ -52,7 +53,7 @@ pub record Fails {H : Type 0} (server : Server H) (protocol : Protocol) (bytes :
   pub access : AccessSets
   pub is_open : IsOpen access
   pub e : ServeError
-  pub left : LeavesUnserved access server message e zones
+  pub left : LeavesUnserved access server message e zones ⊎ ((e ≡ serve_error.Memory) × (zones ≡ server.zones))
 
 -- The zones after a message: as before, or as it left them, with its outcome or without memory for it. Only an update changes any.
 abbrev pub MessageLeft : {H : Type 0} → Server H → Protocol → List ℕ → List (DomainName × List H) → Type 0
