@@ -14,7 +14,6 @@ mod datagrams;
 mod fault;
 mod frames;
 mod handler;
-mod keys;
 mod lines;
 mod peer;
 mod server;
@@ -24,15 +23,16 @@ mod zones;
 use crate::arguments::{ArgumentFault, Mode, Settings, ZoneArgument};
 use crate::fault::Fault;
 use crate::handler::Handler;
-use crate::keys::NoKeys;
 use crate::server::{Zones, apex, chain, identifier, put_chain, rules_of};
 use crate::serving::{serve_datagram, serve_lines, serve_stream};
-use crate::zones::{ZoneFault, read_zone};
+use crate::zones::{ZoneFault, zone_of_file};
 use hickory_server::proto::Name;
+use hickory_server::server::NoKeys;
 use hickory_server::store::blocklist::{
     AddError, BlocklistConfig, BlocklistConsultAction, BlocklistZoneHandler, CountedReader,
 };
 use hickory_server::zone_handler::Catalog;
+use hickory_server::zone_store::Either;
 use std::alloc::Global;
 use std::env::VarError;
 use std::net::{IpAddr, Ipv4Addr};
@@ -83,7 +83,7 @@ fn load_zone<R: Files + Alloc<A = Global>>(
     file: &str,
 ) -> Result<Handler, ZoneFault> {
     match fs::read(rt, file) {
-        Ok(bytes) => Ok(Handler::Zone(read_zone(rt.alloc(), apex, &bytes)?)),
+        Ok(bytes) => Ok(Either::Left(zone_of_file(rt.alloc(), apex, &bytes)?)),
         Err(e) => match e.kind() {
             io::ErrorKind::OutOfMemory => Err(ZoneFault::Memory),
             _ => Err(ZoneFault::Unreadable),

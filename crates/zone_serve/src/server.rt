@@ -3,11 +3,12 @@
 use crate::arguments::{ArgumentFault, Settings};
 use crate::fault::Fault;
 use crate::handler::Handler;
-use crate::keys::NoKeys;
 use hickory_server::access::AccessControl;
 use hickory_server::proto::{LowerName, NSIDPayload, Name, NameError};
+use hickory_server::server::NoKeys;
 use hickory_server::store::blocklist::BlocklistZoneHandler;
 use hickory_server::zone_handler::Catalog;
+use hickory_server::zone_store::Either;
 use std::alloc::{AllocError, Global};
 use std::rc::Rc;
 
@@ -83,7 +84,7 @@ pub fn chain(
     let mut chain = Vec::new(alloc);
     chain.push(zone)?;
     if let Some(list) = list {
-        chain.push(Handler::Blocklist(list.clone()?))?;
+        chain.push(Either::Right(list.clone()?))?;
     }
     Ok(chain)
 }
