@@ -2,7 +2,7 @@
 use Rattle.std.specs.Prelude.{◌≡◌, ◌⊎◌, ◌++◌, ◌∷◌, [], ℕ, List, Option, Some, None, IfSome, IsSome, Result, Ok, Err, Contains}
 use Rattle.std.specs.Global.{Vec}
 use Rattle.std.specs.List.{flat_map}
-use Rattle.std.specs.Io.BufRead.{first_piece}
+use Rattle.std.specs.Io.BufRead.{first_line}
 use Rattle.std.specs.declared.net.SocketAddr.{SocketAddr}
 use Rattle.std.specs.declared.net.SocketAddr.TheVariants.{V4}
 use Rattle.hex.specs.Hex.{decode_of, encode_lower}
@@ -66,9 +66,9 @@ IsRefusedMessage message Memory = Unit {0}
 IsRefusedMessage message Usage = ⊥
 IsRefusedMessage message NotHex = ⊥
 
--- The message is what the first line of the input spells in hex digits, where the input is known.
+-- The message is what the first line of the input, which ends in LF or CR LF, spells in hex digits, where the input is known.
 abbrev pub IsFirstMessage : Option (List ℕ) → List ℕ → Type 0
-IsFirstMessage input message = IfSome input (λ bytes. decode_of (first_piece 10 bytes) ≡ Ok message)
+IsFirstMessage input message = IfSome input (λ bytes. decode_of (first_line bytes) ≡ Ok message)
 
 -- The zones after an input: as before, or those after the message that it begins with.
 abbrev pub InputLeft : {H : Type 0} → Server H → List (List ℕ) → Option (List ℕ) → List (DomainName × List H) → Type 0
