@@ -1,5 +1,5 @@
 //! One DNS message in, its replies out: `zone_reply udp|tcp` reads a message as a line of hex digits, and prints each reply as
-//! one; only a transfer has several. It serves the zone example.com., as the server `ns1`.
+//! one; only a transfer has several. It serves the zone example.com., as the server `ns1`. `zone_reply --version` prints its name and version.
 #![tactic(auto)]
 
 mod command;

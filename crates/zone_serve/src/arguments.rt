@@ -19,7 +19,7 @@ pub enum Mode {
 #[derive(Clone, Copy, Debug, PartialEq, Eq, Error)]
 pub enum ArgumentFault {
     /// They are not written so.
-    #[error("usage: zone_serve [--zone NAME=FILE].. [--blocklist FILE].. [--allow NET].. [--deny NET].. [--nsid TEXT] [--max-udp N] udp|tcp|lines")]
+    #[error("usage: zone_serve [--zone NAME=FILE].. [--blocklist FILE].. [--allow NET].. [--deny NET].. [--nsid TEXT] [--max-udp N] udp|tcp|lines, or zone_serve --version")]
     Usage,
     /// A network is wanted behind `--allow` and `--deny`.
     #[error("argument {place}: {fault}")]

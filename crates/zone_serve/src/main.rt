@@ -1,6 +1,6 @@
 //! A server of zones for whoever owns the sockets: `zone_serve [--zone NAME=FILE].. [--blocklist FILE].. [--allow NET].. [--deny NET]..
 //! [--nsid TEXT] [--max-udp N] udp|tcp|lines` answers what the standard input brings on the standard output, and tells on the standard error why it
-//! ends before its input does.
+//! ends before its input does. `zone_serve --version` prints its name and version.
 //!
 //! `udp`: the input is one datagram. `tcp`: it is messages behind their lengths (RFC 1035 section 4.2.2), and each is answered as soon
 //! as it is whole. `lines`: it is lines `udp|tcp ADDRESS HEX`. The status is 0 where all of the input was answered, 1 where some of it
@@ -26,6 +26,7 @@ use crate::handler::Handler;
 use crate::server::{Zones, apex, chain, identifier, put_chain, rules_of};
 use crate::serving::{serve_datagram, serve_lines, serve_stream};
 use crate::zones::{ZoneFault, zone_of_file};
+use hickory_server::VERSION;
 use hickory_server::proto::Name;
 use hickory_server::server::NoKeys;
 use hickory_server::store::blocklist::{
@@ -246,11 +247,22 @@ fn run_settings<R: Files + Env + Clock + Input + Print + Eprint + Alloc<A = Glob
     }
 }
 
+/// Prints the program's name and version, and gives the status.
+fn print_version<R: Print + Eprint>(rt: &R) -> u8 {
+    match println!(rt; "zone_serve {VERSION}") {
+        Ok(()) => 0,
+        Err(_) => tell(rt, Fault::Write),
+    }
+}
+
 /// Runs the program with these arguments, and gives its status.
 fn run_arguments<R: Files + Env + Clock + Input + Print + Eprint + Alloc<A = Global>>(
     rt: &R,
     arguments: &[String],
 ) -> u8 {
+    if let [word] = arguments && word.as_str() == "--version" {
+        return print_version(rt);
+    }
     match Settings::read(rt.alloc(), arguments) {
         Ok(settings) => run_settings(rt, &settings),
         Err(fault) => tell(rt, Fault::from(fault)),
