@@ -1,5 +1,5 @@
 -- Runs that go on by one message.
-use Rattle.std.proofs.Common.{◌≡◌, List, [], ◌∷◌, ◌++◌, refl, ap, subst, ◌∙◌}
+use Rattle.std.proofs.Common.{◌≡◌, List, [], ◌∷◌, ◌++◌, ap, subst, ◌∙◌}
 use Rattle.wire_names.specs.rr.domain.DomainName.{DomainName}
 use Rattle.access_control.specs.Access.{AccessSets}
 use Rattle.hickory_base.specs.declared.zone_store.handler.ZoneHandler.{Ghosts}

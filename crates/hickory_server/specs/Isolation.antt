@@ -1,5 +1,5 @@
 -- Each zone of a server is served as if it were the only one.
-use Rattle.std.specs.Prelude.{[], ◌∷◌, ℕ, List, Contains}
+use Rattle.std.specs.Prelude.{[], ◌∷◌, List, Contains}
 use Rattle.std.specs.Net.Socket.{socket_ip}
 use Rattle.wire_names.specs.rr.domain.DomainName.{DomainName}
 use Rattle.access_control.specs.Access.{AccessSets, IsAllowed}

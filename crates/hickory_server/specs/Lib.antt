@@ -1,2 +1,3 @@
 pub mod Isolation
 pub mod Serving
+pub mod ZoneOfText

@@ -1,5 +1,5 @@
 -- What becomes of messages that come one after the other.
-use Rattle.std.specs.Prelude.{◌≡◌, ◌⊎◌, ◌++◌, ◌∷◌, [], ℕ, List}
+use Rattle.std.specs.Prelude.{◌≡◌, ◌<◌, ◌⊎◌, ◌++◌, ◌∷◌, [], ℕ, List}
 use Rattle.std.specs.Net.Socket.{socket_ip}
 use Rattle.std.specs.List.{AllZip}
 use Rattle.wire_names.specs.rr.domain.DomainName.{DomainName}
@@ -9,7 +9,7 @@ use Rattle.wire_names.specs.declared.error.ProtoError.{ProtoError}
 use Rattle.access_control.specs.Access.{AccessSets, IsAllowed}
 use Rattle.hickory_base.specs.requests.RequestReading.{IsFaultOf, IsQuestionSection, message_of}
 use Rattle.hickory_base.specs.requests.Requests.{ReceivedRequest}
-use Rattle.hickory_base.specs.responses.EncodingSinks.{IsEncodingOf}
+use Rattle.hickory_base.specs.responses.EncodingSinks.{EncodedReplies, IsEncodingOf}
 use Rattle.hickory_base.specs.declared.errors.CatalogError.TheVariants.{MemoryAfterUpdate}
 use Rattle.hickory_catalog.specs.Requests.{RequestAnswered, RequestLeaves}
 use Rattle.hickory_catalog.specs.Server.{Server}
@@ -47,16 +47,19 @@ pub data Run {H : Type 0} (access : AccessSets) (server : Server H) : List (Doma
       → Run access server between messages outcomes after
       → Run access server zones (message ∷ messages) (outcome ∷ outcomes) after
 
--- The zones after a request for whose replies memory was refused: as before, or as after it.
-abbrev pub LeavesRequest : {H : Type 0} → Server H → ReceivedRequest → ℕ → ServeError → List (DomainName × List H) → Type 0
-LeavesRequest server request now Memory zones = zones ≡ server.zones
-LeavesRequest server request now MemoryAfterHandling zones = ((replies : List Reply) × RequestAnswered server request now replies zones) ⊎ RequestLeaves server request now MemoryAfterUpdate zones
+-- What is left of a request for which memory was refused: the sink that was to have its replies, which had none before, and the zones.
+abbrev pub LeavesRequest : {H : Type 0} → Server H → ReceivedRequest → ℕ → EncodedReplies → ServeError → List (DomainName × List H) → Type 0
+-- The sink was handed nothing, and the zones are as before.
+LeavesRequest server request now sink Memory zones = (sink.failures ≡ 0) × (sink.replies ≡ []) × (zones ≡ server.zones)
+-- The request was answered, and the sink failed at a reply; or an update was made, and the sink was handed nothing.
+LeavesRequest server request now sink MemoryAfterHandling zones = ((0 < sink.failures) × (replies : List Reply) × RequestAnswered server request now replies zones)
+    ⊎ ((sink.failures ≡ 0) × (sink.replies ≡ []) × RequestLeaves server request now MemoryAfterUpdate zones)
 
--- The zones after a message for which memory was refused: as before, or as after its request, where its address may use the server.
+-- The zones after a message for which memory was refused, whose address may use the server: as before, or as after its request.
 abbrev pub LeavesUnserved : {H : Type 0} → AccessSets → Server H → Incoming → ServeError → List (DomainName × List H) → Type 0
-LeavesUnserved access server message Memory zones = zones ≡ server.zones
+LeavesUnserved access server message Memory zones = IsAllowed access.deny access.allow (socket_ip message.src) × (zones ≡ server.zones)
 LeavesUnserved access server message MemoryAfterHandling zones = IsAllowed access.deny access.allow (socket_ip message.src)
-    × (request : ReceivedRequest) × IsRequestOf message request × LeavesRequest server request message.now MemoryAfterHandling zones
+    × (request : ReceivedRequest) × IsRequestOf message request × (sink : EncodedReplies) × LeavesRequest server request message.now sink MemoryAfterHandling zones
 
 -- Memory was refused for a message: those before it have their outcomes, and those behind it were not looked at.
 pub record RunFailed {H : Type 0} (access : AccessSets) (server : Server H) (messages : List Incoming) (outcomes : List Outcome) (e : ServeError) (zones : List (DomainName × List H)) : Type 0 where
@@ -66,4 +69,5 @@ pub record RunFailed {H : Type 0} (access : AccessSets) (server : Server H) (mes
   pub messages_are : messages ≡ front ++ message ∷ behind
   pub between : List (DomainName × List H)
   pub run : Run access server server.zones front outcomes between
-  pub left : LeavesUnserved access (record server { zones = between }) message e zones
+  -- It was refused while the message was served; or before, for the place of its outcome.
+  pub left : LeavesUnserved access (record server { zones = between }) message e zones ⊎ ((e ≡ Memory) × (zones ≡ between))

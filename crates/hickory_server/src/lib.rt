@@ -9,3 +9,6 @@ pub mod proto;
 pub mod server;
 pub mod store;
 pub mod zone_handler;
+
+/// The version of this library, and of the programs over it.
+pub const VERSION: &str = "0.1.0";

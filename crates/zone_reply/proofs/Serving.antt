@@ -15,6 +15,7 @@ use Rattle.hickory_server.specs.declared.server.serve.Incoming.{Incoming}
 use Rattle.hickory_server.specs.declared.server.serve.Outcome.{Outcome}
 use Rattle.hickory_server.specs.declared.server.serve.Outcome.TheVariants.{Replies}
 use Rattle.hickory_server.specs.declared.server.serve.ServeError.{ServeError}
+use Rattle.hickory_server.specs.declared.server.serve.ServeError.TheVariants as serve_error
 use Rattle.zone_reply.specs.Answers.{Becomes, Fails, IsIncoming, IsOpen, IsRefusedMessage, hex_lines}
 use Rattle.zone_reply.specs.declared.command.Refusal.{Refusal}
 use Rattle.zone_reply.specs.declared.command.Refusal.TheVariants.{Memory, Unreadable}
@@ -41,14 +42,16 @@ module _ {H : Type 0} (access : AccessSets) (server : Server H) where
 
   -- Where memory is refused in a run over one message, it is refused for that message, and no other was served before.
   one_failure : (message : Incoming) (outcomes : List Outcome) (e : ServeError) (zones : List (DomainName × List H)) → RunFailed access server (message ∷ []) outcomes e zones
-      → LeavesUnserved access server message e zones
+      → LeavesUnserved access server message e zones ⊎ ((e ≡ serve_error.Memory) × (zones ≡ server.zones))
   one_failure message outcomes e zones failed = by_front failed.front failed.message failed.behind failed.between outcomes failed.messages_are failed.run failed.left where
     by_front : (front : List Incoming) (m : Incoming) (behind : List Incoming) (between : List (DomainName × List H)) (os : List Outcome) → message ∷ [] ≡ front ++ m ∷ behind
-        → Run access server server.zones front os between → LeavesUnserved access (record server { zones = between }) m e zones → LeavesUnserved access server message e zones
+        → Run access server server.zones front os between
+        → LeavesUnserved access (record server { zones = between }) m e zones ⊎ ((e ≡ serve_error.Memory) × (zones ≡ between))
+        → LeavesUnserved access server message e zones ⊎ ((e ≡ serve_error.Memory) × (zones ≡ server.zones))
     by_front [] m behind _ _ is none left =
         let items : message ∷ [] ≡ m ∷ behind = is in
         let same : m ≡ message = cc in
-        subst (λ (x : Incoming). LeavesUnserved access server x e zones) same left
+        subst (λ (x : Incoming). LeavesUnserved access server x e zones ⊎ ((e ≡ serve_error.Memory) × (zones ≡ server.zones))) same left
     by_front (first ∷ []) m behind _ _ is run left =
         let items : message ∷ [] ≡ first ∷ m ∷ behind = is in
         absurd cc

@@ -2,7 +2,7 @@
 use Rattle.std.specs.Prelude.{◌≡◌, ◌⊎◌, ◌++◌, ◌∷◌, [], ℕ, List, Option, Some, None, IfSome, IsSome, Result, Ok, Err, Contains}
 use Rattle.std.specs.Global.{Vec}
 use Rattle.std.specs.List.{flat_map}
-use Rattle.std.specs.Io.BufRead.{first_piece}
+use Rattle.std.specs.Io.BufRead.{first_line}
 use Rattle.std.specs.declared.net.SocketAddr.{SocketAddr}
 use Rattle.std.specs.declared.net.SocketAddr.TheVariants.{V4}
 use Rattle.hex.specs.Hex.{decode_of, encode_lower}
@@ -17,7 +17,9 @@ use Rattle.hickory_server.specs.declared.server.serve.Incoming.{Incoming}
 use Rattle.hickory_server.specs.declared.server.serve.Outcome.{Outcome}
 use Rattle.hickory_server.specs.declared.server.serve.Outcome.TheVariants.{Replies}
 use Rattle.hickory_server.specs.declared.server.serve.ServeError.{ServeError}
-use Rattle.zone_reply.specs.Command.{transport_of, refusal_line, refusal_status}
+use Rattle.hickory_server.specs.declared.server.serve.ServeError.TheVariants as serve_error
+use Rattle.zone_reply.specs.Command.{command_of, refusal_line, refusal_status, version_line}
+use Rattle.zone_reply.specs.declared.command.Command.TheVariants.{Answer, Version}
 use Rattle.zone_reply.specs.declared.command.Refusal.{Refusal}
 use Rattle.zone_reply.specs.declared.command.Refusal.TheVariants.{Usage, NotHex, Unreadable, Memory}
 
@@ -52,7 +54,7 @@ pub record Fails {H : Type 0} (server : Server H) (protocol : Protocol) (bytes :
   pub access : AccessSets
   pub is_open : IsOpen access
   pub e : ServeError
-  pub left : LeavesUnserved access server message e zones
+  pub left : LeavesUnserved access server message e zones ⊎ ((e ≡ serve_error.Memory) × (zones ≡ server.zones))
 
 -- The zones after a message: as before, or as it left them, with its outcome or without memory for it. Only an update changes any.
 abbrev pub MessageLeft : {H : Type 0} → Server H → Protocol → List ℕ → List (DomainName × List H) → Type 0
@@ -65,14 +67,14 @@ IsRefusedMessage message Memory = Unit {0}
 IsRefusedMessage message Usage = ⊥
 IsRefusedMessage message NotHex = ⊥
 
--- The message is what the first line of the input spells in hex digits, where the input is known.
+-- The message is what the first line of the input, which ends in LF or CR LF, spells in hex digits, where the input is known.
 abbrev pub IsFirstMessage : Option (List ℕ) → List ℕ → Type 0
-IsFirstMessage input message = IfSome input (λ bytes. decode_of (first_piece 10 bytes) ≡ Ok message)
+IsFirstMessage input message = IfSome input (λ bytes. decode_of (first_line bytes) ≡ Ok message)
 
 -- The zones after an input: as before, or those after the message that it begins with.
 abbrev pub InputLeft : {H : Type 0} → Server H → List (List ℕ) → Option (List ℕ) → List (DomainName × List H) → Type 0
 InputLeft server arguments input zones = (zones ≡ server.zones)
-    ⊎ ((protocol : Protocol) × (transport_of arguments ≡ Some protocol) × (message : List ℕ) × IsFirstMessage input message × MessageLeft server protocol message zones)
+    ⊎ ((protocol : Protocol) × (command_of arguments ≡ Some (Answer protocol)) × (message : List ℕ) × IsFirstMessage input message × MessageLeft server protocol message zones)
 
 -- Why there is no message: the input cannot be read or spells none, or memory is refused.
 abbrev pub IsRefusedInput : Refusal → Type 0
@@ -92,21 +94,21 @@ hex_lines texts = flat_map hex_line texts
 -- The lines are those of the replies that become of the message of the input, over the transport that the arguments name.
 pub record AreReplyLines {H : Type 0} (server : Server H) (arguments : List (List ℕ)) (input : Option (List ℕ)) (lines : List ℕ) (zones : List (DomainName × List H)) : Type 0 where
   pub protocol : Protocol
-  pub is_named : transport_of arguments ≡ Some protocol
+  pub is_named : command_of arguments ≡ Some (Answer protocol)
   pub message : List ℕ
   pub is_first : IsFirstMessage input message
   pub encoded : List (List ℕ)
   pub becomes : Becomes server protocol message (Replies encoded) zones
   pub lines_are : lines ≡ hex_lines encoded
 
--- What is answered: the lines of the replies, or why there are none. A reader may fail at any time, and memory may be refused at any time once the
--- arguments name a transport. The zones are those after it.
+-- What is answered: the lines of the replies, or the program's name and version, or why there are none. A reader may fail at any time once the
+-- arguments name a transport, and memory may be refused at any time once they name a command. The zones are those after it.
 abbrev pub IsAnswer : {H : Type 0} → Server H → List (List ℕ) → Option (List ℕ) → Result (List ℕ) Refusal → List (DomainName × List H) → Type 0
-IsAnswer server arguments input (Ok lines) zones = AreReplyLines server arguments input lines zones
-IsAnswer server arguments input (Err Usage) zones = transport_of arguments ≡ None
-IsAnswer server arguments input (Err NotHex) zones = IsSome (transport_of arguments)
-IsAnswer server arguments input (Err Unreadable) zones = IsSome (transport_of arguments) × (message : List ℕ) × IsFirstMessage input message × (e : ProtoError) × IsFaultOf message e
-IsAnswer server arguments input (Err Memory) zones = IsSome (transport_of arguments)
+IsAnswer server arguments input (Ok lines) zones = AreReplyLines server arguments input lines zones ⊎ ((command_of arguments ≡ Some Version) × (lines ≡ version_line))
+IsAnswer server arguments input (Err Usage) zones = command_of arguments ≡ None
+IsAnswer server arguments input (Err NotHex) zones = (protocol : Protocol) × (command_of arguments ≡ Some (Answer protocol))
+IsAnswer server arguments input (Err Unreadable) zones = (protocol : Protocol) × (command_of arguments ≡ Some (Answer protocol)) × (message : List ℕ) × IsFirstMessage input message × (e : ProtoError) × IsFaultOf message e
+IsAnswer server arguments input (Err Memory) zones = IsSome (command_of arguments)
 
 -- an answer with the bytes of its lines
 abbrev pub line_items : Result (Vec ℕ) Refusal → Result (List ℕ) Refusal

@@ -1,25 +1,34 @@
 -- What the command is given, what it prints and the status that it gives.
-use Rattle.std.specs.Prelude.{◌≡◌, ◌⊎◌, ℕ, nat_eq, cond, List, [], ◌∷◌, Option, Some, None, codes}
+use Rattle.std.specs.Prelude.{◌≡◌, ◌⊎◌, ◌++◌, ℕ, nat_eq, cond, List, [], ◌∷◌, Option, Some, None, codes}
 use Rattle.std.specs.Cmp.Lexicographic.{pointwise}
 use Rattle.std.specs.Io.KnownBytes.{Appends}
-use Rattle.wire_messages.specs.declared.protocol.Protocol.{Protocol}
 use Rattle.wire_messages.specs.declared.protocol.Protocol.TheVariants.{Udp, Tcp}
+use Rattle.hickory_server.specs.declared.TheConstants.{VERSION}
+use Rattle.zone_reply.specs.declared.command.Command.{Command}
+use Rattle.zone_reply.specs.declared.command.Command.TheVariants.{Answer, Version}
 use Rattle.zone_reply.specs.declared.command.Refusal.{Refusal}
 use Rattle.zone_reply.specs.declared.command.Refusal.TheVariants.{Usage, NotHex, Unreadable, Memory}
 
--- the transport of this name
-abbrev pub transport_named : List ℕ → Option Protocol
-transport_named name = cond (pointwise nat_eq name (codes "udp")) (Some Udp) (cond (pointwise nat_eq name (codes "tcp")) (Some Tcp) None)
+-- the command of this name
+abbrev pub command_named : List ℕ → Option Command
+command_named name =
+    cond (pointwise nat_eq name (codes "udp")) (Some (Answer Udp))
+    (cond (pointwise nat_eq name (codes "tcp")) (Some (Answer Tcp))
+    (cond (pointwise nat_eq name (codes "--version")) (Some Version) None))
 
--- the transport that the arguments name: there is just one, and it is `udp` or `tcp`
-abbrev pub transport_of : List (List ℕ) → Option Protocol
-transport_of [] = None
-transport_of (name ∷ []) = transport_named name
-transport_of (name ∷ other ∷ others) = None
+-- the command that the arguments name: there is just one, and it is `udp`, `tcp` or `--version`
+abbrev pub command_of : List (List ℕ) → Option Command
+command_of [] = None
+command_of (name ∷ []) = command_named name
+command_of (name ∷ other ∷ others) = None
+
+-- the line of the program's name and version
+abbrev pub version_line : List ℕ
+version_line = codes "zone_reply " ++ VERSION.now ++ codes "\n"
 
 -- the line that tells a refusal, with its newline
 abbrev pub refusal_line : Refusal → List ℕ
-refusal_line Usage = codes "usage: zone_reply udp|tcp\n"
+refusal_line Usage = codes "usage: zone_reply udp|tcp|--version\n"
 refusal_line NotHex = codes "not hex\n"
 refusal_line Unreadable = codes "unreadable\n"
 refusal_line Memory = codes "no memory\n"

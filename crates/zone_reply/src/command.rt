@@ -1,18 +1,28 @@
 //! What the command is given and what it prints.
 
-ghost use Rattle.std.specs.Prelude.{◌≡◌, map, string_bytes};
-ghost use Rattle.zone_reply.specs.Command.{IsPrinted, transport_of, transport_named, refusal_line, refusal_status};
+ghost use Rattle.std.specs.Prelude.{◌≡◌, IfOk, map, string_bytes};
+ghost use Rattle.zone_reply.specs.Command.{IsPrinted, command_of, command_named, refusal_line, refusal_status, version_line};
 ghost use Rattle.zone_reply.specs.declared.command.Refusal.TheVariants as refusal;
 
+use hickory_server::VERSION;
 use hickory_server::proto::{NameError, Protocol};
-use std::alloc::{AllocError, AllocFailed};
+use std::alloc::{AllocError, AllocFailed, Global};
 use std::io::Write;
 use thiserror::Error;
+
+/// What the arguments ask for.
+#[derive(Clone, Copy, Debug, PartialEq, Eq)]
+pub enum Command {
+    /// The replies to a message that comes over this transport.
+    Answer(Protocol),
+    /// The program's name and version.
+    Version,
+}
 
 /// Why there is no reply.
 #[derive(Clone, Copy, Debug, PartialEq, Eq, Error)]
 pub enum Refusal {
-    /// There is not exactly one argument, `udp` or `tcp`.
+    /// There is not exactly one argument, `udp`, `tcp` or `--version`.
     #[error("usage")]
     Usage,
     /// The line cannot be read, or is not an even number of hex digits.
@@ -32,7 +42,7 @@ impl Refusal {
         ensures { result.now ≡ refusal_line self }
     {
         match self {
-            Refusal::Usage => b"usage: zone_reply udp|tcp\n",
+            Refusal::Usage => b"usage: zone_reply udp|tcp|--version\n",
             Refusal::NotHex => b"not hex\n",
             Refusal::Unreadable => b"unreadable\n",
             Refusal::Memory => b"no memory\n",
@@ -76,27 +86,39 @@ impl From<NameError> for Refusal {
     }
 }
 
-/// The transport of this name.
-fn transport_named(name: &str) -> Option<Protocol>
-    ensures { result ≡ transport_named name.now }
+/// The command of this name.
+fn command_named(name: &str) -> Option<Command>
+    ensures { result ≡ command_named name.now }
 {
     if name == "udp" {
-        Some(Protocol::Udp)
+        Some(Command::Answer(Protocol::Udp))
     } else if name == "tcp" {
-        Some(Protocol::Tcp)
+        Some(Command::Answer(Protocol::Tcp))
+    } else if name == "--version" {
+        Some(Command::Version)
     } else {
         None
     }
 }
 
-/// The transport that the arguments name.
-pub fn transport(arguments: &[String]) -> Option<Protocol>
-    ensures { result ≡ transport_of (map string_bytes arguments.now) }
+/// The command that the arguments name.
+pub fn command_of(arguments: &[String]) -> Option<Command>
+    ensures { result ≡ command_of (map string_bytes arguments.now) }
 {
     match arguments {
-        [name] => transport_named(name.as_str()),
+        [name] => command_named(name.as_str()),
         _ => None,
     }
+}
+
+/// The line of the program's name and version.
+pub fn version_line(alloc: Global) -> Result<Vec<u8>, AllocError>
+    ensures { IfOk result (λ line. line.items ≡ version_line) }
+{
+    let mut line = b"zone_reply ".to_vec(alloc)?;
+    line.extend_from_slice(VERSION.as_bytes())?;
+    line.push(b'\n')?;
+    Ok(line)
 }
 
 /// Prints a line and answers the status, or 4 where printing fails.

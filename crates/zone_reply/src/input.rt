@@ -1,7 +1,7 @@
 //! Reading the message from the input.
 
 ghost use Rattle.std.specs.Prelude.{◌≡◌, IfOk, IfErr, IfSome, Ok};
-ghost use Rattle.std.specs.Io.BufRead.{first_piece};
+ghost use Rattle.std.specs.Io.BufRead.{ends_with_byte, first_line, strip_last};
 ghost use Rattle.hex.specs.Hex.{decode_of};
 ghost use Rattle.zone_reply.specs.Answers.{IsFirstMessage, IsRefusedInput};
 
@@ -10,14 +10,26 @@ use hex::FromHexError;
 use std::alloc::Global;
 use std::io::{self, BufRead, BufReader, Read};
 
-/// The bytes before the first newline, or before the end where there is none.
+/// Takes the last byte off a line where it is this one; whether it was.
+fn pop_byte(line: &mut Vec<u8>, byte: u8) -> bool
+    ensures popped { result ≡ ends_with_byte byte line.old.items }
+    ensures rest { line.new.items ≡ strip_last byte line.old.items }
+{
+    let ends = line.last() == Some(&byte);
+    if ends {
+        line.pop();
+    }
+    ends
+}
+
+/// The bytes before the first newline, LF or CR LF, or before the end where there is none.
 fn first_line<R: Read>(alloc: Global, reader: &mut R) -> io::Result<Vec<u8>>
-    ensures { IfOk result (λ line. IfSome (R.remaining reader.old) (λ bytes. line.items ≡ first_piece 10 bytes)) }
+    ensures { IfOk result (λ line. IfSome (R.remaining reader.old) (λ bytes. line.items ≡ first_line bytes)) }
 {
     let mut line = Vec::new(alloc);
     BufReader::new(alloc, reader)?.read_until(b'\n', &mut line)?;
-    if line.last() == Some(&b'\n') {
-        line.pop();
+    if pop_byte(&mut line, b'\n') {
+        pop_byte(&mut line, b'\r');
     }
     Ok(line)
 }

@@ -1,18 +1,17 @@
 //! One DNS message in, its replies out: `zone_reply udp|tcp` reads a message as a line of hex digits, and prints each reply as
-//! one; only a transfer has several. It serves the zone example.com., as the server `ns1`.
+//! one; only a transfer has several. It serves the zone example.com., as the server `ns1`. `zone_reply --version` prints its name and version.
 #![tactic(auto)]
 
 mod command;
 mod input;
 mod run;
-mod signer;
 mod zone;
 
 use crate::command::{Refusal, print};
 use crate::run::run;
-use crate::signer::NoSigner;
 use crate::zone::{origin, zone};
 use hickory_server::proto::NSIDPayload;
+use hickory_server::server::NoKeys;
 use hickory_server::zone_handler::{Catalog, ZoneHandler};
 use std::alloc::Global;
 use std::process::ExitCode;
@@ -31,11 +30,11 @@ fn arguments<R: Env + Alloc<A = Global>>(rt: &R) -> Result<Vec<String>, Refusal>
 }
 
 /// The catalog with one zone, which this handler answers for, of the server `ns1`.
-fn catalog<H: ZoneHandler>(alloc: Global, handler: H) -> Result<Catalog<NoSigner, H>, Refusal> {
+fn catalog<H: ZoneHandler>(alloc: Global, handler: H) -> Result<Catalog<NoKeys, H>, Refusal> {
     let origin = origin(alloc)?;
     let mut chain = Vec::new(alloc);
     chain.push(handler)?;
-    let mut catalog = Catalog::new(alloc, NoSigner);
+    let mut catalog = Catalog::new(alloc, NoKeys);
     catalog.set_nsid(NSIDPayload::new(b"ns1".to_vec(alloc)?).ok());
     match catalog.upsert(origin, chain) {
         Ok(_) => Ok(catalog),

@@ -19,7 +19,7 @@ pub enum Mode {
 #[derive(Clone, Copy, Debug, PartialEq, Eq, Error)]
 pub enum ArgumentFault {
     /// They are not written so.
-    #[error("usage: zone_serve [--zone NAME=FILE].. [--blocklist FILE].. [--allow NET].. [--deny NET].. [--nsid TEXT] udp|tcp|lines")]
+    #[error("usage: zone_serve [--zone NAME=FILE].. [--blocklist FILE].. [--allow NET].. [--deny NET].. [--nsid TEXT] [--max-udp N] udp|tcp|lines, or zone_serve --version")]
     Usage,
     /// A network is wanted behind `--allow` and `--deny`.
     #[error("argument {place}: {fault}")]
@@ -38,6 +38,12 @@ pub enum ArgumentFault {
     /// What stands behind `--nsid` has more bytes than an option holds (RFC 6891 section 6.1.2).
     #[error("argument {place}: the identifier is too long")]
     LongIdentifier {
+        /// Which argument it is; the first is 1.
+        place: usize,
+    },
+    /// What stands behind `--max-udp` is no number of bytes that a reply over UDP may always have (RFC 1035 section 4.2.1).
+    #[error("argument {place}: not a number from 512 to 65535")]
+    MaxUdp {
         /// Which argument it is; the first is 1.
         place: usize,
     },
@@ -82,6 +88,8 @@ pub struct Settings<'a> {
     pub denied: Vec<IpNet>,
     /// What identifies the server (RFC 5001), with its argument.
     pub identifier: Option<(&'a str, usize)>,
+    /// How many bytes a reply over UDP has at most.
+    pub max_udp: Option<u16>,
     /// How requests come in and replies go out.
     pub mode: Mode,
 }
@@ -102,6 +110,14 @@ fn network(text: &str, place: usize) -> Result<IpNet, ArgumentFault> {
         .map_err(|fault| ArgumentFault::Network { place, fault })
 }
 
+/// The bound on replies over UDP that an argument spells.
+fn max_udp(text: &str, place: usize) -> Result<u16, ArgumentFault> {
+    match text.parse::<u16>() {
+        Ok(size) if size >= 512 => Ok(size),
+        _ => Err(ArgumentFault::MaxUdp { place }),
+    }
+}
+
 impl<'a> Settings<'a> {
     /// No options.
     fn new(alloc: Global) -> Settings<'a> {
@@ -111,6 +127,7 @@ impl<'a> Settings<'a> {
             allowed: Vec::new(alloc),
             denied: Vec::new(alloc),
             identifier: None,
+            max_udp: None,
             mode: Mode::Lines,
         }
     }
@@ -130,6 +147,7 @@ impl<'a> Settings<'a> {
             "--allow" => self.allowed.push(network(text, place)?)?,
             "--deny" => self.denied.push(network(text, place)?)?,
             "--nsid" if self.identifier.is_none() => self.identifier = Some((text, place)),
+            "--max-udp" if self.max_udp.is_none() => self.max_udp = Some(max_udp(text, place)?),
             _ => return Err(ArgumentFault::Usage),
         }
         Ok(())

@@ -43,6 +43,9 @@ pub enum Fault {
     /// The peer's address may not use the server.
     #[error("denied")]
     Denied,
+    /// A message is itself a response.
+    #[error("a response, which gets no reply")]
+    Response,
     /// The bytes of a message begin with none (RFC 1035 section 4.1).
     #[error("unreadable: the bytes begin with no message")]
     Unreadable,
@@ -73,7 +76,7 @@ impl Fault {
     /// The status that tells it.
     pub fn status(self) -> u8 {
         match self {
-            Fault::Denied | Fault::Unreadable | Fault::Line { .. } => 1,
+            Fault::Denied | Fault::Response | Fault::Unreadable | Fault::Line { .. } => 1,
             Fault::Stream(StreamFault::Partial | StreamFault::TooLong) => 1,
             Fault::Argument(_) | Fault::Peer => 2,
             Fault::Memory | Fault::Stream(StreamFault::Memory) => 3,

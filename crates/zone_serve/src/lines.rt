@@ -1,12 +1,12 @@
 //! Messages and what becomes of them, as lines of text.
 
 ghost use Rattle.std.specs.Prelude.{◌≡◌, ◌++◌, ◌∷◌, [], IfOk, OnOk};
-ghost use Rattle.zone_serve.specs.Lines.{hex_line, hex_lines, outcome_lines};
+ghost use Rattle.zone_serve.specs.Lines.{hex_line, hex_lines, answer_lines};
 
+use crate::answer::Answer;
 use crate::peer;
 use hex::FromHexError;
 use hickory_server::proto::{Octets, Protocol};
-use hickory_server::server::serve::Outcome;
 use std::alloc::{AllocError, Global};
 use std::net::IpAddr;
 use std::str;
@@ -103,13 +103,14 @@ fn reply_lines(alloc: Global, replies: &[Octets]) -> Result<Vec<u8>, AllocError>
     Ok(lines)
 }
 
-/// The lines that tell what became of a message: a line of hex digits for each reply and an empty one, or `denied`, or `unreadable`.
-pub fn outcome_lines(alloc: Global, outcome: &Outcome) -> Result<Vec<u8>, AllocError>
-    ensures { IfOk result (λ lines. lines.items ≡ outcome_lines outcome.now) }
+/// The lines that tell what became of a message: a line of hex digits for each reply and an empty one, or a word.
+pub fn answer_lines(alloc: Global, answer: &Answer) -> Result<Vec<u8>, AllocError>
+    ensures { IfOk result (λ lines. lines.items ≡ answer_lines answer.now) }
 {
-    match outcome {
-        Outcome::Denied => b"denied\n".to_vec(alloc),
-        Outcome::Unreadable => b"unreadable\n".to_vec(alloc),
-        Outcome::Replies(replies) => reply_lines(alloc, replies.as_slice()),
+    match answer {
+        Answer::Denied => b"denied\n".to_vec(alloc),
+        Answer::Response => b"response\n".to_vec(alloc),
+        Answer::Unreadable => b"unreadable\n".to_vec(alloc),
+        Answer::Replies(replies) => reply_lines(alloc, replies.as_slice()),
     }
 }

@@ -1,6 +1,6 @@
 //! A server of zones for whoever owns the sockets: `zone_serve [--zone NAME=FILE].. [--blocklist FILE].. [--allow NET].. [--deny NET]..
-//! [--nsid TEXT] udp|tcp|lines` answers what the standard input brings on the standard output, and tells on the standard error why it
-//! ends before its input does.
+//! [--nsid TEXT] [--max-udp N] udp|tcp|lines` answers what the standard input brings on the standard output, and tells on the standard error why it
+//! ends before its input does. `zone_serve --version` prints its name and version.
 //!
 //! `udp`: the input is one datagram. `tcp`: it is messages behind their lengths (RFC 1035 section 4.2.2), and each is answered as soon
 //! as it is whole. `lines`: it is lines `udp|tcp ADDRESS HEX`. The status is 0 where all of the input was answered, 1 where some of it
@@ -8,11 +8,12 @@
 //! file is not taken.
 #![tactic(auto)]
 
+mod answer;
 mod arguments;
+mod datagrams;
 mod fault;
 mod frames;
 mod handler;
-mod keys;
 mod lines;
 mod peer;
 mod server;
@@ -22,15 +23,17 @@ mod zones;
 use crate::arguments::{ArgumentFault, Mode, Settings, ZoneArgument};
 use crate::fault::Fault;
 use crate::handler::Handler;
-use crate::keys::NoKeys;
-use crate::server::{Zones, access, apex, chain, identifier, put_chain};
+use crate::server::{Zones, apex, chain, identifier, put_chain, rules_of};
 use crate::serving::{serve_datagram, serve_lines, serve_stream};
-use crate::zones::{ZoneFault, read_zone};
+use crate::zones::{ZoneFault, zone_of_file};
+use hickory_server::VERSION;
 use hickory_server::proto::Name;
+use hickory_server::server::NoKeys;
 use hickory_server::store::blocklist::{
     AddError, BlocklistConfig, BlocklistConsultAction, BlocklistZoneHandler, CountedReader,
 };
 use hickory_server::zone_handler::Catalog;
+use hickory_server::zone_store::Either;
 use std::alloc::Global;
 use std::env::VarError;
 use std::net::{IpAddr, Ipv4Addr};
@@ -81,7 +84,7 @@ fn load_zone<R: Files + Alloc<A = Global>>(
     file: &str,
 ) -> Result<Handler, ZoneFault> {
     match fs::read(rt, file) {
-        Ok(bytes) => Ok(Handler::Zone(read_zone(rt.alloc(), apex, &bytes)?)),
+        Ok(bytes) => Ok(Either::Left(zone_of_file(rt.alloc(), apex, &bytes)?)),
         Err(e) => match e.kind() {
             io::ErrorKind::OutOfMemory => Err(ZoneFault::Memory),
             _ => Err(ZoneFault::Unreadable),
@@ -182,17 +185,15 @@ fn serve<R: Files + Env + Clock + Input + Print + Alloc<A = Global>>(
     address: IpAddr,
 ) -> Result<(), Fault> {
     let alloc = rt.alloc();
-    let access = access(alloc, settings)?;
+    let rules = rules_of(alloc, settings)?;
     let mut catalog = catalog(rt, settings)?;
     let zones = &mut catalog;
     let mut reader = rt.reader();
     let mut writer = io::writer(rt);
     match settings.mode {
-        Mode::Udp => {
-            serve_datagram(alloc, rt, &access, zones, address, &mut reader, &mut writer)
-        }
-        Mode::Tcp => serve_stream(alloc, rt, &access, zones, address, &mut reader, &mut writer),
-        Mode::Lines => serve_lines(alloc, rt, &access, zones, &mut reader, &mut writer),
+        Mode::Udp => { serve_datagram(alloc, rt, &rules, zones, address, &mut reader, &mut writer) }
+        Mode::Tcp => serve_stream(alloc, rt, &rules, zones, address, &mut reader, &mut writer),
+        Mode::Lines => serve_lines(alloc, rt, &rules, zones, &mut reader, &mut writer),
     }
 }
 
@@ -246,11 +247,22 @@ fn run_settings<R: Files + Env + Clock + Input + Print + Eprint + Alloc<A = Glob
     }
 }
 
+/// Prints the program's name and version, and gives the status.
+fn print_version<R: Print + Eprint>(rt: &R) -> u8 {
+    match println!(rt; "zone_serve {VERSION}") {
+        Ok(()) => 0,
+        Err(_) => tell(rt, Fault::Write),
+    }
+}
+
 /// Runs the program with these arguments, and gives its status.
 fn run_arguments<R: Files + Env + Clock + Input + Print + Eprint + Alloc<A = Global>>(
     rt: &R,
     arguments: &[String],
 ) -> u8 {
+    if let [word] = arguments && word.as_str() == "--version" {
+        return print_version(rt);
+    }
     match Settings::read(rt.alloc(), arguments) {
         Ok(settings) => run_settings(rt, &settings),
         Err(fault) => tell(rt, Fault::from(fault)),

@@ -3,23 +3,45 @@
 use crate::arguments::{ArgumentFault, Settings};
 use crate::fault::Fault;
 use crate::handler::Handler;
-use crate::keys::NoKeys;
 use hickory_server::access::AccessControl;
 use hickory_server::proto::{LowerName, NSIDPayload, Name, NameError};
+use hickory_server::server::NoKeys;
 use hickory_server::store::blocklist::BlocklistZoneHandler;
 use hickory_server::zone_handler::Catalog;
+use hickory_server::zone_store::Either;
 use std::alloc::{AllocError, Global};
 use std::rc::Rc;
+
+/// How many bytes a reply over UDP has at most where the arguments say nothing: what IPv6 carries in one piece everywhere, of which 48 bytes are
+/// headers (RFC 8200 sections 3 and 5, RFC 768).
+const MAX_UDP: u16 = 1232;
 
 /// A catalog of this program.
 pub type Zones = Catalog<NoKeys, Handler>;
 
+/// What holds of every message.
+#[derive(Drop)]
+pub struct Rules {
+    /// Who may use the server.
+    pub access: AccessControl,
+    /// How many bytes a reply over UDP has at most.
+    pub max_udp: u16,
+}
+
 /// The access list that the arguments ask for.
-pub fn access(alloc: Global, settings: &Settings<'_>) -> Result<AccessControl, AllocError> {
+fn access(alloc: Global, settings: &Settings<'_>) -> Result<AccessControl, AllocError> {
     let mut access = AccessControl::new(alloc);
     access.insert_deny(&settings.denied)?;
     access.insert_allow(&settings.allowed)?;
     Ok(access)
+}
+
+/// The rules that the arguments ask for.
+pub fn rules_of(alloc: Global, settings: &Settings<'_>) -> Result<Rules, AllocError> {
+    Ok(Rules {
+        access: access(alloc, settings)?,
+        max_udp: settings.max_udp.unwrap_or(MAX_UDP),
+    })
 }
 
 /// The name of the apex of a zone, with or without a dot at its end; the root is a dot alone. `place` tells which argument it is.
@@ -62,7 +84,7 @@ pub fn chain(
     let mut chain = Vec::new(alloc);
     chain.push(zone)?;
     if let Some(list) = list {
-        chain.push(Handler::Blocklist(list.clone()?))?;
+        chain.push(Either::Right(list.clone()?))?;
     }
     Ok(chain)
 }

@@ -1,9 +1,9 @@
 //! Serving: each message of a list, one after the other.
 
-ghost use Rattle.std.specs.Prelude.{◌≡◌, List, IfOk, IfErr};
+ghost use Rattle.std.specs.Prelude.{◌≡◌, List, [], IfOk, IfErr, OnOk};
 ghost use Rattle.std.specs.List.{AllZip};
 ghost use Rattle.wire_messages.specs.serialize.writing.Reply.{Reply};
-ghost use Rattle.hickory_base.specs.responses.EncodingSinks.{IsEncodingOf};
+ghost use Rattle.hickory_base.specs.responses.EncodingSinks.{EncodedReplies, IsEncodingOf};
 ghost use Rattle.hickory_catalog.specs.Requests.{RequestAnswered};
 ghost use Rattle.hickory_catalog.specs.Server.{server_of};
 ghost use Rattle.hickory_server.specs.Isolation.{BesideIsARun, EachRunIsBeside, EachRunIsIsolated, ZonesAreIsolated};
@@ -49,12 +49,44 @@ pub enum Outcome {
 /// Where memory was refused.
 #[derive(Clone, Copy, Debug, PartialEq, Eq, thiserror::Error)]
 pub enum ServeError {
-    /// Before or while a message was handled: the catalog is as before it.
+    /// Before or while a message was handled: the catalog is as before it, and no reply was made.
     #[error("no memory")]
     Memory,
     /// After a message was handled, for its replies: the catalog is as after it.
     #[error("no memory for the replies to a message that was handled")]
     MemoryAfterHandling,
+}
+
+/// Hands the replies to a request to a sink that has none.
+///
+/// `Memory` says that the sink was handed none, and `MemoryAfterHandling` that it failed at one, or that an update was made and it was
+/// handed none.
+fn hand_over<S: ReplySigner, H: ZoneHandler>(
+    alloc: Global,
+    catalog: &mut Catalog<S, H>,
+    request: &Request,
+    now: u64,
+    sink: &mut EncodingSink,
+) -> Result<(), ServeError>
+    requires { sink.old ≡ record { protocol = request.now.protocol; replies = []; failures = 0 } }
+    ensures others { catalog.new ≡ record catalog.old { zones = catalog.new.zones } }
+    ensures ok { OnOk result ((replies : List Reply) ×
+        RequestAnswered (server_of H.ZoneHandler S.signature_for catalog.old) request.now now replies catalog.new.zones ×
+        AllZip (IsEncodingOf request.now.protocol) replies sink.new.replies) }
+    ensures err { IfErr result (λ e.
+        LeavesRequest (server_of H.ZoneHandler S.signature_for catalog.old) request.now now sink.new e catalog.new.zones) }
+{
+    match catalog.handle_request(alloc, request, now, sink) {
+        Ok(_) => {}
+        Err(CatalogError::Memory) => return Err(ServeError::Memory),
+        Err(CatalogError::MemoryAfterUpdate) => return Err(ServeError::MemoryAfterHandling),
+    }
+    // The sink fails only where it is refused the memory for a reply.
+    if sink.failures() > 0 {
+        return Err(ServeError::MemoryAfterHandling);
+    }
+    replies_taken::<EncodingSink>();
+    Ok(())
 }
 
 /// The bytes of the replies to a request, in their order.
@@ -68,19 +100,11 @@ fn replies_to<S: ReplySigner, H: ZoneHandler>(
     ensures ok { IfOk result (λ encoded. (replies : List Reply) ×
         RequestAnswered (server_of H.ZoneHandler S.signature_for catalog.old) request.now now replies catalog.new.zones ×
         AllZip (IsEncodingOf request.now.protocol) replies encoded) }
-    ensures err { IfErr result (λ e. LeavesRequest (server_of H.ZoneHandler S.signature_for catalog.old) request.now now e catalog.new.zones) }
+    ensures err { IfErr result (λ e. (sink : EncodedReplies) ×
+        LeavesRequest (server_of H.ZoneHandler S.signature_for catalog.old) request.now now sink e catalog.new.zones) }
 {
     let mut sink = EncodingSink::new(alloc, request.protocol());
-    match catalog.handle_request(alloc, request, now, &mut sink) {
-        Ok(_) => {}
-        Err(CatalogError::Memory) => return Err(ServeError::Memory),
-        Err(CatalogError::MemoryAfterUpdate) => return Err(ServeError::MemoryAfterHandling),
-    }
-    // The sink fails only where it is refused the memory for a reply.
-    if sink.failures() > 0 {
-        return Err(ServeError::MemoryAfterHandling);
-    }
-    replies_taken::<EncodingSink>();
+    hand_over(alloc, catalog, request, now, &mut sink)?;
     Ok(sink.into_replies())
 }
 

@@ -6,6 +6,7 @@ use Rattle.wire_names.specs.declared.error.ProtoError.{ProtoError}
 use Rattle.access_control.specs.Access.{AccessSets, IsAllowed}
 use Rattle.hickory_base.specs.requests.RequestReading.{IsQuestionSection, message_of}
 use Rattle.hickory_base.specs.requests.Requests.{ReceivedRequest}
+use Rattle.hickory_base.specs.responses.EncodingSinks.{EncodedReplies}
 use Rattle.hickory_catalog.specs.Server.{Server}
 use Rattle.hickory_server.specs.Serving.{IsRequestOf, LeavesRequest, LeavesUnserved, handled, unreadable}
 use Rattle.hickory_server.specs.declared.server.serve.Incoming.{Incoming}
@@ -22,10 +23,10 @@ read_as message request is found questions raw source =
     record { reads = rw is at found; questions = rw is at questions; raw = rw is at raw; source_is = (rw is at source).0; protocol_is = (rw is at source).1 }
 
 -- what a request leaves is what its message leaves
-unserved : {H : Type 0} (access : AccessSets) (server : Server H) (message : Incoming) (request : ReceivedRequest) (e : ServeError) (zones : List (DomainName × List H))
-    → IsAllowed access.deny access.allow (socket_ip message.src) → IsRequestOf message request → LeavesRequest server request message.now e zones → LeavesUnserved access server message e zones
-unserved access server message request Memory zones allowed read left = left
-unserved access server message request MemoryAfterHandling zones allowed read left = (allowed, request, read, left)
+unserved : {H : Type 0} (access : AccessSets) (server : Server H) (message : Incoming) (request : ReceivedRequest) (sink : EncodedReplies) (e : ServeError) (zones : List (DomainName × List H))
+    → IsAllowed access.deny access.allow (socket_ip message.src) → IsRequestOf message request → LeavesRequest server request message.now sink e zones → LeavesUnserved access server message e zones
+unserved access server message request sink Memory zones allowed read left = (allowed, left.2)
+unserved access server message request sink MemoryAfterHandling zones allowed read left = (allowed, request, read, sink, left)
 
 pub returns-clause-ok : goal.returns-clause-ok
 returns-clause-ok g c =
@@ -51,7 +52,8 @@ returns-clause-err g c =
       | in-Ok+in-Err-replies_to w ↦
           let it = c.from_bytes-read.ensures in
           let read = read_as c.args.message w.in-Ok.request w.in-Ok.is it.found it.questions it.raw it.source in
-          rw (w.outcome-is, w.catalog-is) (unserved _ _ c.args.message w.in-Ok.request _ _ allowed read w.in-Err-replies_to.ensures.err)
-      | in-Err-Memory w ↦ rw (w.outcome-is, w.catalog-is) refl
+          let left = w.in-Err-replies_to.ensures.err in
+          rw (w.outcome-is, w.catalog-is) (unserved _ _ c.args.message w.in-Ok.request left.0 _ _ allowed read left.1)
+      | in-Err-Memory w ↦ rw (w.outcome-is, w.catalog-is) (allowed, refl)
       | in-Err w ↦ rw w.outcome-is tt
     ]

@@ -1,4 +1,4 @@
-use Rattle.std.proofs.Common.{◌≡◌, List, [], ◌∷◌, ◌++◌, rules, refl, sym, ap, ◌∙◌, append_assoc, arith}
+use Rattle.std.proofs.Common.{◌≡◌, inl, inr, List, [], ◌∷◌, ◌++◌, rules, refl, sym, ap, ◌∙◌, append_assoc, arith}
 use Rattle.std.proofs.lemmas.List.{append-nil, nil_from_length}
 use Rattle.hickory_catalog.specs.Server.{server_of}
 use Rattle.hickory_server.specs.Serving.{none}
@@ -20,7 +20,7 @@ returns-then-is_err-clause-err g c =
       messages_are = so_far.2 ∙ ap (λ (xs : List Incoming). c.loop-message.yielded ++ xs) more;
       between = c.loop-message.catalog.zones;
       run = rw c.reserve.ensures.items so_far.1;
-      left = refl;
+      left = inr (refl, refl);
     }
 
 pub loop-message-preserved : goal.loop-message-preserved
@@ -46,7 +46,7 @@ returns-in-Err-clause-err g c =
       messages_are = so_far.2 ∙ ap (λ (xs : List Incoming). c.loop-message.yielded ++ xs) more;
       between = c.loop-message.catalog.zones;
       run = rw c.reserve.ensures.items so_far.1;
-      left = leaves_between g.H.ZoneHandler g.S.ReplySigner.signature_for c.args.access.now c.args.catalog.now c.loop-message.catalog so_far.0 c.in-Some.message c.in-Err.e c.serve.new.catalog.zones c.in-Err.ensures.err;
+      left = inl (leaves_between g.H.ZoneHandler g.S.ReplySigner.signature_for c.args.access.now c.args.catalog.now c.loop-message.catalog so_far.0 c.in-Some.message c.in-Err.e c.serve.new.catalog.zones c.in-Err.ensures.err);
     }
 
 pub returns-clause-ok : goal.returns-clause-ok
