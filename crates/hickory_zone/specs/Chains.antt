@@ -1,13 +1,15 @@
--- Answers with CNAMEs followed (RFC 1034 sections 3.6.2 and 4.3.2, step 3a).
-use Rattle.std.specs.Prelude.{◌≡◌, Bool, ℕ, zero, suc, true, false, [], ◌∷◌, ◌++◌, Option, Some, None}
+-- Answers with CNAMEs followed (RFC 1034 sections 3.6.2 and 4.3.2, step 3a), and with names that are redirected (RFC 6672 section 3.2).
+use Rattle.std.specs.Prelude.{◌≡◌, Bool, ℕ, zero, suc, true, false, cond, ◌==◌, ◌&&◌, [], ◌∷◌, ◌++◌, Option, Some, None}
 use Rattle.std.specs.List.{list_any}
 use Rattle.std.specs.Option.{IsSomeAnd}
 use Rattle.wire_names.specs.rr.domain.DomainName.{DomainName}
 use Rattle.wire_names.specs.rr.domain.NameOrder.{Encloses, lower_name}
 use Rattle.wire_messages.specs.declared.rr.rdata.RData.{RData}
 use Rattle.wire_messages.specs.declared.rr.rdata.RData.TheVariants as rdata
+use Rattle.wire_messages.specs.declared.rr.record.Record.{Record}
 use Rattle.hickory_base.specs.zone_store.ZoneRecords.{is_at}
-use Rattle.hickory_zone.specs.Zones.{Answers, Records, Zone, answer, alias, referral, no_data, no_name}
+use Rattle.hickory_zone.specs.Redirections.{cname_for, is_too_long, substitute, target_in}
+use Rattle.hickory_zone.specs.Zones.{Answers, Outcome, Records, Zone, answer, alias, referral, no_data, no_name, redirection, type_cname, type_dname}
 
 -- the name that data of a CNAME give
 abbrev pub canonical_in : RData → Option DomainName
@@ -24,32 +26,75 @@ pub record IsIn (zone : Zone) (name : DomainName) : Type 0 where
   pub qualified : name.is_fqdn ≡ true
   pub within : Encloses zone.origin.labels name.labels
 
--- How the chain of a name ends: the records asked for stand last; at the servers of a zone below; at a name without such records; at one that does not exist; outside
--- of the zone, at a name that the chain has been at, or where no more is followed.
+-- How the chain of a name ends: the records asked for stand last; at the servers of a zone below; at a name without such records; at one that does not exist; at one
+-- that a DNAME makes too long (YXDOMAIN); outside of the zone, at a name that the chain has been at, where data give no name, or where no more is followed.
 pub data Ending : Type 0 where
   answered : Ending
   referred : Records → Ending
   without : Ending
   missing : Ending
+  too_long : Ending
   left_open : Ending
 
--- the name owns one of these records
-abbrev pub is_owner_among : DomainName → Records → Bool
-is_owner_among name rs = list_any (is_at name) rs
+abbrev pub is_cname : RData → Bool
+is_cname (rdata.CNAME name) = true
+is_cname other = false
+
+-- the name owns a CNAME among these records
+abbrev pub owns_cname : DomainName → Records → Bool
+owns_cname name rs = list_any (λ r. is_at name r && is_cname r.rdata) rs
+
+abbrev pub is_dname : RData → Bool
+is_dname (rdata.Unknown t bytes) = t == type_dname
+is_dname other = false
+
+-- the name owns a DNAME among these records
+abbrev pub owns_dname : DomainName → Records → Bool
+owns_dname name rs = list_any (λ r. is_at name r && is_dname r.rdata) rs
+
+-- DNAME records, unless they stand in the chain already
+abbrev pub once : Records → Records → Records
+once before [] = []
+once before (r ∷ rs) = cond (owns_dname r.name before) [] (r ∷ rs)
+
+-- What a chain gains at a name: records with which it ends, or records that lead on to a name, if they give one.
+pub data Step : Type 0 where
+  ends : Records → Ending → Step
+  leads : Records → Option DomainName → Step
+
+-- The synthesized CNAME stands behind the DNAME. Where CNAME records are asked for it is the answer.
+abbrev pub by_cname : ℕ → Records → Record RData → DomainName → Step
+by_cname t dname cname target = cond (t == type_cname) (ends (dname ++ cname ∷ []) answered) (leads (dname ++ cname ∷ []) (Some target))
+
+abbrev pub redirect_to : ℕ → DomainName → ℕ → Records → Record RData → Option DomainName → Step
+redirect_to t name k put r None = leads put None
+redirect_to t name k put r (Some target) = cond (is_too_long (substitute name k target)) (ends put too_long) (by_cname t put (cname_for name (substitute name k target) r) (substitute name k target))
+
+-- what a chain gains by the DNAME of the k-th ancestor of a name (RFC 6672 section 3.2, step 3C), where these of its records are put
+abbrev pub redirect : ℕ → DomainName → ℕ → Records → Records → Step
+redirect t name k put [] = leads put None
+redirect t name k put (r ∷ rs) = redirect_to t name k put r (target_in r.rdata)
+
+-- what a chain gains at a name, with these records before, where the zone answers so
+abbrev pub step : ℕ → Records → DomainName → Outcome → Step
+step t before name (answer rs) = ends rs answered
+step t before name (alias rs) = leads rs (canonical rs)
+step t before name (referral servers) = ends [] (referred servers)
+step t before name no_data = ends [] without
+step t before name no_name = ends [] missing
+step t before name (redirection k dname) = redirect t name k (once before dname) dname
 
 -- The records that the answer section gains for a name and a type, where it has some of a chain before, with at most so many CNAMEs followed, and how they end. A
 -- chain goes on to no name that owns a CNAME of it already (RFC 1034 section 3.6.2).
 pub data Chases (zone : Zone) (t : ℕ) : ℕ → Records → DomainName → Records → Ending → Type 0 where
-  found : {left : ℕ} {before : Records} {name : DomainName} {rs : Records} → Answers zone name t (answer rs) → Chases zone t left before name rs answered
-  refers : {left : ℕ} {before : Records} {name : DomainName} {servers : Records} → Answers zone name t (referral servers) → Chases zone t left before name [] (referred servers)
-  has_none : {left : ℕ} {before : Records} {name : DomainName} → Answers zone name t no_data → Chases zone t left before name [] without
-  is_none : {left : ℕ} {before : Records} {name : DomainName} → Answers zone name t no_name → Chases zone t left before name [] missing
-  follows : {left : ℕ} {before : Records} {name target : DomainName} {cname rest : Records} {ending : Ending} → Answers zone name t (alias cname) → canonical cname ≡ Some target → IsIn zone target
-      → is_owner_among target (before ++ cname) ≡ false → Chases zone t left (before ++ cname) (lower_name target) rest ending → Chases zone t (suc left) before name (cname ++ rest) ending
-  comes_back : {left : ℕ} {before : Records} {name target : DomainName} {cname : Records} → Answers zone name t (alias cname) → canonical cname ≡ Some target
-      → is_owner_among target (before ++ cname) ≡ true → Chases zone t left before name cname left_open
-  leaves : {left : ℕ} {before : Records} {name : DomainName} {cname : Records} → Answers zone name t (alias cname) → ¬ (IsSomeAnd (canonical cname) (IsIn zone)) → Chases zone t left before name cname left_open
-  stops : {before : Records} {name : DomainName} {cname : Records} → Answers zone name t (alias cname) → Chases zone t zero before name cname left_open
+  finishes : {left : ℕ} {before : Records} {name : DomainName} {outcome : Outcome} {rs : Records} {ending : Ending} → Answers zone name t outcome → step t before name outcome ≡ ends rs ending → Chases zone t left before name rs ending
+  follows : {left : ℕ} {before : Records} {name target : DomainName} {outcome : Outcome} {rs rest : Records} {ending : Ending} → Answers zone name t outcome → step t before name outcome ≡ leads rs (Some target) → IsIn zone target
+      → owns_cname target (before ++ rs) ≡ false → Chases zone t left (before ++ rs) (lower_name target) rest ending → Chases zone t (suc left) before name (rs ++ rest) ending
+  comes_back : {left : ℕ} {before : Records} {name target : DomainName} {outcome : Outcome} {rs : Records} → Answers zone name t outcome → step t before name outcome ≡ leads rs (Some target)
+      → owns_cname target (before ++ rs) ≡ true → Chases zone t left before name rs left_open
+  leaves : {left : ℕ} {before : Records} {name : DomainName} {outcome : Outcome} {rs : Records} {to : Option DomainName} → Answers zone name t outcome → step t before name outcome ≡ leads rs to
+      → ¬ (IsSomeAnd to (IsIn zone)) → Chases zone t left before name rs left_open
+  stops : {before : Records} {name : DomainName} {outcome : Outcome} {rs : Records} {to : Option DomainName} → Answers zone name t outcome → step t before name outcome ≡ leads rs to → Chases zone t zero before name rs left_open
 
 -- A chain has one answer section and one ending.
 abbrev pub OneChain : Type 0

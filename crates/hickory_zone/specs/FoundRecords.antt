@@ -1,15 +1,17 @@
 -- What is found, where it lies.
-use Rattle.std.specs.Prelude.{◌≡◌, ◌⊎◌, ◌↔◌, ℕ, IsTrue, Option, Some, None}
+use Rattle.std.specs.Prelude.{◌≡◌, ◌⊎◌, ◌↔◌, ◌-◌, ◌<◌, ◌≤◌, ℕ, Bool, true, false, IsTrue, length, drop, Option, Some, None}
+use Rattle.std.specs.Borrow.{Bor}
 use Rattle.std.specs.Option.{IsSomeAnd, option_copied}
 use Rattle.wire_names.specs.rr.domain.DomainName.{DomainName}
 use Rattle.wire_names.specs.rr.domain.NameOrder.{Encloses}
 use Rattle.wire_messages.specs.declared.rr.rr_key.RrKey.{RrKey}
 use Rattle.hickory_base.specs.zone_store.ZoneAnswers.{records_at}
-use Rattle.hickory_zone.specs.Zones.{Records, Sets, Zone, any_of, at_node, type_ns, Delegates, Exists, HasClosestEncloser, IsAuthoritativeAt, Outcome, answer, alias, referral, no_data, no_name, ancestor, owned_by, rrset, synthesized, wildcard}
+use Rattle.hickory_zone.specs.Zones.{Records, Sets, Zone, any_of, at_node, type_dname, type_ns, Delegates, Exists, HasClosestEncloser, HasDname, IsAuthoritativeAt, IsCut, Outcome, Redirects, answer, alias, referral, no_data, no_name, redirection, ancestor, owned_by, rrset, synthesized, wildcard}
 use Rattle.hickory_zone.specs.declared.find.Found.{Found}
 use Rattle.hickory_zone.specs.declared.find.Found.TheVariants as found
 use Rattle.hickory_zone.specs.declared.find.Neighbours.{Neighbours}
 use Rattle.hickory_zone.specs.declared.find.Delegation.{Delegation}
+use Rattle.hickory_zone.specs.declared.redirections.Redirection.{Redirection}
 
 -- there is a key, and its name is the name or below it
 abbrev pub IsAbove : DomainName → Option RrKey → Type 0
@@ -36,6 +38,38 @@ abbrev pub CutAt : Zone → DomainName → Option Delegation → Type 0
 CutAt zone name None = IsAuthoritativeAt zone name
 CutAt zone name (Some cut) = EndsAt zone name cut
 
+-- The name is redirected by these DNAME records, whose owner has so many labels.
+pub record RedirectedBy (zone : Zone) (name : DomainName) (by : Redirection) : Type 0 where
+  pub off : ℕ
+  pub redirects : Redirects zone name off
+  pub dname : rrset zone.sets (ancestor name off) type_dname ≡ Some by.dname.now
+  pub labels : by.labels ≡ length (drop off name.labels)
+
+abbrev pub RedirectedAt : Zone → DomainName → Option Redirection → Type 0
+RedirectedAt zone name None = (k : ℕ) → ¬ (Redirects zone name k)
+RedirectedAt zone name (Some by) = RedirectedBy zone name by
+
+-- the DNAME records that redirect names at one of so many labels or below it, where the zone is cut there or not, owns these, and had others below
+abbrev pub higher : ℕ → Bool → Option (Bor Records) → Option Redirection → Option Redirection
+higher labels true dname below = None
+higher labels false None below = below
+higher labels false (Some dname) below = Some (record { dname = dname; labels = labels })
+
+-- From the name up these DNAME records are the highest, and the zone is cut neither there nor above.
+pub record IsTopDname (zone : Zone) (name : DomainName) (by : Redirection) : Type 0 where
+  pub off : ℕ
+  pub real : off ≤ length name.labels
+  pub owner : HasDname zone (ancestor name off)
+  pub highest : (j : ℕ) → off < j → j ≤ length name.labels → ¬ (HasDname zone (ancestor name j))
+  pub uncut : (j : ℕ) → off ≤ j → ¬ (IsCut zone (ancestor name j))
+  pub dname : rrset zone.sets (ancestor name off) type_dname ≡ Some by.dname.now
+  pub labels : by.labels ≡ length (drop off name.labels)
+
+-- From the name up such records were found, or all DNAME records are at a cut or below one.
+abbrev pub TopDname : Zone → DomainName → Option Redirection → Type 0
+TopDname zone name None = (k : ℕ) → k ≤ length name.labels → HasDname zone (ancestor name k) → (j : ℕ) × (k ≤ j) × IsCut zone (ancestor name j)
+TopDname zone name (Some by) = IsTopDname zone name by
+
 -- what it stands for, where this name is asked for
 abbrev pub outcome_of : Sets → DomainName → Found → Outcome
 outcome_of sets name (found.Answer rs) = answer rs.now
@@ -47,6 +81,7 @@ outcome_of sets name (found.WildEvery key) = synthesized name (any_of (records_a
 outcome_of sets name (found.WildAlias rs) = alias (owned_by name rs.now)
 outcome_of sets name found.NoData = no_data
 outcome_of sets name found.NoName = no_name
+outcome_of sets name (found.Redirected by) = redirection (length name.labels - by.labels) by.dname.now
 
 -- The wildcard below the encloser stands for what does not exist there, if there is one.
 abbrev pub WildFound : Sets → DomainName → ℕ → Found → Type 0

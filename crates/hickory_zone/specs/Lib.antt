@@ -3,6 +3,7 @@ pub mod ChainEnds
 pub mod Chains
 pub mod FoundRecords
 pub mod KeysBeside
+pub mod Redirections
 pub mod Replies
 pub mod WorkedZones
 pub mod Zones

@@ -13,7 +13,7 @@ use Rattle.hickory_base.specs.declared.zone_store.lookup.AuthLookup.{AuthLookup}
 use Rattle.hickory_base.specs.declared.zone_store.lookup.AuthLookup.TheVariants as lookup
 use Rattle.hickory_base.specs.declared.zone_store.lookup.LookupControlFlow.TheVariants.{Break, Continue}
 use Rattle.hickory_zone.specs.Additionals.{additionals}
-use Rattle.hickory_zone.specs.Chains.{Chases, Ending, IsIn, answered, left_open, missing, referred, without}
+use Rattle.hickory_zone.specs.Chains.{Chases, Ending, IsIn, answered, left_open, missing, referred, too_long, without}
 use Rattle.hickory_zone.specs.Zones.{Records, Sets, Zone}
 
 -- its apex and its RRsets
@@ -21,12 +21,13 @@ abbrev pub zone_of : MemoryZone → Zone
 zone_of zone = record { origin = zone.origin; sets = zone.sets }
 
 -- The records of the answer section, or the servers of a zone below (which the catalog moves to the authority section), with additionals; behind a CNAME nothing but the chain
--- tells how it ended.
+-- tells how it ended. YXDOMAIN is 6.
 abbrev pub reply_of : Sets → Records → Ending → Result AuthLookup LookupError
 reply_of sets rs answered = Ok (lookup.Records rs (additionals sets rs))
 reply_of sets [] (referred servers) = Ok (lookup.Records servers (additionals sets servers))
 reply_of sets [] without = no_data
 reply_of sets [] missing = no_name
+reply_of sets rs too_long = Err (ResponseCode 6)
 reply_of sets [] left_open = Ok (lookup.Records [] [])
 reply_of sets (r ∷ rs) (referred servers) = Ok (lookup.Records (r ∷ rs) [])
 reply_of sets (r ∷ rs) without = Ok (lookup.Records (r ∷ rs) [])

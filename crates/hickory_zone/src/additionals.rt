@@ -40,7 +40,7 @@ fn target_start(record_type: RecordType) -> Option<usize>
 }
 
 /// Whether memory was refused.
-fn is_memory(e: &DecodeError) -> bool
+pub(crate) fn is_memory(e: &DecodeError) -> bool
     ensures { IsTrue result ↔ (e.now ≡ decode_error.Memory) }
 {
     matches!(e, DecodeError::Memory)

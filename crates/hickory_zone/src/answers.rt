@@ -91,6 +91,9 @@ fn reply_of(
     if let ChainEnd::Answered = end {
         return Ok(with_additionals(alloc, sets, answers)?);
     }
+    if let ChainEnd::TooLong = end {
+        return Err(LookupError::ResponseCode(ResponseCode::YX_DOMAIN));
+    }
     if !answers.is_empty() {
         return Ok(AuthLookup::Records {
             answers: Items::from_vec(answers),

@@ -1,7 +1,6 @@
-//! CNAMEs that are followed.
+//! CNAMEs that are followed, those too that a DNAME makes.
 
-ghost use Rattle.std.specs.Prelude.{◌≡◌, ◌++◌, OnOk, IfOk, MatchOption, Some, true, cond};
-ghost use Rattle.std.specs.List.{list_any};
+ghost use Rattle.std.specs.Prelude.{◌≡◌, ◌++◌, ◌&&◌, OnOk, IfOk, MatchOption, Some, true, cond};
 ghost use Rattle.std.specs.Option.{IsSomeAnd};
 ghost use Rattle.hickory_base.specs.zone_store.ZoneAnswers.{records_at};
 ghost use Rattle.hickory_base.specs.zone_store.ZoneRecords.{is_at};
@@ -9,12 +8,13 @@ ghost use Rattle.hickory_base.specs.zone_store.ZoneSets.{sets_of};
 ghost use Rattle.wire_names.specs.rr.domain.NameOrder.{Encloses, lower_name};
 ghost use Rattle.hickory_zone.specs.Zones.{AreOwners, Sets, owned_by};
 ghost use Rattle.wire_names.specs.rr.domain.DomainName.{DomainName};
-ghost use Rattle.hickory_zone.specs.Chains.{IsIn, canonical, is_owner_among};
+ghost use Rattle.hickory_zone.specs.Chains.{IsIn, canonical, is_cname, owns_cname};
 ghost use Rattle.hickory_zone.specs.ChainEnds.{Chased, IsAllPut, Linked, ending_of};
 ghost use Rattle.hickory_zone.specs.declared.chains.ChainEnd.TheVariants.{Answered, Without};
 ghost use Rattle.hickory_zone.specs.declared.chains.Link.TheVariants.{End};
 
 use crate::find::{Found, look_up};
+use crate::redirections::append_redirection;
 use hickory_base::zone_store::RecordSet;
 use hickory_wire::{LowerName, Name, RData, Record, RecordType, RrKey};
 use std::alloc::{AllocError, Global};
@@ -61,17 +61,19 @@ pub enum ChainEnd<'z> {
     Without,
     /// At a name that does not exist.
     Missing,
-    /// Outside of the zone, at a name that the chain has been at, or where no more is followed.
+    /// At a name that a DNAME makes too long.
+    TooLong,
+    /// Outside of the zone, at a name that the chain has been at, where data give no name, or where no more is followed.
     LeftOpen,
 }
 
 /// One link of a chain.
-#[derive(Clone, Copy)]
+#[derive(Drop)]
 pub(crate) enum Link<'z> {
     /// It is the last.
     End(ChainEnd<'z>),
-    /// These records, or those of a wildcard, lead on.
-    Alias(&'z [Record]),
+    /// Its records lead on to this name, if they give one.
+    Leads(Option<Name>),
 }
 
 /// Puts copies of all records of the key's name last. No type is below that of the key. Where memory is refused, those of a front of
@@ -136,6 +138,19 @@ fn append_all_owned<'z>(
     Ok(end_at_all(before < answers.len()))
 }
 
+/// The canonical name of CNAME records.
+fn canonical(cname: &[Record]) -> Result<Option<Name>, AllocError>
+    ensures { IfOk result (λ found. found ≡ canonical cname.now) }
+{
+    match cname.first() {
+        Some(Record {
+            rdata: RData::CNAME(target),
+            ..
+        }) => Ok(Some(target.clone()?)),
+        _ => Ok(None),
+    }
+}
+
 /// Puts what the zone has for one name last.
 fn append_link<'z>(
     alloc: Global,
@@ -164,38 +179,35 @@ fn append_link<'z>(
         Found::WildEvery(key) => append_all_owned(alloc, sets, key, first.name.as_name(), answers),
         Found::Alias(records) => {
             append_copies(answers, records)?;
-            Ok(Link::Alias(records))
+            Ok(Link::Leads(canonical(records)?))
         }
         Found::WildAlias(records) => {
             append_owned(answers, first.name.as_name(), records)?;
-            Ok(Link::Alias(records))
+            Ok(Link::Leads(canonical(records)?))
         }
         Found::Referral(servers) => Ok(Link::End(ChainEnd::Referred(servers))),
         Found::NoData => Ok(Link::End(ChainEnd::Without)),
         Found::NoName => Ok(Link::End(ChainEnd::Missing)),
+        Found::Redirected(by) => {
+            append_redirection(alloc, first.name.as_name(), record_type, by, answers)
+        }
     }
 }
 
-/// The canonical name of CNAME records, if the zone of this origin has it.
-fn canonical_within(
+/// The name that a chain leads to, if the zone of this origin has it.
+fn next_within(
     alloc: Global,
     origin: &LowerName,
-    cname: &[Record],
+    to: Option<Name>,
 ) -> Result<Option<LowerName>, AllocError>
     ensures { IfOk result (λ found. MatchOption found
-        ((sets : Sets) → ¬ (IsSomeAnd (canonical cname.now) (IsIn (record { origin = origin.now; sets = sets }))))
-        (λ name. (target : DomainName) × (canonical cname.now ≡ Some target) × (name ≡ lower_name target) × (target.is_fqdn ≡ true) × Encloses origin.now.labels name.labels)) }
+        ((sets : Sets) → ¬ (IsSomeAnd to (IsIn (record { origin = origin.now; sets = sets }))))
+        (λ name. (target : DomainName) × (to ≡ Some target) × (name ≡ lower_name target) × (target.is_fqdn ≡ true) × Encloses origin.now.labels name.labels)) }
 {
-    let Some(
-        Record {
-            rdata: RData::CNAME(target),
-            ..
-        },
-    ) = cname.first()
-    else {
+    let Some(target) = to else {
         return Ok(None);
     };
-    let name = LowerName::new(alloc, target)?;
+    let name = LowerName::new(alloc, &target)?;
     if target.is_fqdn() && origin.zone_of(&name) {
         Ok(Some(name))
     } else {
@@ -203,18 +215,18 @@ fn canonical_within(
     }
 }
 
-/// Whether the record has this owner name.
-fn is_owned(q: &Record, name: &LowerName) -> bool
-    ensures { result ≡ is_at name.now q.now }
+/// Whether the record is a CNAME that this name owns.
+fn is_cname_of(name: &LowerName, q: &Record) -> bool
+    ensures { result ≡ (is_at name.now q.now && is_cname q.now.rdata) }
 {
-    name.as_name() == &q.name
+    matches!(&q.rdata, RData::CNAME(_)) && name.as_name() == &q.name
 }
 
-/// Whether one of the records has this owner name.
-fn is_owner_among(name: &LowerName, records: &[Record]) -> bool
-    ensures { result ≡ list_any (is_at name.now) records.now }
+/// Whether the name owns a CNAME among the records.
+fn owns_cname(name: &LowerName, records: &[Record]) -> bool
+    ensures { result ≡ owns_cname name.now records.now }
 {
-    records.iter().any(|q| is_owned(q, name))
+    records.iter().any(|q| is_cname_of(name, q))
 }
 
 /// Puts the records of the answer section for a name in the zone last, with at most so many CNAMEs followed. The records of a chain
@@ -234,17 +246,17 @@ pub fn follow<'z>(
     requires within { Encloses origin.now.labels first.now.name.labels }
     ensures { IfOk result (λ end. Chased (record { origin = origin.now; sets = sets_of sets.now }) record_type left first.now.name answers.old.items answers.new.items (ending_of end)) }
 {
-    let cname = match append_link(alloc, origin, sets, first, record_type, answers)? {
+    let to = match append_link(alloc, origin, sets, first, record_type, answers)? {
         Link::End(end) => return Ok(end),
-        Link::Alias(cname) => cname,
+        Link::Leads(to) => to,
     };
     if left == 0 {
         return Ok(ChainEnd::LeftOpen);
     }
-    let Some(name) = canonical_within(alloc, origin, cname)? else {
+    let Some(name) = next_within(alloc, origin, to)? else {
         return Ok(ChainEnd::LeftOpen);
     };
-    if is_owner_among(&name, answers.as_slice()) {
+    if owns_cname(&name, answers.as_slice()) {
         return Ok(ChainEnd::LeftOpen);
     }
     let next = RrKey::new(name, RecordType::new(0));

@@ -5,7 +5,7 @@ ghost use Rattle.std.specs.Bool.{OnTrue};
 ghost use Rattle.std.specs.Option.{option_copied};
 ghost use Rattle.hickory_base.specs.zone_store.ZoneAnswers.{records_at};
 ghost use Rattle.hickory_base.specs.zone_store.ZoneSets.{has_name, sets_of};
-ghost use Rattle.hickory_zone.specs.Zones.{AreOwners, Answers, Exists, Sets, any_of, ancestor, at_node, Zone, of_sets, rrset, synthesized, type_any, type_cname, type_ds, type_ns};
+ghost use Rattle.hickory_zone.specs.Zones.{AreOwners, Answers, AnswersDirectly, Exists, Sets, any_of, ancestor, at_node, Zone, of_sets, rrset, synthesized, type_any, type_cname, type_ds, type_ns};
 ghost use Rattle.hickory_zone.specs.FoundRecords.{first_or};
 ghost use Rattle.hickory_zone.specs.KeysBeside.{SharedMap, StandsBehind};
 ghost use Rattle.std.specs.Option.{unwrap_or};
@@ -13,6 +13,7 @@ ghost use Rattle.wire_names.specs.rr.domain.DomainName.{DomainName};
 ghost use Rattle.hickory_zone.specs.FoundRecords.{CutAt, WildFound, outcome_of, IsAbove, IsEncloser, Tells};
 ghost use Rattle.wire_names.specs.rr.domain.NameOrder.{Encloses};
 
+use crate::redirections::{Redirection, redirection_of, top_dname};
 use crate::wildcards::wildcard_below;
 use hickory_base::zone_store::RecordSet;
 use hickory_wire::{LowerName, Record, RecordType, RrKey};
@@ -263,6 +264,8 @@ pub enum Found<'z> {
     NoData,
     /// The name does not exist.
     NoName,
+    /// The DNAME records that redirect the name.
+    Redirected(Redirection<'z>),
 }
 
 /// What is found at a name that owns this.
@@ -363,7 +366,7 @@ fn find_existing<'z>(
     cut: Option<Delegation<'z>>,
 ) -> Found<'z>
     ensures { (zone : Zone) (name : DomainName) → CutAt zone name cut.entry → Exists zone.sets name
-        → option_copied node.entry.wanted ≡ rrset zone.sets name record_type → option_copied node.entry.alias ≡ rrset zone.sets name type_cname → Answers zone name record_type (outcome_of zone.sets name result) }
+        → option_copied node.entry.wanted ≡ rrset zone.sets name record_type → option_copied node.entry.alias ≡ rrset zone.sets name type_cname → AnswersDirectly zone name record_type (outcome_of zone.sets name result) }
 {
     if let Some(cut) = cut {
         if !stands_above(cut, record_type) {
@@ -415,10 +418,35 @@ fn look_above<'z>(
     let Some(encloser) = closest_encloser(sets, first, behind)? else {
         return Ok(Found::NoName);
     };
+    if let Some(by) = top_dname(sets, origin, encloser.clone()?) {
+        return Ok(Found::Redirected(by));
+    }
     if let Some(cut) = highest_cut(sets, origin, encloser.clone()?) {
         return Ok(Found::Referral(cut.servers));
     }
     find_wild(alloc, sets, &encloser, record_type)
+}
+
+/// What the zone has for a name in it that exists and owns this.
+fn look_at<'z>(
+    origin: &LowerName,
+    sets: &'z BTreeMap<RrKey, Rc<RecordSet>>,
+    name: &LowerName,
+    record_type: RecordType,
+    node: Node<'z>,
+) -> Result<Found<'z>, AllocError>
+    requires within { Encloses origin.now.labels name.now.labels }
+    requires exists { Exists (sets_of sets.now) name.now }
+    requires wanted { option_copied node.wanted ≡ rrset (sets_of sets.now) name.now record_type }
+    requires alias { option_copied node.alias ≡ rrset (sets_of sets.now) name.now type_cname }
+    requires servers { option_copied node.servers ≡ rrset (sets_of sets.now) name.now type_ns }
+    ensures { IfOk result (λ found. Answers (record { origin = origin.now; sets = sets_of sets.now }) name.now record_type (outcome_of (sets_of sets.now) name.now found)) }
+{
+    if let Some(by) = redirection_of(sets, origin, name)? {
+        return Ok(Found::Redirected(by));
+    }
+    let cut = cut_at(sets, origin, name, node.servers)?;
+    Ok(find_existing(node, record_type, cut))
 }
 
 /// What the zone of this origin has for a name in it and a type (RFC 1034 section 4.3.2). No type is below that of the key.
@@ -437,8 +465,7 @@ pub fn look_up<'z>(
 {
     let node = node_at(sets, first, record_type);
     if is_above(&first.name, node.behind) {
-        let cut = cut_at(sets, origin, &first.name, node.servers)?;
-        Ok(find_existing(node, record_type, cut))
+        look_at(origin, sets, &first.name, record_type, node)
     } else {
         look_above(alloc, origin, sets, first, record_type, node.behind)
     }

@@ -2,7 +2,7 @@
 
 ghost use Rattle.std.specs.Prelude.{◌≡◌, ◌∷◌, []};
 ghost use Rattle.hickory_zone.specs.Chains.{OneChain};
-ghost use Rattle.hickory_zone.specs.Zones.{OneAnswer, type_a, type_aaaa, type_any, type_cname, type_ds, type_ns};
+ghost use Rattle.hickory_zone.specs.Zones.{OneAnswer, type_a, type_aaaa, type_any, type_cname, type_dname, type_ds, type_ns};
 
 use hickory_wire::RecordType;
 
@@ -17,14 +17,15 @@ pub fn chains_once()
 {}
 
 /// The types that the definitions name.
-pub fn named_types() -> [RecordType; 6]
-    ensures { result ≡ type_a ∷ type_ns ∷ type_cname ∷ type_aaaa ∷ type_ds ∷ type_any ∷ [] }
+pub fn named_types() -> [RecordType; 7]
+    ensures { result ≡ type_a ∷ type_ns ∷ type_cname ∷ type_aaaa ∷ type_dname ∷ type_ds ∷ type_any ∷ [] }
 {
     [
         RecordType::A,
         RecordType::NS,
         RecordType::CNAME,
         RecordType::AAAA,
+        RecordType::new(39),
         RecordType::DS,
         RecordType::ANY,
     ]

@@ -7,6 +7,7 @@ mod authoritative_zone;
 mod chains;
 mod find;
 pub mod laws;
+mod redirections;
 mod wildcards;
 pub mod worked;
 
@@ -15,3 +16,4 @@ pub use answers::{answer, are_owners, stored};
 pub use authoritative_zone::AuthoritativeZone;
 pub use chains::{ChainEnd, follow};
 pub use find::{Found, look_up};
+pub use redirections::Redirection;

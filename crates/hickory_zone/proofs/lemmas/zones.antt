@@ -5,6 +5,7 @@ pub mod Every
 pub mod Nodes
 pub mod Outcomes
 pub mod Owners
+pub mod Redirected
 pub mod Unique
 pub mod Wild
 pub mod Written

@@ -1,7 +1,6 @@
-use Rattle.std.proofs.Common.{◌++◌, [], sym, ap, subst, ◌∙◌}
+use Rattle.std.proofs.Common.{◌++◌, [], refl, sym, ap, subst, ◌∙◌}
 use Rattle.std.proofs.lemmas.List.{append-nil}
 use Rattle.hickory_base.specs.zone_store.ZoneSets.{sets_of}
-use Rattle.hickory_zone.specs.Chains.{found, has_none, is_none, refers}
 use Rattle.hickory_base.specs.zone_store.ZoneAnswers.{records_at}
 use Rattle.hickory_zone.specs.ChainEnds.{IsAllPut}
 use Rattle.hickory_zone.proofs.lemmas.replies.AllPut.{all_linked, all_owned_linked}
@@ -13,7 +12,7 @@ pub returns-in_ok-append_copies-in-Answer : goal.returns-in_ok-append_copies-in-
 returns-in_ok-append_copies-in-Answer c =
     let zone : Zone = record { origin = c.args.origin.now; sets = sets_of c.args.sets.now } in
     let says : Answers zone c.args.first.now.name c.args.record_type (answer c.in-Answer.records.now) = rw c.in-Answer.is at c.in_ok-records.ensures in
-    record { added = c.in-Answer.records.now; put = c.in_ok-append_copies-in-Answer.ensures; says = λ left. found says }
+    record { outcome = _; says = says; gained = record { added = c.in-Answer.records.now; put = c.in_ok-append_copies-in-Answer.ensures; is = refl } }
 
 pub returns-in_ok-append_owned-in-WildAnswer : goal.returns-in_ok-append_owned-in-WildAnswer
 returns-in_ok-append_owned-in-WildAnswer c =
@@ -21,28 +20,32 @@ returns-in_ok-append_owned-in-WildAnswer c =
     let name = c.args.first.now.name in
     let says : Answers zone name c.args.record_type (answer (owned_by name c.in-WildAnswer.records.now)) = rw c.in-WildAnswer.is at c.in_ok-records.ensures in
     record {
-      added = owned_by name c.in-WildAnswer.records.now;
-      put = c.in_ok-append_owned-in-WildAnswer.ensures ∙ ap (λ n. c.args.answers.now.items ++ owned_by n c.in-WildAnswer.records.now) c.as_name.ensures.name;
-      says = λ left. found says;
+      outcome = _;
+      says = says;
+      gained = record {
+        added = owned_by name c.in-WildAnswer.records.now;
+        put = c.in_ok-append_owned-in-WildAnswer.ensures ∙ ap (λ n. c.args.answers.now.items ++ owned_by n c.in-WildAnswer.records.now) c.as_name.ensures.name;
+        is = refl;
+      };
     }
 
 pub returns-in-Referral : goal.returns-in-Referral
 returns-in-Referral c =
     let zone : Zone = record { origin = c.args.origin.now; sets = sets_of c.args.sets.now } in
     let says : Answers zone c.args.first.now.name c.args.record_type (referral c.in-Referral.servers.now) = rw c.in-Referral.is at c.in_ok-records.ensures in
-    record { added = []; put = sym (append-nil c.args.answers.now.items); says = λ left. refers says }
+    record { outcome = _; says = says; gained = record { added = []; put = sym (append-nil c.args.answers.now.items); is = refl } }
 
 pub returns-in-NoData : goal.returns-in-NoData
 returns-in-NoData c =
     let zone : Zone = record { origin = c.args.origin.now; sets = sets_of c.args.sets.now } in
     let says : Answers zone c.args.first.now.name c.args.record_type no_data = rw c.in-NoData.is at c.in_ok-records.ensures in
-    record { added = []; put = sym (append-nil c.args.answers.now.items); says = λ left. has_none says }
+    record { outcome = _; says = says; gained = record { added = []; put = sym (append-nil c.args.answers.now.items); is = refl } }
 
 pub returns-in-NoName : goal.returns-in-NoName
 returns-in-NoName c =
     let zone : Zone = record { origin = c.args.origin.now; sets = sets_of c.args.sets.now } in
     let says : Answers zone c.args.first.now.name c.args.record_type no_name = rw c.in-NoName.is at c.in_ok-records.ensures in
-    record { added = []; put = sym (append-nil c.args.answers.now.items); says = λ left. is_none says }
+    record { outcome = _; says = says; gained = record { added = []; put = sym (append-nil c.args.answers.now.items); is = refl } }
 
 pub returns-in-Every : goal.returns-in-Every
 returns-in-Every c =

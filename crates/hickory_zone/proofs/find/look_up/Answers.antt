@@ -12,10 +12,7 @@ look_above-requires-clause-missing c =
     λ x. false≢true (sym f ∙ c.is_above.ensures.1
     ((exists_behind c.args.sets.now c.args.first.now (option_copied c.node_at-node.result.behind) c.args.origin.now c.requires.least c.requires.qualified c.requires.owners c.node_at-node.ensures.behind).0 x))
 
-pub returns-in_ok-cut : goal.returns-in_ok-cut
-returns-in_ok-cut c =
-    let zone : Zone = record { origin = c.args.origin.now; sets = sets_of c.args.sets.now } in
-    c.find_existing.ensures zone c.args.first.now.name c.in_ok-cut.ensures
-    ((exists_behind c.args.sets.now c.args.first.now (option_copied c.node_at-node.result.behind) c.args.origin.now c.requires.least c.requires.qualified c.requires.owners c.node_at-node.ensures.behind).1
-    (c.is_above.ensures.0 c.if-is_above.true))
-    c.node_at-node.ensures.wanted c.node_at-node.ensures.alias
+pub look_at-requires-clause-exists : goal.look_at-requires-clause-exists
+look_at-requires-clause-exists c =
+    (exists_behind c.args.sets.now c.args.first.now (option_copied c.node_at-node.result.behind) c.args.origin.now c.requires.least c.requires.qualified c.requires.owners c.node_at-node.ensures.behind).1
+    (c.is_above.ensures.0 c.if-is_above.true)

@@ -12,7 +12,7 @@ use Rattle.hickory_base.specs.declared.zone_store.lookup.AuthLookup.TheVariants 
 use Rattle.wire_messages.specs.declared.rr.rdata.RData.TheVariants as rdata
 use Rattle.std.proofs.Common.{List, Option, Some, true}
 use Rattle.hickory_zone.specs.Additionals.{addresses_after, at_most_one, host_in, hosts_of, is_hostless, is_none_named, name_from, target_start}
-use Rattle.hickory_zone.specs.Chains.{Chases, Ending, IsIn, found, has_none, is_none}
+use Rattle.hickory_zone.specs.Chains.{Chases, Ending, IsIn, finishes}
 use Rattle.hickory_zone.specs.ChainEnds.{Chased}
 use Rattle.hickory_zone.specs.Replies.{IsStandard, StandardAnswer, inside, reply_of, zone_of}
 use Rattle.hickory_zone.specs.Zones.{Answers, Outcome, Records, Sets, Zone, answer, no_data, no_name}
@@ -62,10 +62,10 @@ module _ (zone : MemoryZone) (name : DomainName) (t : ℕ) (within : IsIn (zone_
   moved outcome a = subst (λ (z : Zone). Answers z name t outcome) (zone_is zone origin sets o s) a
 
   pub lent : (rs : Records) → Answers (record { origin = origin; sets = sets }) name t (answer rs) → AllByRecursion (λ (q : Record RData). is_hostless q.rdata ≡ true) rs → StandardAnswer (zone_of zone) name t (Ok (lookup.Records rs []))
-  lent rs a h = subst (λ more. StandardAnswer (zone_of zone) name t (Ok (lookup.Records rs more))) (ap (addresses_after zone.sets []) (no_hosts rs h)) (inside within (found (moved (answer rs) a)))
+  lent rs a h = subst (λ more. StandardAnswer (zone_of zone) name t (Ok (lookup.Records rs more))) (ap (addresses_after zone.sets []) (no_hosts rs h)) (inside within (finishes (moved (answer rs) a) refl))
 
   pub lent_no_data : Answers (record { origin = origin; sets = sets }) name t no_data → StandardAnswer (zone_of zone) name t nothing_there
-  lent_no_data a = inside within (has_none (moved no_data a))
+  lent_no_data a = inside within (finishes (moved no_data a) refl)
 
   pub lent_no_name : Answers (record { origin = origin; sets = sets }) name t no_name → StandardAnswer (zone_of zone) name t nobody_there
-  lent_no_name a = inside within (is_none (moved no_name a))
+  lent_no_name a = inside within (finishes (moved no_name a) refl)

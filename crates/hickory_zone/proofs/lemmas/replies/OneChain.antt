@@ -1,102 +1,89 @@
 -- A chain has one answer section and one ending.
-use Rattle.std.proofs.Common.{◌≡◌, ℕ, ◌++◌, Some, refl, sym, ap, subst, ◌∙◌}
+use Rattle.std.proofs.Common.{◌≡◌, ℕ, ◌++◌, Option, Some, refl, sym, ap, subst, ◌∙◌}
 use Rattle.std.specs.Option.{IsSomeAnd}
 use Rattle.std.proofs.lemmas.Bool.{false≢true}
 use Rattle.wire_names.specs.rr.domain.DomainName.{DomainName}
 use Rattle.wire_names.specs.rr.domain.NameOrder.{lower_name}
 use Rattle.hickory_zone.proofs.lemmas.zones.Unique.{once}
-use Rattle.hickory_zone.specs.Chains.{Chases, Ending, IsIn, canonical, comes_back, follows, found, has_none, is_none, is_owner_among, leaves, referred, refers, stops}
-use Rattle.hickory_zone.specs.Zones.{Records, Zone, alias, answer, no_data, no_name, referral}
+use Rattle.hickory_zone.specs.Chains.{Chases, Ending, IsIn, Step, comes_back, ends, finishes, follows, leads, leaves, owns_cname, step, stops}
+use Rattle.hickory_zone.specs.Zones.{Answers, Outcome, Records, Zone}
 
-of_answer : (rs qs : Records) → answer rs ≡ answer qs → rs ≡ qs
-of_answer rs qs e = cc
+same_ends : (rs qs : Records) (end last : Ending) → ends rs end ≡ ends qs last → (rs ≡ qs) × (end ≡ last)
+same_ends rs qs end last e = (cc, cc)
 
-of_referral : (rs qs : Records) → referral rs ≡ referral qs → rs ≡ qs
-of_referral rs qs e = cc
+same_records : (rs qs : Records) (to on : Option DomainName) → leads rs to ≡ leads qs on → rs ≡ qs
+same_records rs qs to on e = cc
 
-of_alias : (rs qs : Records) → alias rs ≡ alias qs → rs ≡ qs
-of_alias rs qs e = cc
+same_way : (rs qs : Records) (to on : Option DomainName) → leads rs to ≡ leads qs on → to ≡ on
+same_way rs qs to on e = cc
 
-same_target : (rs qs : Records) (one other : DomainName) → rs ≡ qs → canonical rs ≡ Some one → canonical qs ≡ Some other → one ≡ other
-same_target rs qs one other e f g = let s : Some one ≡ Some other = sym f ∙ ap canonical e ∙ g in cc
+same_target : (one other : DomainName) → Some one ≡ Some other → one ≡ other
+same_target one other e = cc
+
+apart : (rs qs : Records) (end : Ending) (to : Option DomainName) → ends rs end ≡ leads qs to → ⊥
+apart rs qs end to e = absurd cc
 
 module _ (zone : Zone) (t : ℕ) where
+  same_step : (before : Records) (name : DomainName) (o p : Outcome) (one other : Step) → Answers zone name t o → Answers zone name t p → step t before name o ≡ one → step t before name p ≡ other → one ≡ other
+  same_step before name o p one other a b e f = sym e ∙ ap (step t before name) (once zone name t o p a b) ∙ f
+
   pub chain_once : (left : ℕ) (before : Records) (name : DomainName) (one other : Records) (end last : Ending) → Chases zone t left before name one end → Chases zone t left before name other last → (one ≡ other) × (end ≡ last)
-  chain_once left before name one other end last (found {rs = prs} pa) (found {rs = qrs} qa) = (of_answer prs qrs (once zone name t (answer prs) (answer qrs) pa qa), refl)
-  chain_once left before name one other end last (found {rs = prs} pa) (refers {servers = qrs} qa) = let e : answer prs ≡ referral qrs = once zone name t (answer prs) (referral qrs) pa qa in absurd cc
-  chain_once left before name one other end last (found {rs = prs} pa) (has_none qa) = let e : answer prs ≡ no_data = once zone name t (answer prs) (no_data) pa qa in absurd cc
-  chain_once left before name one other end last (found {rs = prs} pa) (is_none qa) = let e : answer prs ≡ no_name = once zone name t (answer prs) (no_name) pa qa in absurd cc
-  chain_once left before name one other end last (found {rs = prs} pa) (follows {left = qleft} {target = qtarget} {cname = qrs} {rest = qrest} qa qc qi qf qon) = let e : answer prs ≡ alias qrs = once zone name t (answer prs) (alias qrs) pa qa in absurd cc
-  chain_once left before name one other end last (found {rs = prs} pa) (comes_back {target = qtarget} {cname = qrs} qa qc qf) = let e : answer prs ≡ alias qrs = once zone name t (answer prs) (alias qrs) pa qa in absurd cc
-  chain_once left before name one other end last (found {rs = prs} pa) (leaves {cname = qrs} qa qout) = let e : answer prs ≡ alias qrs = once zone name t (answer prs) (alias qrs) pa qa in absurd cc
-  chain_once left before name one other end last (found {rs = prs} pa) (stops {cname = qrs} qa) = let e : answer prs ≡ alias qrs = once zone name t (answer prs) (alias qrs) pa qa in absurd cc
-  chain_once left before name one other end last (refers {servers = prs} pa) (found {rs = qrs} qa) = let e : referral prs ≡ answer qrs = once zone name t (referral prs) (answer qrs) pa qa in absurd cc
-  chain_once left before name one other end last (refers {servers = prs} pa) (refers {servers = qrs} qa) = (refl, ap referred (of_referral prs qrs (once zone name t (referral prs) (referral qrs) pa qa)))
-  chain_once left before name one other end last (refers {servers = prs} pa) (has_none qa) = let e : referral prs ≡ no_data = once zone name t (referral prs) (no_data) pa qa in absurd cc
-  chain_once left before name one other end last (refers {servers = prs} pa) (is_none qa) = let e : referral prs ≡ no_name = once zone name t (referral prs) (no_name) pa qa in absurd cc
-  chain_once left before name one other end last (refers {servers = prs} pa) (follows {left = qleft} {target = qtarget} {cname = qrs} {rest = qrest} qa qc qi qf qon) = let e : referral prs ≡ alias qrs = once zone name t (referral prs) (alias qrs) pa qa in absurd cc
-  chain_once left before name one other end last (refers {servers = prs} pa) (comes_back {target = qtarget} {cname = qrs} qa qc qf) = let e : referral prs ≡ alias qrs = once zone name t (referral prs) (alias qrs) pa qa in absurd cc
-  chain_once left before name one other end last (refers {servers = prs} pa) (leaves {cname = qrs} qa qout) = let e : referral prs ≡ alias qrs = once zone name t (referral prs) (alias qrs) pa qa in absurd cc
-  chain_once left before name one other end last (refers {servers = prs} pa) (stops {cname = qrs} qa) = let e : referral prs ≡ alias qrs = once zone name t (referral prs) (alias qrs) pa qa in absurd cc
-  chain_once left before name one other end last (has_none pa) (found {rs = qrs} qa) = let e : no_data ≡ answer qrs = once zone name t (no_data) (answer qrs) pa qa in absurd cc
-  chain_once left before name one other end last (has_none pa) (refers {servers = qrs} qa) = let e : no_data ≡ referral qrs = once zone name t (no_data) (referral qrs) pa qa in absurd cc
-  chain_once left before name one other end last (has_none pa) (has_none qa) = (refl, refl)
-  chain_once left before name one other end last (has_none pa) (is_none qa) = let e : no_data ≡ no_name = once zone name t (no_data) (no_name) pa qa in absurd cc
-  chain_once left before name one other end last (has_none pa) (follows {left = qleft} {target = qtarget} {cname = qrs} {rest = qrest} qa qc qi qf qon) = let e : no_data ≡ alias qrs = once zone name t (no_data) (alias qrs) pa qa in absurd cc
-  chain_once left before name one other end last (has_none pa) (comes_back {target = qtarget} {cname = qrs} qa qc qf) = let e : no_data ≡ alias qrs = once zone name t (no_data) (alias qrs) pa qa in absurd cc
-  chain_once left before name one other end last (has_none pa) (leaves {cname = qrs} qa qout) = let e : no_data ≡ alias qrs = once zone name t (no_data) (alias qrs) pa qa in absurd cc
-  chain_once left before name one other end last (has_none pa) (stops {cname = qrs} qa) = let e : no_data ≡ alias qrs = once zone name t (no_data) (alias qrs) pa qa in absurd cc
-  chain_once left before name one other end last (is_none pa) (found {rs = qrs} qa) = let e : no_name ≡ answer qrs = once zone name t (no_name) (answer qrs) pa qa in absurd cc
-  chain_once left before name one other end last (is_none pa) (refers {servers = qrs} qa) = let e : no_name ≡ referral qrs = once zone name t (no_name) (referral qrs) pa qa in absurd cc
-  chain_once left before name one other end last (is_none pa) (has_none qa) = let e : no_name ≡ no_data = once zone name t (no_name) (no_data) pa qa in absurd cc
-  chain_once left before name one other end last (is_none pa) (is_none qa) = (refl, refl)
-  chain_once left before name one other end last (is_none pa) (follows {left = qleft} {target = qtarget} {cname = qrs} {rest = qrest} qa qc qi qf qon) = let e : no_name ≡ alias qrs = once zone name t (no_name) (alias qrs) pa qa in absurd cc
-  chain_once left before name one other end last (is_none pa) (comes_back {target = qtarget} {cname = qrs} qa qc qf) = let e : no_name ≡ alias qrs = once zone name t (no_name) (alias qrs) pa qa in absurd cc
-  chain_once left before name one other end last (is_none pa) (leaves {cname = qrs} qa qout) = let e : no_name ≡ alias qrs = once zone name t (no_name) (alias qrs) pa qa in absurd cc
-  chain_once left before name one other end last (is_none pa) (stops {cname = qrs} qa) = let e : no_name ≡ alias qrs = once zone name t (no_name) (alias qrs) pa qa in absurd cc
-  chain_once left before name one other end last (follows {left = pleft} {target = ptarget} {cname = prs} {rest = prest} pa pc pi pf pon) (found {rs = qrs} qa) = let e : alias prs ≡ answer qrs = once zone name t (alias prs) (answer qrs) pa qa in absurd cc
-  chain_once left before name one other end last (follows {left = pleft} {target = ptarget} {cname = prs} {rest = prest} pa pc pi pf pon) (refers {servers = qrs} qa) = let e : alias prs ≡ referral qrs = once zone name t (alias prs) (referral qrs) pa qa in absurd cc
-  chain_once left before name one other end last (follows {left = pleft} {target = ptarget} {cname = prs} {rest = prest} pa pc pi pf pon) (has_none qa) = let e : alias prs ≡ no_data = once zone name t (alias prs) (no_data) pa qa in absurd cc
-  chain_once left before name one other end last (follows {left = pleft} {target = ptarget} {cname = prs} {rest = prest} pa pc pi pf pon) (is_none qa) = let e : alias prs ≡ no_name = once zone name t (alias prs) (no_name) pa qa in absurd cc
-  chain_once left before name one other end last (follows {left = pleft} {target = ptarget} {cname = prs} {rest = prest} pa pc pi pf pon) (follows {left = qleft} {target = qtarget} {cname = qrs} {rest = qrest} qa qc qi qf qon) =
-      let same : prs ≡ qrs = of_alias prs qrs (once zone name t (alias prs) (alias qrs) pa qa) in
-      let to : ptarget ≡ qtarget = same_target prs qrs ptarget qtarget same pc qc in
-      let fewer : pleft ≡ qleft = refl in
+  chain_once left before name one other end last (finishes {outcome = po} {rs = prs} pa ps) (finishes {outcome = qo} {rs = qrs} qa qs) =
+      same_ends prs qrs end last (same_step before name po qo (ends prs end) (ends qrs last) pa qa ps qs)
+  chain_once left before name one other end last (finishes {outcome = po} {rs = prs} pa ps) (follows {left = qleft} {target = qtarget} {outcome = qo} {rs = qrs} {rest = qrest} qa qs qi qf qon) =
+      absurd (apart prs qrs end (Some qtarget) (same_step before name po qo (ends prs end) (leads qrs (Some qtarget)) pa qa ps qs))
+  chain_once left before name one other end last (finishes {outcome = po} {rs = prs} pa ps) (comes_back {target = qtarget} {outcome = qo} {rs = qrs} qa qs qf) =
+      absurd (apart prs qrs end (Some qtarget) (same_step before name po qo (ends prs end) (leads qrs (Some qtarget)) pa qa ps qs))
+  chain_once left before name one other end last (finishes {outcome = po} {rs = prs} pa ps) (leaves {outcome = qo} {rs = qrs} {to = qto} qa qs qout) =
+      absurd (apart prs qrs end qto (same_step before name po qo (ends prs end) (leads qrs qto) pa qa ps qs))
+  chain_once left before name one other end last (finishes {outcome = po} {rs = prs} pa ps) (stops {outcome = qo} {rs = qrs} {to = qto} qa qs) =
+      absurd (apart prs qrs end qto (same_step before name po qo (ends prs end) (leads qrs qto) pa qa ps qs))
+  chain_once left before name one other end last (follows {left = pleft} {target = ptarget} {outcome = po} {rs = prs} {rest = prest} pa ps pi pf pon) (finishes {outcome = qo} {rs = qrs} qa qs) =
+      absurd (apart qrs prs last (Some ptarget) (sym (same_step before name po qo (leads prs (Some ptarget)) (ends qrs last) pa qa ps qs)))
+  chain_once left before name one other end last (follows {left = pleft} {target = ptarget} {outcome = po} {rs = prs} {rest = prest} pa ps pi pf pon) (follows {left = qleft} {target = qtarget} {outcome = qo} {rs = qrs} {rest = qrest} qa qs qi qf qon) =
+      let e : leads prs (Some ptarget) ≡ leads qrs (Some qtarget) = same_step before name po qo (leads prs (Some ptarget)) (leads qrs (Some qtarget)) pa qa ps qs in
+      let same : prs ≡ qrs = same_records prs qrs (Some ptarget) (Some qtarget) e in
+      let to : ptarget ≡ qtarget = same_target ptarget qtarget (same_way prs qrs (Some ptarget) (Some qtarget) e) in
       let rest = chain_once pleft (before ++ prs) (lower_name ptarget) prest qrest end last pon
       (subst (λ (n : DomainName). Chases zone t pleft (before ++ prs) (lower_name n) qrest last) (sym to) (subst (λ (rs : Records). Chases zone t pleft (before ++ rs) (lower_name qtarget) qrest last) (sym same) qon)) in
       (ap (λ rs. rs ++ prest) same ∙ ap (λ rs. qrs ++ rs) rest.0, rest.1)
-  chain_once left before name one other end last (follows {left = pleft} {target = ptarget} {cname = prs} {rest = prest} pa pc pi pf pon) (comes_back {target = qtarget} {cname = qrs} qa qc qf) =
-      let same : prs ≡ qrs = of_alias prs qrs (once zone name t (alias prs) (alias qrs) pa qa) in
-      let to : ptarget ≡ qtarget = same_target prs qrs ptarget qtarget same pc qc in
-      absurd (false≢true (sym pf ∙ ap (λ n. is_owner_among n (before ++ prs)) to ∙ ap (λ rs. is_owner_among qtarget (before ++ rs)) same ∙ qf))
-  chain_once left before name one other end last (follows {left = pleft} {target = ptarget} {cname = prs} {rest = prest} pa pc pi pf pon) (leaves {cname = qrs} qa qout) =
-      let same : prs ≡ qrs = of_alias prs qrs (once zone name t (alias prs) (alias qrs) pa qa) in
-      absurd (qout (subst (λ o. IsSomeAnd o (IsIn zone)) (sym (ap canonical (sym same) ∙ pc)) pi))
-  chain_once left before name one other end last (comes_back {target = ptarget} {cname = prs} pa pc pf) (found {rs = qrs} qa) = let e : alias prs ≡ answer qrs = once zone name t (alias prs) (answer qrs) pa qa in absurd cc
-  chain_once left before name one other end last (comes_back {target = ptarget} {cname = prs} pa pc pf) (refers {servers = qrs} qa) = let e : alias prs ≡ referral qrs = once zone name t (alias prs) (referral qrs) pa qa in absurd cc
-  chain_once left before name one other end last (comes_back {target = ptarget} {cname = prs} pa pc pf) (has_none qa) = let e : alias prs ≡ no_data = once zone name t (alias prs) (no_data) pa qa in absurd cc
-  chain_once left before name one other end last (comes_back {target = ptarget} {cname = prs} pa pc pf) (is_none qa) = let e : alias prs ≡ no_name = once zone name t (alias prs) (no_name) pa qa in absurd cc
-  chain_once left before name one other end last (comes_back {target = ptarget} {cname = prs} pa pc pf) (follows {left = qleft} {target = qtarget} {cname = qrs} {rest = qrest} qa qc qi qf qon) =
-      let same : prs ≡ qrs = of_alias prs qrs (once zone name t (alias prs) (alias qrs) pa qa) in
-      let to : ptarget ≡ qtarget = same_target prs qrs ptarget qtarget same pc qc in
-      absurd (false≢true (sym qf ∙ sym (ap (λ n. is_owner_among n (before ++ qrs)) to) ∙ sym (ap (λ rs. is_owner_among ptarget (before ++ rs)) same) ∙ pf))
-  chain_once left before name one other end last (comes_back {target = ptarget} {cname = prs} pa pc pf) (comes_back {target = qtarget} {cname = qrs} qa qc qf) = (of_alias prs qrs (once zone name t (alias prs) (alias qrs) pa qa), refl)
-  chain_once left before name one other end last (comes_back {target = ptarget} {cname = prs} pa pc pf) (leaves {cname = qrs} qa qout) = (of_alias prs qrs (once zone name t (alias prs) (alias qrs) pa qa), refl)
-  chain_once left before name one other end last (comes_back {target = ptarget} {cname = prs} pa pc pf) (stops {cname = qrs} qa) = (of_alias prs qrs (once zone name t (alias prs) (alias qrs) pa qa), refl)
-  chain_once left before name one other end last (leaves {cname = prs} pa pout) (found {rs = qrs} qa) = let e : alias prs ≡ answer qrs = once zone name t (alias prs) (answer qrs) pa qa in absurd cc
-  chain_once left before name one other end last (leaves {cname = prs} pa pout) (refers {servers = qrs} qa) = let e : alias prs ≡ referral qrs = once zone name t (alias prs) (referral qrs) pa qa in absurd cc
-  chain_once left before name one other end last (leaves {cname = prs} pa pout) (has_none qa) = let e : alias prs ≡ no_data = once zone name t (alias prs) (no_data) pa qa in absurd cc
-  chain_once left before name one other end last (leaves {cname = prs} pa pout) (is_none qa) = let e : alias prs ≡ no_name = once zone name t (alias prs) (no_name) pa qa in absurd cc
-  chain_once left before name one other end last (leaves {cname = prs} pa pout) (follows {left = qleft} {target = qtarget} {cname = qrs} {rest = qrest} qa qc qi qf qon) =
-      let same : prs ≡ qrs = of_alias prs qrs (once zone name t (alias prs) (alias qrs) pa qa) in
-      absurd (pout (subst (λ o. IsSomeAnd o (IsIn zone)) (sym (ap canonical same ∙ qc)) qi))
-  chain_once left before name one other end last (leaves {cname = prs} pa pout) (comes_back {target = qtarget} {cname = qrs} qa qc qf) = (of_alias prs qrs (once zone name t (alias prs) (alias qrs) pa qa), refl)
-  chain_once left before name one other end last (leaves {cname = prs} pa pout) (leaves {cname = qrs} qa qout) = (of_alias prs qrs (once zone name t (alias prs) (alias qrs) pa qa), refl)
-  chain_once left before name one other end last (leaves {cname = prs} pa pout) (stops {cname = qrs} qa) = (of_alias prs qrs (once zone name t (alias prs) (alias qrs) pa qa), refl)
-  chain_once left before name one other end last (stops {cname = prs} pa) (found {rs = qrs} qa) = let e : alias prs ≡ answer qrs = once zone name t (alias prs) (answer qrs) pa qa in absurd cc
-  chain_once left before name one other end last (stops {cname = prs} pa) (refers {servers = qrs} qa) = let e : alias prs ≡ referral qrs = once zone name t (alias prs) (referral qrs) pa qa in absurd cc
-  chain_once left before name one other end last (stops {cname = prs} pa) (has_none qa) = let e : alias prs ≡ no_data = once zone name t (alias prs) (no_data) pa qa in absurd cc
-  chain_once left before name one other end last (stops {cname = prs} pa) (is_none qa) = let e : alias prs ≡ no_name = once zone name t (alias prs) (no_name) pa qa in absurd cc
-  chain_once left before name one other end last (stops {cname = prs} pa) (comes_back {target = qtarget} {cname = qrs} qa qc qf) = (of_alias prs qrs (once zone name t (alias prs) (alias qrs) pa qa), refl)
-  chain_once left before name one other end last (stops {cname = prs} pa) (leaves {cname = qrs} qa qout) = (of_alias prs qrs (once zone name t (alias prs) (alias qrs) pa qa), refl)
-  chain_once left before name one other end last (stops {cname = prs} pa) (stops {cname = qrs} qa) = (of_alias prs qrs (once zone name t (alias prs) (alias qrs) pa qa), refl)
+  chain_once left before name one other end last (follows {left = pleft} {target = ptarget} {outcome = po} {rs = prs} {rest = prest} pa ps pi pf pon) (comes_back {target = qtarget} {outcome = qo} {rs = qrs} qa qs qf) =
+      let e : leads prs (Some ptarget) ≡ leads qrs (Some qtarget) = same_step before name po qo (leads prs (Some ptarget)) (leads qrs (Some qtarget)) pa qa ps qs in
+      let same : prs ≡ qrs = same_records prs qrs (Some ptarget) (Some qtarget) e in
+      let to : ptarget ≡ qtarget = same_target ptarget qtarget (same_way prs qrs (Some ptarget) (Some qtarget) e) in
+      absurd (false≢true (sym pf ∙ ap (λ n. owns_cname n (before ++ prs)) to ∙ ap (λ rs. owns_cname qtarget (before ++ rs)) same ∙ qf))
+  chain_once left before name one other end last (follows {left = pleft} {target = ptarget} {outcome = po} {rs = prs} {rest = prest} pa ps pi pf pon) (leaves {outcome = qo} {rs = qrs} {to = qto} qa qs qout) =
+      let e : leads prs (Some ptarget) ≡ leads qrs qto = same_step before name po qo (leads prs (Some ptarget)) (leads qrs qto) pa qa ps qs in
+      absurd (qout (subst (λ o. IsSomeAnd o (IsIn zone)) (same_way prs qrs (Some ptarget) qto e) pi))
+  chain_once left before name one other end last (comes_back {target = ptarget} {outcome = po} {rs = prs} pa ps pf) (finishes {outcome = qo} {rs = qrs} qa qs) =
+      absurd (apart qrs prs last (Some ptarget) (sym (same_step before name po qo (leads prs (Some ptarget)) (ends qrs last) pa qa ps qs)))
+  chain_once left before name one other end last (comes_back {target = ptarget} {outcome = po} {rs = prs} pa ps pf) (follows {left = qleft} {target = qtarget} {outcome = qo} {rs = qrs} {rest = qrest} qa qs qi qf qon) =
+      let e : leads prs (Some ptarget) ≡ leads qrs (Some qtarget) = same_step before name po qo (leads prs (Some ptarget)) (leads qrs (Some qtarget)) pa qa ps qs in
+      let same : prs ≡ qrs = same_records prs qrs (Some ptarget) (Some qtarget) e in
+      let to : ptarget ≡ qtarget = same_target ptarget qtarget (same_way prs qrs (Some ptarget) (Some qtarget) e) in
+      absurd (false≢true (sym qf ∙ sym (ap (λ n. owns_cname n (before ++ qrs)) to) ∙ sym (ap (λ rs. owns_cname ptarget (before ++ rs)) same) ∙ pf))
+  chain_once left before name one other end last (comes_back {target = ptarget} {outcome = po} {rs = prs} pa ps pf) (comes_back {target = qtarget} {outcome = qo} {rs = qrs} qa qs qf) =
+      (same_records prs qrs (Some ptarget) (Some qtarget) (same_step before name po qo (leads prs (Some ptarget)) (leads qrs (Some qtarget)) pa qa ps qs), refl)
+  chain_once left before name one other end last (comes_back {target = ptarget} {outcome = po} {rs = prs} pa ps pf) (leaves {outcome = qo} {rs = qrs} {to = qto} qa qs qout) =
+      (same_records prs qrs (Some ptarget) qto (same_step before name po qo (leads prs (Some ptarget)) (leads qrs qto) pa qa ps qs), refl)
+  chain_once left before name one other end last (comes_back {target = ptarget} {outcome = po} {rs = prs} pa ps pf) (stops {outcome = qo} {rs = qrs} {to = qto} qa qs) =
+      (same_records prs qrs (Some ptarget) qto (same_step before name po qo (leads prs (Some ptarget)) (leads qrs qto) pa qa ps qs), refl)
+  chain_once left before name one other end last (leaves {outcome = po} {rs = prs} {to = pto} pa ps pout) (finishes {outcome = qo} {rs = qrs} qa qs) =
+      absurd (apart qrs prs last pto (sym (same_step before name po qo (leads prs pto) (ends qrs last) pa qa ps qs)))
+  chain_once left before name one other end last (leaves {outcome = po} {rs = prs} {to = pto} pa ps pout) (follows {left = qleft} {target = qtarget} {outcome = qo} {rs = qrs} {rest = qrest} qa qs qi qf qon) =
+      let e : leads prs pto ≡ leads qrs (Some qtarget) = same_step before name po qo (leads prs pto) (leads qrs (Some qtarget)) pa qa ps qs in
+      absurd (pout (subst (λ o. IsSomeAnd o (IsIn zone)) (sym (same_way prs qrs pto (Some qtarget) e)) qi))
+  chain_once left before name one other end last (leaves {outcome = po} {rs = prs} {to = pto} pa ps pout) (comes_back {target = qtarget} {outcome = qo} {rs = qrs} qa qs qf) =
+      (same_records prs qrs pto (Some qtarget) (same_step before name po qo (leads prs pto) (leads qrs (Some qtarget)) pa qa ps qs), refl)
+  chain_once left before name one other end last (leaves {outcome = po} {rs = prs} {to = pto} pa ps pout) (leaves {outcome = qo} {rs = qrs} {to = qto} qa qs qout) =
+      (same_records prs qrs pto qto (same_step before name po qo (leads prs pto) (leads qrs qto) pa qa ps qs), refl)
+  chain_once left before name one other end last (leaves {outcome = po} {rs = prs} {to = pto} pa ps pout) (stops {outcome = qo} {rs = qrs} {to = qto} qa qs) =
+      (same_records prs qrs pto qto (same_step before name po qo (leads prs pto) (leads qrs qto) pa qa ps qs), refl)
+  chain_once left before name one other end last (stops {outcome = po} {rs = prs} {to = pto} pa ps) (finishes {outcome = qo} {rs = qrs} qa qs) =
+      absurd (apart qrs prs last pto (sym (same_step before name po qo (leads prs pto) (ends qrs last) pa qa ps qs)))
+  chain_once left before name one other end last (stops {outcome = po} {rs = prs} {to = pto} pa ps) (comes_back {target = qtarget} {outcome = qo} {rs = qrs} qa qs qf) =
+      (same_records prs qrs pto (Some qtarget) (same_step before name po qo (leads prs pto) (leads qrs (Some qtarget)) pa qa ps qs), refl)
+  chain_once left before name one other end last (stops {outcome = po} {rs = prs} {to = pto} pa ps) (leaves {outcome = qo} {rs = qrs} {to = qto} qa qs qout) =
+      (same_records prs qrs pto qto (same_step before name po qo (leads prs pto) (leads qrs qto) pa qa ps qs), refl)
+  chain_once left before name one other end last (stops {outcome = po} {rs = prs} {to = pto} pa ps) (stops {outcome = qo} {rs = qrs} {to = qto} qa qs) =
+      (same_records prs qrs pto qto (same_step before name po qo (leads prs pto) (leads qrs qto) pa qa ps qs), refl)

@@ -22,7 +22,7 @@ use Rattle.hickory_zone.proofs.lemmas.names.Enclosers.{ancestor-ancestor}
 use Rattle.hickory_zone.specs.declared.find.Delegation.{Delegation}
 use Rattle.hickory_zone.specs.declared.find.Found.{Found}
 use Rattle.hickory_zone.specs.FoundRecords.{CutAt, EndsAt, IsEncloser, WildFound, outcome_of}
-use Rattle.hickory_zone.specs.Zones.{Answers, delegated, at_cut, matched, wild, denied, AreOwners, Delegates, Exists, HasClosestEncloser, IsAuthoritativeAt, IsCut, IsOwner, Outcome, Records, Sets, Zone, ancestor, any_of, at_node, no_name, of_sets, referral, rrset, type_any, type_cname, type_ds, wildcard}
+use Rattle.hickory_zone.specs.Zones.{AnswersDirectly, delegated, at_cut, matched, wild, denied, AreOwners, Delegates, Exists, HasClosestEncloser, IsAuthoritativeAt, IsCut, IsOwner, Outcome, Records, Sets, Zone, ancestor, any_of, at_node, no_name, of_sets, referral, rrset, type_any, type_cname, type_ds, wildcard}
 
 and_first : (a b : Bool) → (a && b) ≡ true → a ≡ true
 and_first true b h = refl
@@ -67,7 +67,7 @@ not_at_all (l ∷ ls) (suc k) h = absurd (omega (arith, length-drop (suc k) (l �
 
 module _ (zone : Zone) (q : DomainName) (t : ℕ) where
   -- where nothing above the name exists
-  pub nothing : ((k : ℕ) → ¬ (Exists zone.sets (ancestor q k))) → Answers zone q t no_name
+  pub nothing : ((k : ℕ) → ¬ (Exists zone.sets (ancestor q k))) → AnswersDirectly zone q t no_name
   nothing none = denied (λ k c. none k (cut_exists zone (ancestor q k) c)) (λ x. none 0 x) (λ k h. absurd (none k h.exists))
 
   module _ (k : ℕ) (closest : HasClosestEncloser zone.sets q k) where
@@ -98,14 +98,14 @@ module _ (zone : Zone) (q : DomainName) (t : ℕ) where
           sym (ap (λ n. rrset zone.sets n 2) same) ∙ e.servers,
         )
 
-    pub refers : (cut : Delegation) → 0 < k → CutAt zone (ancestor q k) (Some cut) → Answers zone q t (referral cut.servers.now)
+    pub refers : (cut : Delegation) → 0 < k → CutAt zone (ancestor q k) (Some cut) → AnswersDirectly zone q t (referral cut.servers.now)
     refers cut more e = let r = cut_above cut e in delegated r.0 (λ zeros. absurd (omega arith)) r.1
 
-  pub wild_or_not : (k : ℕ) (found : Found) → HasClosestEncloser zone.sets q k → 0 < k → IsAuthoritativeAt zone (ancestor q k) → WildFound zone.sets (ancestor q k) t found → Answers zone q t (outcome_of zone.sets q found)
+  pub wild_or_not : (k : ℕ) (found : Found) → HasClosestEncloser zone.sets q k → 0 < k → IsAuthoritativeAt zone (ancestor q k) → WildFound zone.sets (ancestor q k) t found → AnswersDirectly zone q t (outcome_of zone.sets q found)
   wild_or_not zero found closest more auth w = absurd (omega arith)
-  wild_or_not (suc k) found closest more auth (inl w) = subst (Answers zone q t) (sym (w.1 q)) (wild (authoritative (suc k) closest auth) closest w.0)
+  wild_or_not (suc k) found closest more auth (inl w) = subst (AnswersDirectly zone q t) (sym (w.1 q)) (wild (authoritative (suc k) closest auth) closest w.0)
   wild_or_not (suc k) found closest more auth (inr w) =
-      subst (Answers zone q t) (sym (w.1 q))
+      subst (AnswersDirectly zone q t) (sym (w.1 q))
       (denied (authoritative (suc k) closest auth) (closest.longest 0 (omega arith))
       (λ j h. subst (λ n. ¬ (Exists zone.sets (wildcard (ancestor q n)))) (closest_once zone.sets q (suc k) j closest h) w.0))
 
@@ -143,7 +143,7 @@ pub at_any : (sets : Sets) (q : DomainName) (t : ℕ) → t ≡ type_any → any
 at_any sets q t any = let asked : (t == 255) ≡ true = grind (arith, nat_tests) in ap (λ b. cond b (any_of (records_at q sets)) (of_sets (rrset sets q t) (rrset sets q type_cname))) (sym asked)
 
 -- the encloser of a name that does not exist is above it
-is_above : (sets : Sets) (q encloser : DomainName) (e : IsEncloser sets q encloser) → ¬ (Exists sets q) → 0 < e.off
+pub is_above : (sets : Sets) (q encloser : DomainName) (e : IsEncloser sets q encloser) → ¬ (Exists sets q) → 0 < e.off
 is_above sets q encloser e missing = elim (cases_lt 0 e.off) [
   | inl some ↦ some
   | inr none ↦ let zeros : e.off ≡ 0 = omega arith in absurd (missing (subst (λ (k : ℕ). Exists sets (ancestor q k)) zeros e.closest.exists))
@@ -154,18 +154,18 @@ module _ (zone : Zone) (q : DomainName) (t : ℕ) (cut : Option Delegation) (at 
   ends d e = subst (CutAt zone q) e at
 
   -- a name at a cut or below it
-  pub referred : (d : Delegation) → cut ≡ Some d → ¬ (IsTrue d.is_at_name × (t ≡ type_ds)) → Answers zone q t (referral d.servers.now)
+  pub referred : (d : Delegation) → cut ≡ Some d → ¬ (IsTrue d.is_at_name × (t ≡ type_ds)) → AnswersDirectly zone q t (referral d.servers.now)
   referred d e other = let x = ends d e in delegated x.delegates (λ zeros ds. other (x.at_name.1 zeros, ds)) x.servers
 
   -- a name at a cut, where records of the zone above are asked for
-  pub above_cut : (d : Delegation) (o : Outcome) → cut ≡ Some d → IsTrue d.is_at_name × (t ≡ type_ds) → o ≡ at_node zone.sets q t → Answers zone q t o
+  pub above_cut : (d : Delegation) (o : Outcome) → cut ≡ Some d → IsTrue d.is_at_name × (t ≡ type_ds) → o ≡ at_node zone.sets q t → AnswersDirectly zone q t o
   above_cut d o e asked is =
       let x = ends d e in
-      subst (Answers zone q t) (sym is) (at_cut (subst (Delegates zone q) (x.at_name.0 asked.0) x.delegates) asked.1)
+      subst (AnswersDirectly zone q t) (sym is) (at_cut (subst (Delegates zone q) (x.at_name.0 asked.0) x.delegates) asked.1)
 
   -- any other name that exists
-  pub uncut : (o : Outcome) → cut ≡ None → Exists zone.sets q → o ≡ at_node zone.sets q t → Answers zone q t o
-  uncut o e x is = subst (Answers zone q t) (sym is) (matched (subst (CutAt zone q) e at) x)
+  pub uncut : (o : Outcome) → cut ≡ None → Exists zone.sets q → o ≡ at_node zone.sets q t → AnswersDirectly zone q t o
+  uncut o e x is = subst (AnswersDirectly zone q t) (sym is) (matched (subst (CutAt zone q) e at) x)
 
 pub if_ok : {X E : Type 0} (r : Result X E) (P Q : X → Type 0) → IfOk r P → ((x : X) → P x → Q x) → IfOk r Q
 if_ok (Ok x) P Q h f = f x h
@@ -173,14 +173,14 @@ if_ok (Err e) P Q h f = h
 
 -- what is found below the closest encloser of a name that does not exist
 pub below_encloser : (zone : Zone) (q encloser : DomainName) (t : ℕ) (cut : Option Delegation) (found : Found) (e : IsEncloser zone.sets q encloser) → ¬ (Exists zone.sets q) → cut ≡ None → CutAt zone encloser cut
-    → WildFound zone.sets encloser t found → Answers zone q t (outcome_of zone.sets q found)
+    → WildFound zone.sets encloser t found → AnswersDirectly zone q t (outcome_of zone.sets q found)
 below_encloser zone q encloser t cut found e apart none at w =
     wild_or_not zone q t e.off found e.closest (is_above zone.sets q encloser e apart) (subst (λ (n : DomainName). CutAt zone n None) e.is (subst (CutAt zone encloser) none at))
     (subst (λ (n : DomainName). WildFound zone.sets n t found) e.is w)
 
 -- where the zone is cut above a name that does not exist
 pub below_cut : (zone : Zone) (q encloser : DomainName) (t : ℕ) (cut : Option Delegation) (d : Delegation) (e : IsEncloser zone.sets q encloser) → ¬ (Exists zone.sets q) → cut ≡ Some d → CutAt zone encloser cut
-    → Answers zone q t (referral d.servers.now)
+    → AnswersDirectly zone q t (referral d.servers.now)
 below_cut zone q encloser t cut d e apart some at =
     refers zone q t e.off e.closest d (is_above zone.sets q encloser e apart) (subst (λ (n : DomainName). CutAt zone n (Some d)) e.is (subst (CutAt zone encloser) some at))
 

@@ -3,7 +3,7 @@ use Rattle.std.proofs.Common.{◌≡◌, ℕ, suc, Some, inl, inr, refl, sym, ap
 use Rattle.std.proofs.lemmas.Bool.{cases_lt}
 use Rattle.wire_names.specs.rr.domain.DomainName.{DomainName}
 use Rattle.hickory_zone.proofs.lemmas.zones.Outcomes.{closest_once}
-use Rattle.hickory_zone.specs.Zones.{Answers, Delegates, Outcome, Records, Zone, ancestor, at_cut, at_node, delegated, denied, matched, referral, rrset, synthesized, wild, wildcard}
+use Rattle.hickory_zone.specs.Zones.{Answers, AnswersDirectly, Delegates, Outcome, Records, Redirects, Zone, ancestor, at_cut, at_node, delegated, denied, direct, matched, redirected, redirection, referral, rrset, synthesized, wild, wildcard}
 
 module _ (zone : Zone) (name : DomainName) (t : ℕ) where
   cut_once : (j k : ℕ) → Delegates zone name j → Delegates zone name k → j ≡ k
@@ -18,29 +18,47 @@ module _ (zone : Zone) (name : DomainName) (t : ℕ) where
   same_source : (j k : ℕ) → suc j ≡ suc k → synthesized name (at_node zone.sets (wildcard (ancestor name (suc j))) t) ≡ synthesized name (at_node zone.sets (wildcard (ancestor name (suc k))) t)
   same_source j k e = ap (λ n. synthesized name (at_node zone.sets (wildcard (ancestor name n)) t)) e
 
+  direct_once : (one other : Outcome) → AnswersDirectly zone name t one → AnswersDirectly zone name t other → one ≡ other
+  direct_once one other (delegated {k = j} {servers = rs} d p s) (delegated {k = k} {servers = qs} e q r) = ap referral (same_servers j k rs qs (cut_once j k d e) s r)
+  direct_once one other (delegated {k = j} d p s) (at_cut e ds) = absurd (p (cut_once j 0 d e) ds)
+  direct_once one other (delegated {k = j} d p s) (matched auth x) = absurd (auth j d.cut)
+  direct_once one other (delegated {k = j} d p s) (wild auth c w) = absurd (auth j d.cut)
+  direct_once one other (delegated {k = j} d p s) (denied auth n w) = absurd (auth j d.cut)
+  direct_once one other (at_cut d ds) (delegated {k = k} e q r) = absurd (q (cut_once k 0 e d) ds)
+  direct_once one other (at_cut d ds) (at_cut e fs) = refl
+  direct_once one other (at_cut d ds) (matched auth x) = absurd (auth 0 d.cut)
+  direct_once one other (at_cut d ds) (wild auth c w) = absurd (auth 0 d.cut)
+  direct_once one other (at_cut d ds) (denied auth n w) = absurd (auth 0 d.cut)
+  direct_once one other (matched auth x) (delegated {k = k} e q r) = absurd (auth k e.cut)
+  direct_once one other (matched auth x) (at_cut e fs) = absurd (auth 0 e.cut)
+  direct_once one other (matched auth x) (matched uth y) = refl
+  direct_once one other (matched auth x) (wild uth c w) = absurd (c.longest 0 (omega arith) x)
+  direct_once one other (matched auth x) (denied uth n w) = absurd (n x)
+  direct_once one other (wild auth c w) (delegated {k = k} e q r) = absurd (auth k e.cut)
+  direct_once one other (wild auth c w) (at_cut e fs) = absurd (auth 0 e.cut)
+  direct_once one other (wild auth c w) (matched uth y) = absurd (c.longest 0 (omega arith) y)
+  direct_once one other (wild {k = j} auth c w) (wild {k = k} uth d v) = same_source j k (closest_once zone.sets name (suc j) (suc k) c d)
+  direct_once one other (wild {k = j} auth c w) (denied uth n v) = absurd (v (suc j) c w)
+  direct_once one other (denied auth n w) (delegated {k = k} e q r) = absurd (auth k e.cut)
+  direct_once one other (denied auth n w) (at_cut e fs) = absurd (auth 0 e.cut)
+  direct_once one other (denied auth n w) (matched uth y) = absurd (n y)
+  direct_once one other (denied auth n w) (wild {k = k} uth d v) = absurd (w (suc k) d v)
+  direct_once one other (denied auth n w) (denied uth m v) = refl
+
+  redirect_once : (j k : ℕ) → Redirects zone name j → Redirects zone name k → j ≡ k
+  redirect_once j k a b = elim (cases_lt j k) [
+    | inl less ↦ absurd (a.highest k less b.real b.owner)
+    | inr more ↦ elim (cases_lt k j) [ inl greater ↦ absurd (b.highest j greater a.real a.owner) | inr same ↦ omega arith ]
+  ]
+
+  same_dname : (j k : ℕ) (rs qs : Records) → j ≡ k → rrset zone.sets (ancestor name j) 39 ≡ Some rs → rrset zone.sets (ancestor name k) 39 ≡ Some qs → redirection j rs ≡ redirection k qs
+  same_dname j k rs qs e a b =
+      let f : Some rs ≡ Some qs = sym a ∙ ap (λ n. rrset zone.sets (ancestor name n) 39) e ∙ b in
+      let same : rs ≡ qs = cc in
+      ap (λ n. redirection n rs) e ∙ ap (redirection k) same
+
   pub once : (one other : Outcome) → Answers zone name t one → Answers zone name t other → one ≡ other
-  once one other (delegated {k = j} {servers = rs} d p s) (delegated {k = k} {servers = qs} e q r) = ap referral (same_servers j k rs qs (cut_once j k d e) s r)
-  once one other (delegated {k = j} d p s) (at_cut e ds) = absurd (p (cut_once j 0 d e) ds)
-  once one other (delegated {k = j} d p s) (matched auth x) = absurd (auth j d.cut)
-  once one other (delegated {k = j} d p s) (wild auth c w) = absurd (auth j d.cut)
-  once one other (delegated {k = j} d p s) (denied auth n w) = absurd (auth j d.cut)
-  once one other (at_cut d ds) (delegated {k = k} e q r) = absurd (q (cut_once k 0 e d) ds)
-  once one other (at_cut d ds) (at_cut e fs) = refl
-  once one other (at_cut d ds) (matched auth x) = absurd (auth 0 d.cut)
-  once one other (at_cut d ds) (wild auth c w) = absurd (auth 0 d.cut)
-  once one other (at_cut d ds) (denied auth n w) = absurd (auth 0 d.cut)
-  once one other (matched auth x) (delegated {k = k} e q r) = absurd (auth k e.cut)
-  once one other (matched auth x) (at_cut e fs) = absurd (auth 0 e.cut)
-  once one other (matched auth x) (matched uth y) = refl
-  once one other (matched auth x) (wild uth c w) = absurd (c.longest 0 (omega arith) x)
-  once one other (matched auth x) (denied uth n w) = absurd (n x)
-  once one other (wild auth c w) (delegated {k = k} e q r) = absurd (auth k e.cut)
-  once one other (wild auth c w) (at_cut e fs) = absurd (auth 0 e.cut)
-  once one other (wild auth c w) (matched uth y) = absurd (c.longest 0 (omega arith) y)
-  once one other (wild {k = j} auth c w) (wild {k = k} uth d v) = same_source j k (closest_once zone.sets name (suc j) (suc k) c d)
-  once one other (wild {k = j} auth c w) (denied uth n v) = absurd (v (suc j) c w)
-  once one other (denied auth n w) (delegated {k = k} e q r) = absurd (auth k e.cut)
-  once one other (denied auth n w) (at_cut e fs) = absurd (auth 0 e.cut)
-  once one other (denied auth n w) (matched uth y) = absurd (n y)
-  once one other (denied auth n w) (wild {k = k} uth d v) = absurd (w (suc k) d v)
-  once one other (denied auth n w) (denied uth m v) = refl
+  once one other (redirected {k = j} {dname = rs} r s) (redirected {k = k} {dname = qs} q p) = same_dname j k rs qs (redirect_once j k r q) s p
+  once one other (redirected {k = j} r s) (direct none a) = absurd (none j r)
+  once one other (direct none a) (redirected {k = k} r s) = absurd (none k r)
+  once one other (direct none a) (direct free b) = direct_once one other a b

@@ -1,5 +1,5 @@
 -- What holds of a zone that is written out, told by its keys.
-use Rattle.std.proofs.Common.{◌≡◌, ℕ, zero, suc, ◌+◌, ◌-◌, ◌<◌, Bool, true, false, cond, ◌&&◌, ◌||◌, List, [], ◌∷◌, ◌++◌, drop, length, Some, inl, inr, refl, sym, ap, subst, ◌∙◌, arith, length-append, length-drop}
+use Rattle.std.proofs.Common.{◌≡◌, ℕ, zero, suc, ◌+◌, ◌-◌, ◌<◌, ◌≤◌, Bool, true, false, cond, ◌&&◌, ◌||◌, List, [], ◌∷◌, ◌++◌, drop, length, Some, inl, inr, refl, sym, ap, subst, ◌∙◌, arith, length-append, length-drop}
 use Rattle.std.specs.Prelude.{nat_lt, is_some}
 use Rattle.std.specs.List.{All, list_any}
 use Rattle.std.specs.Map.{keys_of}
@@ -17,7 +17,7 @@ use Rattle.hickory_zone.proofs.lemmas.names.Enclosers.{ancestor-ancestor}
 use Rattle.hickory_zone.proofs.lemmas.zones.Beside.{encloses_drop}
 use Rattle.hickory_zone.proofs.lemmas.zones.Cuts.{encloses_length, ends_within}
 use Rattle.hickory_zone.proofs.lemmas.zones.Outcomes.{closest_once}
-use Rattle.hickory_zone.specs.Zones.{Answers, Delegates, Exists, HasClosestEncloser, IsAuthoritativeAt, IsCut, Records, Sets, Zone, ancestor, at_cut, at_node, delegated, denied, matched, no_name, referral, rrset, synthesized, type_ds, type_ns, wild, wildcard}
+use Rattle.hickory_zone.specs.Zones.{Answers, Delegates, Exists, HasClosestEncloser, HasDname, IsAuthoritativeAt, IsCut, Records, Redirects, Sets, Zone, ancestor, at_cut, at_node, delegated, denied, direct, matched, no_name, redirected, redirection, referral, rrset, synthesized, type_dname, type_ds, type_ns, wild, wildcard}
 
 and_both : (a b : Bool) → (a && b) ≡ true → (a ≡ true) × (b ≡ true)
 and_both true b h = (refl, h)
@@ -163,25 +163,74 @@ none_there sets name (suc n) q mark h k less x =
 pub closest_by : (sets : Sets) (name : DomainName) (k : ℕ) → are_qualified sets ≡ true → name.is_fqdn ≡ true → is_in sets (ancestor name k) ≡ true → are_missing sets name k ≡ true → HasClosestEncloser sets name k
 closest_by sets name k q mark here below = record { exists = exists_by sets (ancestor name k) here; longest = none_there sets name k q mark below }
 
-module _ (zone : Zone) (name : DomainName) (t : ℕ) where
+-- whether so many names above the k-th ancestor own no DNAME
+abbrev pub is_free : Zone → DomainName → ℕ → ℕ → Bool
+is_free zone name k zero = true
+is_free zone name k (suc n) = cond (is_some (rrset zone.sets (ancestor name (k + suc n)) type_dname)) false (is_free zone name k n)
+
+free_by : (zone : Zone) (name : DomainName) (k n : ℕ) → is_free zone name k n ≡ true → (j : ℕ) → k < j → j < k + n + 1 → ¬ (HasDname zone (ancestor name j))
+free_by zone name k zero h j above below x = absurd (omega arith)
+free_by zone name k (suc n) h j above below x =
+    let s = uncut_step (is_some (rrset zone.sets (ancestor name (k + suc n)) type_dname)) (is_free zone name k n) h in
+    elim (cases_lt j (k + suc n)) [
+      | inl before ↦ free_by zone name k n s.1 j above (omega arith) x
+      | inr at ↦ let e : j ≡ k + suc n = omega arith in let top : HasDname zone (ancestor name (k + suc n)) = subst (λ (i : ℕ). HasDname zone (ancestor name i)) e x in false≢true (sym s.0 ∙ top.dname)
+    ]
+
+module _ (zone : Zone) (name : DomainName) where
+  -- nothing above the name owns a DNAME
+  direct_by : is_free zone name 0 (length name.labels) ≡ true → (k : ℕ) → ¬ (Redirects zone name k)
+  direct_by free k r = free_by zone name 0 (length name.labels) free k r.above (omega (arith, r.real)) r.owner
+
+  -- the zone is cut at or above all that own one
+  direct_below_cut : (k : ℕ) → IsCut zone (ancestor name k) → is_free zone name k (length name.labels - k) ≡ true → (j : ℕ) → ¬ (Redirects zone name j)
+  direct_below_cut k cut free j r = elim (cases_lt k j) [
+    | inl above ↦ free_by zone name k (length name.labels - k) free j above (omega (arith, r.real)) r.owner
+    | inr below ↦ r.uncut k below cut
+  ]
+
+  pub redirects_by : (k : ℕ) → 0 < k → k ≤ length name.labels → is_above zone.origin (ancestor name k) ≡ true → is_some (rrset zone.sets (ancestor name k) type_dname) ≡ true → is_free zone name k (length name.labels - k) ≡ true
+      → is_uncut zone (ancestor name k) (length (drop k name.labels)) ≡ true → Redirects zone name k
+  redirects_by k above real inside owns free whole = record {
+    above = above;
+    real = real;
+    owner = record { within = encloses_by zone.origin (ancestor name k) inside; dname = owns };
+    highest = λ j over least. free_by zone name k (length name.labels - k) free j over (omega arith);
+    uncut = λ j over c.
+        let e : k + (j - k) ≡ j = omega arith in
+        uncut_by zone (ancestor name k) whole (j - k) (subst (IsCut zone) (sym (ancestor-ancestor name (j - k) k ∙ ap (ancestor name) e)) c);
+  }
+
+  pub as_redirected : (t k : ℕ) (dname : Records) → Redirects zone name k → rrset zone.sets (ancestor name k) type_dname ≡ Some dname → Answers zone name t (redirection k dname)
+  as_redirected t k dname r is = redirected r is
+
+  -- below a cut, where names own a DNAME that lie below it too
+  pub as_referred_below : (t k : ℕ) (servers : Records) → is_above zone.origin (ancestor name k) ≡ true → is_cut zone (ancestor name k) ≡ true → is_uncut zone (ancestor name (suc k)) (length (drop (suc k) name.labels)) ≡ true
+      → (k ≡ 0 → ¬ (t ≡ type_ds)) → rrset zone.sets (ancestor name k) type_ns ≡ Some servers → is_free zone name k (length name.labels - k) ≡ true → Answers zone name t (referral servers)
+  as_referred_below t k servers inside cut none other is free =
+      let d : Delegates zone name k = delegates_by zone name k inside cut none in
+      direct (direct_below_cut k d.cut free) (delegated d other is)
+
+module _ (zone : Zone) (name : DomainName) (t : ℕ) (free : is_free zone name 0 (length name.labels) ≡ true) where
   pub as_matched : is_uncut zone name (length name.labels) ≡ true → is_in zone.sets name ≡ true → Answers zone name t (at_node zone.sets name t)
-  as_matched own here = matched (uncut_by zone name own) (exists_by zone.sets name here)
+  as_matched own here = direct (direct_by zone name free) (matched (uncut_by zone name own) (exists_by zone.sets name here))
 
   pub as_referred : (k : ℕ) (servers : Records) → is_above zone.origin (ancestor name k) ≡ true → is_cut zone (ancestor name k) ≡ true → is_uncut zone (ancestor name (suc k)) (length (drop (suc k) name.labels)) ≡ true
       → (k ≡ 0 → ¬ (t ≡ type_ds)) → rrset zone.sets (ancestor name k) type_ns ≡ Some servers → Answers zone name t (referral servers)
-  as_referred k servers inside cut none other is = delegated (delegates_by zone name k inside cut none) other is
+  as_referred k servers inside cut none other is = direct (direct_by zone name free) (delegated (delegates_by zone name k inside cut none) other is)
 
   pub as_at_cut : t ≡ type_ds → is_above zone.origin name ≡ true → is_cut zone name ≡ true → is_uncut zone (ancestor name 1) (length (drop 1 name.labels)) ≡ true → Answers zone name t (at_node zone.sets name t)
-  as_at_cut ds inside cut none = at_cut (delegates_by zone name 0 inside cut none) ds
+  as_at_cut ds inside cut none = direct (direct_by zone name free) (at_cut (delegates_by zone name 0 inside cut none) ds)
 
   module _ (own : is_uncut zone name (length name.labels) ≡ true) (k : ℕ) (q : are_qualified zone.sets ≡ true) (mark : name.is_fqdn ≡ true) (here : is_in zone.sets (ancestor name (suc k)) ≡ true) (below : are_missing zone.sets name (suc k) ≡ true) where
     closest : HasClosestEncloser zone.sets name (suc k)
     closest = closest_by zone.sets name (suc k) q mark here below
 
     pub as_wild : is_in zone.sets (wildcard (ancestor name (suc k))) ≡ true → Answers zone name t (synthesized name (at_node zone.sets (wildcard (ancestor name (suc k))) t))
-    as_wild some = wild (uncut_by zone name own) closest (exists_by zone.sets (wildcard (ancestor name (suc k))) some)
+    as_wild some = direct (direct_by zone name free) (wild (uncut_by zone name own) closest (exists_by zone.sets (wildcard (ancestor name (suc k))) some))
 
     pub as_denied : is_in zone.sets (wildcard (ancestor name (suc k))) ≡ false → Answers zone name t no_name
     as_denied none =
-        denied (uncut_by zone name own) (closest.longest 0 (omega arith))
-        (λ j c. subst (λ (n : ℕ). ¬ (Exists zone.sets (wildcard (ancestor name n)))) (closest_once zone.sets name (suc k) j closest c) (missing_by zone.sets (wildcard (ancestor name (suc k))) q mark none))
+        direct (direct_by zone name free)
+        (denied (uncut_by zone name own) (closest.longest 0 (omega arith))
+        (λ j c. subst (λ (n : ℕ). ¬ (Exists zone.sets (wildcard (ancestor name n)))) (closest_once zone.sets name (suc k) j closest c) (missing_by zone.sets (wildcard (ancestor name (suc k))) q mark none)))
