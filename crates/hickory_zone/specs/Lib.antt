@@ -5,5 +5,6 @@ pub mod FoundRecords
 pub mod KeysBeside
 pub mod Redirections
 pub mod Replies
+pub mod WorkedRedirections
 pub mod WorkedZones
 pub mod Zones

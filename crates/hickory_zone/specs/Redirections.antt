@@ -1,5 +1,5 @@
 -- The names that a DNAME makes (RFC 6672).
-use Rattle.std.specs.Prelude.{ℕ, Bool, cond, nat_lt, ◌==◌, List, [], ◌∷◌, ◌++◌, length, take, Option, Some, None, Ok, Err}
+use Rattle.std.specs.Prelude.{ℕ, Bool, cond, nat_lt, ◌==◌, List, ◌++◌, length, take, Option, Some, None, Ok, Err}
 use Rattle.wire_names.specs.rr.domain.DomainName.{DomainName, name_len}
 use Rattle.wire_messages.specs.serialize.reading.NameReading.{name}
 use Rattle.wire_messages.specs.serialize.reading.Reading.{Read}

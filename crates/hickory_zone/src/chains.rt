@@ -143,10 +143,12 @@ fn canonical(cname: &[Record]) -> Result<Option<Name>, AllocError>
     ensures { IfOk result (λ found. found ≡ canonical cname.now) }
 {
     match cname.first() {
-        Some(Record {
-            rdata: RData::CNAME(target),
-            ..
-        }) => Ok(Some(target.clone()?)),
+        Some(
+            Record {
+                rdata: RData::CNAME(target),
+                ..
+            },
+        ) => Ok(Some(target.clone()?)),
         _ => Ok(None),
     }
 }

@@ -2,12 +2,15 @@
 //!
 //! The functions do nothing. Their contracts are the examples.
 
-ghost use Rattle.std.specs.Prelude.{◌≡◌, ◌∷◌, [], None, Some};
+ghost use Rattle.std.specs.Prelude.{◌≡◌, ◌∷◌, [], None, Some, codes, false, true};
+ghost use Rattle.hickory_wire.specs.worked.Worked.{named, root};
 ghost use Rattle.wire_messages.specs.declared.rr.rdata.RData.TheVariants as rdata;
-ghost use Rattle.hickory_zone.specs.Chains.{Chases, answered, left_open, missing, referred, without};
+ghost use Rattle.hickory_zone.specs.Chains.{Chases, answered, left_open, missing, referred, too_long, without};
 ghost use Rattle.hickory_zone.specs.Additionals.{host_in, type_srv};
 ghost use Rattle.hickory_zone.specs.WorkedZones.{address, any_name, away, child, cuts, deep, example, first_alias, foo_bar, ghost_any, grandchild, host1, host3, host_subdel, into_child, itself_alias, mail, nobody, ns_child, owned, ping, pong, second_alias, server, service, sub_any, subdel, tcp_host1, telnet_host1, text, to_child, to_nobody, to_text, type_mx, type_txt, wildcards};
-ghost use Rattle.hickory_zone.specs.Zones.{Answers, answer, no_data, no_name, referral, type_a, type_any, type_cname, type_ds, type_ns};
+ghost use Rattle.hickory_zone.specs.Redirections.{is_too_long, substitute, target_in};
+ghost use Rattle.hickory_zone.specs.WorkedRedirections.{Makes, MakesNothing, a_self, back_new, back_old, below_long, cut_old, far, home_sub, long, low, made, moved, new_home, nobody_new, nobody_old, old_home, redirecting, redirecting_apex, self, sub, to_far, to_new_home, to_self, www_low, www_new, www_old, www_sub};
+ghost use Rattle.hickory_zone.specs.Zones.{Answers, answer, no_data, no_name, redirection, referral, type_a, type_any, type_cname, type_dname, type_ds, type_ns};
 
 /// What is synthesized in the zone of RFC 4592 section 2.2.1, as it says there.
 pub fn worked_syntheses()
@@ -61,4 +64,54 @@ pub fn worked_chains()
     ensures at_itself { Chases cuts type_a 8 [] itself_alias (owned itself_alias (rdata.CNAME itself_alias) ∷ []) left_open }
     ensures in_a_circle { Chases cuts type_a 8 [] ping (owned ping (rdata.CNAME pong) ∷ owned pong (rdata.CNAME ping) ∷ []) left_open }
     ensures after_the_last { Chases cuts type_txt 1 [] first_alias (owned first_alias (rdata.CNAME second_alias) ∷ owned second_alias (rdata.CNAME to_text) ∷ []) left_open }
+{}
+
+/// What a DNAME redirects: all that is below its owner, whatever lies there, and not the owner; and nothing at a cut or below it.
+pub fn worked_redirections()
+    ensures owner { Answers redirecting old_home type_a (answer (owned old_home (address 1) ∷ [])) }
+    ensures owner_asked_for_it { Answers redirecting old_home type_dname (answer (moved ∷ [])) }
+    ensures owner_without_alias { Answers redirecting old_home type_cname no_data }
+    ensures below { Answers redirecting www_old type_a (redirection 1 (moved ∷ [])) }
+    ensures dname_below { Answers redirecting low type_dname (redirection 1 (moved ∷ [])) }
+    ensures below_dname_below { Answers redirecting www_low type_a (redirection 2 (moved ∷ [])) }
+    ensures cut_below { Answers redirecting cut_old type_ns (redirection 1 (moved ∷ [])) }
+    ensures below_cut { Answers redirecting www_sub type_a (referral (owned sub (rdata.NS server) ∷ [])) }
+    ensures apex { Answers redirecting_apex example type_ns (answer (owned example (rdata.NS server) ∷ [])) }
+    ensures below_apex { Answers redirecting_apex new_home type_a (redirection 1 (owned example to_new_home ∷ [])) }
+{}
+
+/// The targets that data of a DNAME give, and how long a name may be that it makes.
+pub fn worked_targets()
+    ensures whole { target_in to_new_home ≡ Some new_home }
+    ensures more { target_in (rdata.Unknown type_dname (1 ∷ 116 ∷ 0 ∷ 0 ∷ [])) ≡ None }
+    ensures less { target_in (rdata.Unknown type_dname (1 ∷ 116 ∷ [])) ≡ None }
+    ensures longest { is_too_long (substitute below_long 3 (far 53)) ≡ false }
+    ensures too_long { is_too_long (substitute below_long 3 (far 54)) ≡ true }
+{}
+
+/// The table of RFC 6672 section 2.2, row by row.
+pub fn worked_substitutions()
+    ensures above { MakesNothing (named (codes "com" ∷ [])) (named (codes "example" ∷ codes "com" ∷ [])) }
+    ensures at_owner { MakesNothing (named (codes "example" ∷ codes "com" ∷ [])) (named (codes "example" ∷ codes "com" ∷ [])) }
+    ensures one_label { Makes (named (codes "a" ∷ codes "example" ∷ codes "com" ∷ [])) (named (codes "example" ∷ codes "com" ∷ [])) (named (codes "example" ∷ codes "net" ∷ [])) (named (codes "a" ∷ codes "example" ∷ codes "net" ∷ [])) }
+    ensures two_labels { Makes (named (codes "a" ∷ codes "b" ∷ codes "example" ∷ codes "com" ∷ [])) (named (codes "example" ∷ codes "com" ∷ [])) (named (codes "example" ∷ codes "net" ∷ [])) (named (codes "a" ∷ codes "b" ∷ codes "example" ∷ codes "net" ∷ [])) }
+    ensures part_of_a_label { MakesNothing (named (codes "ab" ∷ codes "example" ∷ codes "com" ∷ [])) (named (codes "b" ∷ codes "example" ∷ codes "com" ∷ [])) }
+    ensures other_label { Makes (named (codes "foo" ∷ codes "example" ∷ codes "com" ∷ [])) (named (codes "example" ∷ codes "com" ∷ [])) (named (codes "example" ∷ codes "net" ∷ [])) (named (codes "foo" ∷ codes "example" ∷ codes "net" ∷ [])) }
+    ensures longer_owner { Makes (named (codes "a" ∷ codes "x" ∷ codes "example" ∷ codes "com" ∷ [])) (named (codes "x" ∷ codes "example" ∷ codes "com" ∷ [])) (named (codes "example" ∷ codes "net" ∷ [])) (named (codes "a" ∷ codes "example" ∷ codes "net" ∷ [])) }
+    ensures longer_target { Makes (named (codes "a" ∷ codes "example" ∷ codes "com" ∷ [])) (named (codes "example" ∷ codes "com" ∷ [])) (named (codes "y" ∷ codes "example" ∷ codes "net" ∷ [])) (named (codes "a" ∷ codes "y" ∷ codes "example" ∷ codes "net" ∷ [])) }
+    ensures to_itself { Makes (named (codes "cyc" ∷ codes "example" ∷ codes "com" ∷ [])) (named (codes "example" ∷ codes "com" ∷ [])) (named (codes "example" ∷ codes "com" ∷ [])) (named (codes "cyc" ∷ codes "example" ∷ codes "com" ∷ [])) }
+    ensures below_itself { Makes (named (codes "cyc" ∷ codes "example" ∷ codes "com" ∷ [])) (named (codes "example" ∷ codes "com" ∷ [])) (named (codes "c" ∷ codes "example" ∷ codes "com" ∷ [])) (named (codes "cyc" ∷ codes "c" ∷ codes "example" ∷ codes "com" ∷ [])) }
+    ensures to_root { Makes (named (codes "shortloop" ∷ codes "x" ∷ codes "x" ∷ [])) (named (codes "x" ∷ [])) root (named (codes "shortloop" ∷ codes "x" ∷ [])) }
+    ensures to_root_again { Makes (named (codes "shortloop" ∷ codes "x" ∷ [])) (named (codes "x" ∷ [])) root (named (codes "shortloop" ∷ [])) }
+{}
+
+/// How chains over a DNAME go: the DNAME once, the CNAME that it makes of its TTL, and on from there; but not where CNAME is asked for.
+pub fn worked_redirected_chains()
+    ensures at_records { Chases redirecting type_a 8 [] www_old (moved ∷ made www_old www_new ∷ owned www_new (address 2) ∷ []) answered }
+    ensures asked_for_alias { Chases redirecting type_cname 8 [] www_old (moved ∷ made www_old www_new ∷ []) answered }
+    ensures asked_for_all { Chases redirecting type_any 8 [] www_old (moved ∷ made www_old www_new ∷ owned www_new (address 2) ∷ []) answered }
+    ensures twice { Chases redirecting type_a 8 [] back_old (moved ∷ made back_old back_new ∷ owned back_new (rdata.CNAME www_old) ∷ made www_old www_new ∷ owned www_new (address 2) ∷ []) answered }
+    ensures at_nobody { Chases redirecting type_a 8 [] nobody_old (moved ∷ made nobody_old nobody_new ∷ []) missing }
+    ensures at_itself { Chases redirecting type_a 8 [] a_self (owned self to_self ∷ owned a_self (rdata.CNAME a_self) ∷ []) left_open }
+    ensures at_length { Chases redirecting type_a 8 [] below_long (owned long to_far ∷ []) too_long }
 {}

@@ -1,9 +1,7 @@
 use Rattle.std.proofs.Common.{◌≡◌, false, sym, ◌∙◌}
 use Rattle.std.specs.Option.{option_copied}
 use Rattle.std.proofs.lemmas.Bool.{false≢true}
-use Rattle.hickory_base.specs.zone_store.ZoneSets.{sets_of}
 use Rattle.hickory_zone.proofs.lemmas.zones.Owners.{exists_behind}
-use Rattle.hickory_zone.specs.Zones.{Zone}
 use Rattle.hickory_zone.proofs.find.look_up.Goals as goal
 
 pub look_above-requires-clause-missing : goal.look_above-requires-clause-missing

@@ -5,7 +5,7 @@ use Rattle.std.proofs.lemmas.List.{take-append-drop}
 use Rattle.std.proofs.lemmas.List.Elements.{All-take}
 use Rattle.wire_names.specs.rr.domain.DomainName.{AreLabels, DomainName, IsLabel, IsWire, cut, label_offset, name_len, wire_form}
 use Rattle.hickory_zone.specs.Redirections.{is_too_long, substitute}
-use Rattle.wire_names.proofs.lemmas.rr.domain.WireForm.{cut_of, cut-wire, is_wire, name_len-wire_form, offset-size, wire-append}
+use Rattle.wire_names.proofs.lemmas.rr.domain.WireForm.{cut_of, is_wire, name_len-wire_form, offset-size, wire-append}
 
 -- the labels of a name in two parts
 in_parts : (ls : List (List ℕ)) (k : ℕ) → wire_form ls ≡ wire_form (take k ls) ++ wire_form (drop k ls)

@@ -1,6 +1,5 @@
 -- Links of a chain put together.
 use Rattle.std.proofs.Common.{◌≡◌, ℕ, Bool, List, ◌-◌, ◌||◌, ◌&&◌, suc, true, false, [], ◌∷◌, ◌++◌, Option, Some, refl, sym, ap, subst, ◌∙◌, arith, append_assoc}
-use Rattle.std.specs.List.{list_any}
 use Rattle.std.specs.Option.{IsSomeAnd}
 use Rattle.std.specs.Ordering.{is_eq}
 use Rattle.wire_names.specs.rr.domain.DomainName.{DomainName}

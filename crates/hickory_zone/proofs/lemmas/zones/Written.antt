@@ -179,7 +179,7 @@ free_by zone name k (suc n) h j above below x =
 
 module _ (zone : Zone) (name : DomainName) where
   -- nothing above the name owns a DNAME
-  direct_by : is_free zone name 0 (length name.labels) ≡ true → (k : ℕ) → ¬ (Redirects zone name k)
+  pub direct_by : is_free zone name 0 (length name.labels) ≡ true → (k : ℕ) → ¬ (Redirects zone name k)
   direct_by free k r = free_by zone name 0 (length name.labels) free k r.above (omega (arith, r.real)) r.owner
 
   -- the zone is cut at or above all that own one

@@ -1,5 +1,5 @@
-use Rattle.std.proofs.Common.{◌≡◌, ◌+◌, ◌<◌, ◌≤◌, ◌∙◌, ℕ, List, [], ap, arith, get_or, length, rules}
-use Rattle.wire_names.specs.rr.domain.DomainName.{wire_form, label_offset}
+use Rattle.std.proofs.Common.{◌≡◌, ◌+◌, ◌≤◌, ◌∙◌, ℕ, List, [], ap, arith, get_or, length, rules}
+use Rattle.wire_names.specs.rr.domain.DomainName.{wire_form}
 use Rattle.wire_names.proofs.lemmas.rr.domain.WireForm.{Step, step_below}
 use Rattle.hickory_zone.proofs.redirections.front_len.Goals as goal
 

@@ -1,5 +1,5 @@
-use Rattle.std.proofs.Common.{◌≡◌, ◌+◌, ◌<◌, ◌≤◌, ◌∙◌, Some, None, Option, Bool, ℕ, List, [], cond, length, take, sym, ap, arith, rules}
-use Rattle.wire_names.specs.rr.domain.DomainName.{DomainName, IsWire, wire_form}
+use Rattle.std.proofs.Common.{◌≡◌, ◌∙◌, Some, None, ℕ, List, cond, length, take, sym, ap, arith}
+use Rattle.wire_names.specs.rr.domain.DomainName.{wire_form}
 use Rattle.hickory_zone.specs.Redirections.{substitute}
 use Rattle.hickory_zone.proofs.lemmas.names.Fronts.{fits_made, front_bytes, front_size, front_wire, made_is, made_short, too_long_made}
 use Rattle.hickory_zone.proofs.redirections.substituted.Goals as goal

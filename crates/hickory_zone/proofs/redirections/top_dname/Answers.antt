@@ -1,4 +1,4 @@
-use Rattle.std.proofs.Common.{◌≡◌, ◌+◌, ◌≤◌, ◌<◌, ◌∙◌, false, true, None, Option, Some, drop, length, sym, ap, subst, arith, length-drop}
+use Rattle.std.proofs.Common.{◌≡◌, ◌+◌, ◌≤◌, ◌<◌, ◌∙◌, false, true, drop, length, sym, ap, subst, arith, length-drop}
 use Rattle.std.proofs.lemmas.Bool.{false≢true}
 use Rattle.std.specs.Option.{option_copied}
 use Rattle.hickory_base.specs.zone_store.ZoneSets.{sets_of}
@@ -7,7 +7,7 @@ use Rattle.hickory_zone.specs.FoundRecords.{TopDname, higher}
 use Rattle.hickory_zone.specs.Zones.{Zone, ancestor, rrset}
 use Rattle.hickory_zone.proofs.lemmas.names.Enclosers.{ancestor-ancestor}
 use Rattle.hickory_zone.proofs.lemmas.zones.Cuts.{not_empty, parent_within}
-use Rattle.hickory_zone.proofs.lemmas.zones.Redirected.{TopSoFar, arrive, climb, none_yet}
+use Rattle.hickory_zone.proofs.lemmas.zones.Redirected.{TopSoFar, arrive, climb}
 use Rattle.hickory_zone.proofs.redirections.top_dname.Goals as goal
 
 pub loop-key-smaller : goal.loop-key-smaller
