@@ -209,13 +209,24 @@ fn put_edns(edns: &Edns, out: &mut Output) {
     put_options(edns, out)
 }
 
+/// Sets what words say of EDNS.
+fn set_edns_words(alloc: Global, edns: &mut Edns, words: &[&str]) -> Result<(), Fault> {
+    for word in words {
+        set_edns_word(alloc, edns, word)?;
+    }
+    Ok(())
+}
+
 /// The EDNS of these words.
 fn edns_of(alloc: Global, words: &[&str]) -> Result<Edns, Fault> {
     let mut edns = Edns::new(alloc);
-    for word in words {
-        set_edns_word(alloc, &mut edns, word)?;
+    match set_edns_words(alloc, &mut edns, words) {
+        Ok(()) => Ok(edns),
+        Err(fault) => {
+            drop(edns);
+            Err(fault)
+        }
     }
-    Ok(edns)
 }
 
 /// Gives the reply the EDNS of these words, and tells what it says.
@@ -310,29 +321,46 @@ fn blank_signature(alloc: Global) -> TSIG {
     }
 }
 
-/// The data of the signature of these words.
-fn signature_data(alloc: Global, words: &[&str]) -> Result<TSIG, Fault> {
-    let mut data = blank_signature(alloc);
+/// Sets what words say of a signature.
+fn set_signed_words(alloc: Global, data: &mut TSIG, words: &[&str]) -> Result<(), Fault> {
     for word in words {
         match setting(word) {
-            (key, Some(value)) => set_signed(alloc, &mut data, key, value)?,
+            (key, Some(value)) => set_signed(alloc, data, key, value)?,
             _ => return Err(Fault::Usage(SIGNATURE_USAGE)),
         }
     }
-    Ok(data)
+    Ok(())
 }
 
-/// Gives the reply a signature.
-fn sign(messages: &mut Messages, alloc: Global, name: &str, words: &[&str]) -> Result<(), Fault> {
+/// The data of the signature of these words.
+fn signature_data(alloc: Global, words: &[&str]) -> Result<TSIG, Fault> {
+    let mut data = blank_signature(alloc);
+    match set_signed_words(alloc, &mut data, words) {
+        Ok(()) => Ok(data),
+        Err(fault) => {
+            drop(data);
+            Err(fault)
+        }
+    }
+}
+
+/// The signature of this name and these words (RFC 8945 section 4.2).
+fn signature(alloc: Global, name: &str, words: &[&str]) -> Result<Boxed<Record<TSIG>>, Fault> {
     let name = text::name(alloc, name)?;
+    let rdata = signature_data(alloc, words)?;
     let record = Record {
         name,
         dns_class: DNSClass::ANY,
         ttl: 0,
-        rdata: signature_data(alloc, words)?,
+        rdata,
         proof: Proof::Indeterminate,
     };
-    messages.draft.signature = Some(Boxed::new(alloc, record)?);
+    Boxed::new(alloc, record).map_err(Fault::from)
+}
+
+/// Gives the reply a signature.
+fn sign(messages: &mut Messages, alloc: Global, name: &str, words: &[&str]) -> Result<(), Fault> {
+    messages.draft.signature = Some(signature(alloc, name, words)?);
     Ok(())
 }
 

@@ -165,19 +165,37 @@ pub fn message(alloc: Global, words: &[&str]) -> Result<Vec<u8>, Fault> {
     }
 }
 
-/// What an OPT record is to say. Its payload is 512 at least.
-fn edns(alloc: Global, wish: Wish) -> Result<Edns, Fault> {
-    let mut edns = Edns::new(alloc);
+/// Asks for the server's identifier (RFC 5001 section 2.1).
+fn ask_identifier(alloc: Global, edns: &mut Edns) -> Result<(), Fault> {
+    let option = EdnsOption {
+        code: EdnsOption::NSID,
+        bytes: Octets::from_slice(alloc, b"")?,
+    };
+    edns.push_option(option).map_err(Fault::from)
+}
+
+/// Sets what an OPT record is to say. Its payload is 512 at least.
+fn set_edns(alloc: Global, edns: &mut Edns, wish: Wish) -> Result<(), Fault> {
     edns.set_max_payload(wish.payload);
     edns.set_version(wish.version);
     edns.set_dnssec_ok(wish.dnssec_ok);
     if wish.identifier {
-        edns.push_option(EdnsOption {
-            code: EdnsOption::NSID,
-            bytes: Octets::from_slice(alloc, b"")?,
-        })?;
+        ask_identifier(alloc, edns)
+    } else {
+        Ok(())
     }
-    Ok(edns)
+}
+
+/// What an OPT record is to say.
+fn edns(alloc: Global, wish: Wish) -> Result<Edns, Fault> {
+    let mut edns = Edns::new(alloc);
+    match set_edns(alloc, &mut edns, wish) {
+        Ok(()) => Ok(edns),
+        Err(fault) => {
+            drop(edns);
+            Err(fault)
+        }
+    }
 }
 
 /// The message of one question and an OPT record.

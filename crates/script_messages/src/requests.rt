@@ -39,6 +39,11 @@ pub fn received(settings: &Settings, alloc: Global, bytes: Vec<u8>) -> Result<Re
     }
 }
 
+/// The request of hex digits.
+fn read(settings: &Settings, alloc: Global, digits: &[&str]) -> Result<Request, Fault> {
+    received(settings, alloc, octets(alloc, digits)?)
+}
+
 /// Puts where a request came from behind a text.
 fn put_origin(request: &Request, out: &mut Output) {
     out.put("from ");
@@ -256,10 +261,24 @@ fn compare_with(
     second: &str,
     out: &mut Output,
 ) -> Result<(), Fault> {
-    let second = received(settings, alloc, octets(alloc, &[second])?)?;
+    let second = read(settings, alloc, &[second])?;
     put_sameness(first, second.message(), out);
     drop(second);
     Ok(())
+}
+
+/// Tells whether the messages of two words are equal, and whether their questions are.
+fn compare(
+    settings: &Settings,
+    alloc: Global,
+    first: &str,
+    second: &str,
+    out: &mut Output,
+) -> Result<(), Fault> {
+    let first = read(settings, alloc, &[first])?;
+    let compared = compare_with(settings, alloc, first.message(), second, out);
+    drop(first);
+    compared
 }
 
 /// Writes a message within a limit.
@@ -301,7 +320,10 @@ fn rebuilt(alloc: Global, bytes: &[u8]) -> Result<MessageRequest, DecodeError> {
 fn rebuilt_request(settings: &Settings, alloc: Global, digits: &[&str]) -> Result<Request, Fault> {
     let bytes = octets(alloc, digits)?;
     let message = rebuilt(alloc, bytes.as_slice())?;
-    Request::from_message(alloc, message, settings.source, settings.protocol).map_err(Fault::from)
+    match Request::from_message(alloc, message, settings.source, settings.protocol) {
+        Ok(request) => Ok(request),
+        Err(e) => Err(Fault::from(e)),
+    }
 }
 
 /// Tells of the request that is made of a message without answers and authorities: where it came from, its questions and
@@ -359,15 +381,11 @@ fn put_refusal(
 
 /// What is told of a request.
 #[derive(Clone, Copy)]
-enum Told<'w> {
+enum Told {
     /// What a server reads of it.
     Request,
-    /// The same of the request of these bytes, read in its place.
-    Over(&'w [u8]),
     /// What it is as a dynamic update.
     Update,
-    /// Whether it equals the message of this word.
-    Same(&'w str),
     /// What it is written as within this limit.
     Emitted(u16),
     /// The reply without records to it.
@@ -380,16 +398,14 @@ enum Told<'w> {
 fn tell(
     settings: &Settings,
     alloc: Global,
-    told: Told<'_>,
-    request: &mut Request,
+    told: Told,
+    request: &Request,
     out: &mut Output,
 ) -> Result<(), Fault> {
     match told {
         Told::Request => put_request(request, out),
         Told::Update => put_update(request.message(), out),
         Told::Emitted(limit) => put_emitted(alloc, request.message(), limit, out),
-        Told::Over(bytes) => return put_in_place(settings, alloc, bytes, request, out),
-        Told::Same(word) => return compare_with(settings, alloc, request.message(), word, out),
         Told::Response => return put_response(alloc, request, settings.protocol, out),
         Told::Refusal(code) => return put_refusal(alloc, request, code, settings.protocol, out),
     }
@@ -400,12 +416,26 @@ fn tell(
 fn tell_of(
     settings: &Settings,
     alloc: Global,
-    told: Told<'_>,
+    told: Told,
     digits: &[&str],
     out: &mut Output,
 ) -> Result<(), Fault> {
-    let mut request = received(settings, alloc, octets(alloc, digits)?)?;
-    let done = tell(settings, alloc, told, &mut request, out);
+    let request = read(settings, alloc, digits)?;
+    let done = tell(settings, alloc, told, &request, out);
+    drop(request);
+    done
+}
+
+/// Tells of the request of these bytes that is read in the place of that of a word.
+fn tell_bytes_over(
+    settings: &Settings,
+    alloc: Global,
+    first: &str,
+    bytes: &[u8],
+    out: &mut Output,
+) -> Result<(), Fault> {
+    let mut request = read(settings, alloc, &[first])?;
+    let done = put_in_place(settings, alloc, bytes, &mut request, out);
     drop(request);
     done
 }
@@ -419,7 +449,7 @@ fn tell_over(
     out: &mut Output,
 ) -> Result<(), Fault> {
     let bytes = octets(alloc, digits)?;
-    tell_of(settings, alloc, Told::Over(bytes.as_slice()), &[first], out)
+    tell_bytes_over(settings, alloc, first, bytes.as_slice(), out)
 }
 
 /// Tells what a request is written as within the limit of a word.
@@ -460,9 +490,7 @@ fn obey_reading(
         ["request", "over", first, digits @ ..] => tell_over(settings, alloc, first, digits, out),
         ["request", digits @ ..] => tell_of(settings, alloc, Told::Request, digits, out),
         ["questions", count, digits @ ..] => tell_questions(alloc, count, digits, out),
-        ["same", "message", first, "and", second] => {
-            tell_of(settings, alloc, Told::Same(second), &[first], out)
-        }
+        ["same", "message", first, "and", second] => compare(settings, alloc, first, second, out),
         _ => return None,
     })
 }

@@ -40,6 +40,14 @@ fn borrowed(signature: &Option<Boxed<Record<TSIG>>>) -> Option<&Record<TSIG>> {
     }
 }
 
+/// A copy of the TSIG record of a reply, if there is one.
+fn signature_of(draft: &Draft) -> Result<Option<Boxed<Record<TSIG>>>, ProtoError> {
+    match &draft.signature {
+        None => Ok(None),
+        Some(signature) => Ok(Some(signature.clone()?)),
+    }
+}
+
 /// What a fault of reading is where writing may fail too.
 fn proto_error(e: DecodeError) -> ProtoError {
     match e {
@@ -62,6 +70,7 @@ fn emit_reply(
     queries: &Queries,
     limit: u16,
 ) -> Result<Written, ProtoError> {
+    let signature = signature_of(draft)?;
     let builder = MessageResponseBuilder::new(queries, draft.edns.as_ref());
     let mut reply = builder.build(
         draft.metadata,
@@ -70,8 +79,8 @@ fn emit_reply(
         records.soa.as_slice(),
         records.additionals.as_slice(),
     );
-    if let Some(signature) = &draft.signature {
-        reply.set_signature(signature.clone()?);
+    if let Some(signature) = signature {
+        reply.set_signature(signature);
     }
     let mut bytes = Vec::new(alloc);
     let mut encoder = BinEncoder::new(alloc, &mut bytes);
@@ -88,6 +97,7 @@ fn encode_reply(
 ) -> Result<Written, ProtoError> {
     let draft = &messages.draft;
     let records = &messages.reply;
+    let signature = signature_of(draft)?;
     let builder = MessageResponseBuilder::new(queries, draft.edns.as_ref());
     let mut reply = builder.build(
         draft.metadata,
@@ -96,8 +106,8 @@ fn encode_reply(
         records.soa.as_slice(),
         records.additionals.as_slice(),
     );
-    if let Some(signature) = &draft.signature {
-        reply.set_signature(signature.clone()?);
+    if let Some(signature) = signature {
+        reply.set_signature(signature);
     }
     let (info, bytes) = reply.encode(alloc, messages.settings.protocol)?;
     Ok(Written { info, bytes })
@@ -106,13 +116,17 @@ fn encode_reply(
 /// The script's reply, written within a limit.
 pub fn emitted(alloc: Global, messages: &Messages, limit: u16) -> Result<Written, ProtoError> {
     let queries = queries_of(alloc, &messages.draft)?;
-    emit_reply(alloc, &messages.draft, &messages.reply, &queries, limit)
+    let written = emit_reply(alloc, &messages.draft, &messages.reply, &queries, limit);
+    drop(queries);
+    written
 }
 
 /// The script's reply, encoded for the script's transport.
 pub fn encoded(alloc: Global, messages: &Messages) -> Result<Written, ProtoError> {
     let queries = queries_of(alloc, &messages.draft)?;
-    encode_reply(alloc, messages, &queries)
+    let written = encode_reply(alloc, messages, &queries);
+    drop(queries);
+    written
 }
 
 /// The script's reply, encoded within a limit, or a server failure in its place.
@@ -176,8 +190,14 @@ fn question_bytes<'m>(alloc: Global, bytes: &'m [u8]) -> Result<(&'m [u8], u16),
 /// The message of some bytes, written again within a limit.
 pub fn rewritten(alloc: Global, bytes: &[u8], limit: u16) -> Result<Written, ProtoError> {
     let (question, count) = question_bytes(alloc, bytes).map_err(proto_error)?;
-    let message = Message::read(alloc, bytes).map_err(proto_error)?;
-    rewrite_message(alloc, &message, question, count, limit)
+    match Message::read(alloc, bytes) {
+        Ok(message) => {
+            let written = rewrite_message(alloc, &message, question, count, limit);
+            drop(message);
+            written
+        }
+        Err(e) => Err(proto_error(e)),
+    }
 }
 
 /// Puts a reply that was written behind a text, or why it could not be.

@@ -52,14 +52,20 @@ fn updatable_words(words: &[&str]) -> Result<(AxfrPolicy, bool), Fault> {
 
 /// The handler of a zone that takes updates.
 fn handler_of(zone: UpdatableZone) -> Result<Handler, AllocError> {
-    Ok(Handler {
-        zone_type: zone.zone_type(),
-        axfr_policy: zone.axfr_policy(),
-        origin: zone.origin().clone()?,
-        validates: zone.can_validate_dnssec(),
-        proof_kind: None,
-        source: Source::Updatable(zone),
-    })
+    match zone.origin().clone() {
+        Ok(origin) => Ok(Handler {
+            zone_type: zone.zone_type(),
+            axfr_policy: zone.axfr_policy(),
+            origin,
+            validates: zone.can_validate_dnssec(),
+            proof_kind: None,
+            source: Source::Updatable(zone),
+        }),
+        Err(e) => {
+            drop(zone);
+            Err(e)
+        }
+    }
 }
 
 /// The handler of the open zone's records, which takes updates. Its verifier knows no key.
@@ -72,8 +78,10 @@ fn updatable(
     let Some(zone) = &zones.zone else {
         return Err(Fault::NoZone);
     };
-    let verifier = ScriptedVerifier::without_keys(alloc, zones.log.share()?);
-    let zone = SqliteZoneHandler::new(zone.zone(alloc)?, policy, allow_update, verifier);
+    let log = zones.log.share()?;
+    let in_memory = zone.zone(alloc)?;
+    let verifier = ScriptedVerifier::without_keys(alloc, log);
+    let zone = SqliteZoneHandler::new(in_memory, policy, allow_update, verifier);
     handler_of(zone).map_err(Fault::from)
 }
 
@@ -153,6 +161,24 @@ fn names(alloc: Global, words: &[&str]) -> Result<Vec<Name>, Fault> {
     Ok(names)
 }
 
+/// A verifier that knows these keys.
+fn verifier(
+    zones: &Zones,
+    alloc: Global,
+    keys: &[&str],
+    times: Option<Range<u64>>,
+    wants_memory: bool,
+) -> Result<ScriptedVerifier, Fault> {
+    let log = zones.log.share()?;
+    let keys = names(alloc, keys)?;
+    Ok(ScriptedVerifier {
+        keys,
+        times,
+        wants_memory,
+        log,
+    })
+}
+
 /// Gives the updatable zone last begun a verifier that knows these keys.
 fn set_verifier(
     zones: &mut Zones,
@@ -161,14 +187,17 @@ fn set_verifier(
     times: Option<Range<u64>>,
     wants_memory: bool,
 ) -> Result<(), Fault> {
-    let verifier = ScriptedVerifier {
-        keys: names(alloc, keys)?,
-        times,
-        wants_memory,
-        log: zones.log.share()?,
-    };
-    last_updatable_mut(zones)?.set_verifier(verifier);
-    Ok(())
+    let verifier = verifier(zones, alloc, keys, times, wants_memory)?;
+    match last_updatable_mut(zones) {
+        Ok(zone) => {
+            zone.set_verifier(verifier);
+            Ok(())
+        }
+        Err(fault) => {
+            drop(verifier);
+            Err(fault)
+        }
+    }
 }
 
 /// Gives the updatable zone last begun the verifier that words tell of.

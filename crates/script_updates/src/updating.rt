@@ -10,6 +10,7 @@ use hickory_base::update_request::UpdateRequest;
 use hickory_base::zone_store::ZoneHandler;
 use hickory_wire::{Record, ResponseCode};
 use script_messages::requests::received;
+use script_messages::settings::Settings;
 use script_values::fault::Fault;
 use script_values::output::Output;
 use script_values::printing::print_hex;
@@ -182,20 +183,33 @@ fn hand_over_digits(
     hand_over_bytes(zones, alloc, handed, octets(alloc, digits)?, out)
 }
 
-/// The requests of words in hex digits, one a word, each at the moment that a word `now=SECONDS` before it tells.
-fn requests_of(zones: &Zones, alloc: Global, words: &[&str]) -> Result<Vec<(Request, u64)>, Fault> {
-    let mut now = zones.messages.settings.now;
-    let mut requests = Vec::new(alloc);
+/// Puts the request of hex digits behind others, with its moment.
+fn push_request(
+    settings: &Settings,
+    alloc: Global,
+    requests: &mut Vec<(Request, u64)>,
+    digits: &str,
+    now: u64,
+) -> Result<(), Fault> {
+    let request = received(settings, alloc, octets(alloc, &[digits])?)?;
+    requests.push((request, now)).map_err(Fault::from)
+}
+
+/// Reads the requests of words in hex digits, one a word, each at the moment that a word `now=SECONDS` before it tells.
+fn read_requests(
+    settings: &Settings,
+    alloc: Global,
+    requests: &mut Vec<(Request, u64)>,
+    words: &[&str],
+) -> Result<(), Fault> {
+    let mut now = settings.now;
     for word in words {
         match setting(word) {
             ("now", Some(seconds)) => now = seconds.parse::<u64>()?,
-            _ => requests.push((
-                received(&zones.messages.settings, alloc, octets(alloc, &[word])?)?,
-                now,
-            ))?,
+            _ => push_request(settings, alloc, requests, word, now)?,
         }
     }
-    Ok(requests)
+    Ok(())
 }
 
 /// Puts behind a text whether all requests had their turn. Want of memory is what is told where the verifier was to answer
@@ -225,6 +239,18 @@ fn answer_all(
     Ok(())
 }
 
+/// Reads the requests of words, and hands them to the update of the zone, one after another.
+fn answer_words(
+    zones: &mut Zones,
+    alloc: Global,
+    requests: &mut Vec<(Request, u64)>,
+    words: &[&str],
+    out: &mut Output,
+) -> Result<(), Fault> {
+    read_requests(&zones.messages.settings, alloc, requests, words)?;
+    answer_all(zones, alloc, requests.as_slice(), out)
+}
+
 /// Hands the requests of words to the update of the zone, one after another.
 fn update_all(
     zones: &mut Zones,
@@ -232,8 +258,8 @@ fn update_all(
     words: &[&str],
     out: &mut Output,
 ) -> Result<(), Fault> {
-    let requests = requests_of(zones, alloc, words)?;
-    let answered = answer_all(zones, alloc, &requests, out);
+    let mut requests = Vec::new(alloc);
+    let answered = answer_words(zones, alloc, &mut requests, words, out);
     drop(requests);
     answered
 }
@@ -265,16 +291,28 @@ fn increments(words: &[&str]) -> Result<bool, Fault> {
     }
 }
 
+/// Makes changes to the updatable zone last begun.
+fn apply_changes(
+    zones: &mut Zones,
+    alloc: Global,
+    changes: &[Record],
+    increments_serial: bool,
+    out: &mut Output,
+) -> Result<(), Fault> {
+    let zone = last_updatable_mut(zones)?;
+    let answer = make_changes(zone, alloc, changes, increments_serial);
+    print_answer(zones, alloc, out, answer, increments_serial);
+    Ok(())
+}
+
 /// Makes the changes that were written, and forgets them.
 fn apply(zones: &mut Zones, alloc: Global, words: &[&str], out: &mut Output) -> Result<(), Fault> {
     let increments_serial = increments(words)?;
     last_updatable(zones)?;
     let changes = mem::replace(&mut zones.updates.changes, Vec::new(alloc));
-    let zone = last_updatable_mut(zones)?;
-    let answer = make_changes(zone, alloc, &changes, increments_serial);
+    let applied = apply_changes(zones, alloc, &changes, increments_serial, out);
     drop(changes);
-    print_answer(zones, alloc, out, answer, increments_serial);
-    Ok(())
+    applied
 }
 
 /// Whether these words are hex digits, and do not name a change.

@@ -6,7 +6,7 @@ use crate::printing::print_message;
 use crate::reading::{put_fault, read_name, read_parts, read_question};
 use crate::records::tell_record;
 use crate::words::octets;
-use hickory_wire::{BinDecoder, DecodeError, Message, Record};
+use hickory_wire::{BinDecoder, Boxed, DecodeError, Edns, Message, Query, Record, TSIG};
 use std::alloc::{AllocError, Global};
 
 /// How `decode` is written.
@@ -119,23 +119,47 @@ fn have_equal_copies(records: &[Record]) -> Result<bool, AllocError> {
     Ok(true)
 }
 
+/// Whether EDNS is equal to its copy.
+fn edns_equals_copy(edns: &Edns) -> Result<bool, AllocError> {
+    let copy = edns.clone()?;
+    let is_equal = copy == *edns;
+    drop(copy);
+    Ok(is_equal)
+}
+
+/// Whether a signature is equal to its copy.
+fn signature_equals_copy(signature: &Boxed<Record<TSIG>>) -> Result<bool, AllocError> {
+    let copy = signature.clone()?;
+    let is_equal = copy == *signature;
+    drop(copy);
+    Ok(is_equal)
+}
+
 /// Whether EDNS and signature, where they are there, are equal to their copies.
 fn extras_have_equal_copies(message: &Message) -> Result<bool, AllocError> {
     if let Some(edns) = &message.edns {
-        if edns.clone()? != *edns {
+        if !edns_equals_copy(edns)? {
             return Ok(false);
         }
     }
     match &message.signature {
         None => Ok(true),
-        Some(signature) => Ok(signature.clone()? == *signature),
+        Some(signature) => signature_equals_copy(signature),
     }
+}
+
+/// Whether a question is equal to its copy.
+fn question_equals_copy(question: &Query) -> Result<bool, AllocError> {
+    let copy = question.clone()?;
+    let is_equal = copy == *question;
+    drop(copy);
+    Ok(is_equal)
 }
 
 /// Whether each question is equal to its copy.
 fn questions_have_equal_copies(message: &Message) -> Result<bool, AllocError> {
-    for query in message.queries.as_slice() {
-        if query.clone()? != *query {
+    for question in message.queries.as_slice() {
+        if !question_equals_copy(question)? {
             return Ok(false);
         }
     }
