@@ -373,6 +373,53 @@ fn add_question(messages: &mut Messages, alloc: Global, words: &[&str]) -> Resul
     }
 }
 
+/// Obeys a command on the EDNS of a reply, by the words behind it.
+fn obey_edns(
+    messages: &mut Messages,
+    alloc: Global,
+    words: &[&str],
+    out: &mut Output,
+) -> Result<(), Fault> {
+    match words {
+        ["fits", room] => tell_edns_fits(messages, room, out),
+        words => set_edns(messages, alloc, words, out),
+    }
+}
+
+/// Gives the reply a signature, by the words behind the command.
+fn obey_signature(messages: &mut Messages, alloc: Global, words: &[&str]) -> Result<(), Fault> {
+    match words {
+        [name, words @ ..] => sign(messages, alloc, name, words),
+        [] => Err(Fault::Usage(SIGNATURE_USAGE)),
+    }
+}
+
+/// Tells of an option, by the words behind the command.
+fn obey_option(messages: &Messages, words: &[&str], out: &mut Output) -> Result<(), Fault> {
+    match words {
+        [code] => find_option(messages, code, out),
+        _ => Err(Fault::Usage(OPTION_USAGE)),
+    }
+}
+
+/// Obeys a command of this name that says what a reply is made of, if it is one.
+fn obey_part(
+    messages: &mut Messages,
+    alloc: Global,
+    command: &str,
+    words: &[&str],
+    out: &mut Output,
+) -> Option<Result<(), Fault>> {
+    Some(match command {
+        "reply" => begin(messages, alloc, words),
+        "question" => add_question(messages, alloc, words),
+        "edns" => obey_edns(messages, alloc, words, out),
+        "option" => obey_option(messages, words, out),
+        "signature" => obey_signature(messages, alloc, words),
+        _ => return None,
+    })
+}
+
 /// Obeys a command that says what a reply is made of, if it is one.
 fn obey_parts(
     messages: &mut Messages,
@@ -380,15 +427,8 @@ fn obey_parts(
     words: &[&str],
     out: &mut Output,
 ) -> Option<Result<(), Fault>> {
-    Some(match words {
-        ["reply", words @ ..] => begin(messages, alloc, words),
-        ["question", words @ ..] => add_question(messages, alloc, words),
-        ["edns", "fits", room] => tell_edns_fits(messages, room, out),
-        ["edns", words @ ..] => set_edns(messages, alloc, words, out),
-        ["option", code] => find_option(messages, code, out),
-        ["signature", name, words @ ..] => sign(messages, alloc, name, words),
-        _ => return None,
-    })
+    let (command, words) = words.split_first()?;
+    obey_part(messages, alloc, command, words, out)
 }
 
 /// Tells what the reply is encoded as within a limit: a server failure where it cannot be.

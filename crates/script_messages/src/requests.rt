@@ -326,8 +326,14 @@ fn rebuilt_request(settings: &Settings, alloc: Global, digits: &[&str]) -> Resul
     }
 }
 
-/// Tells of the request that is made of a message without answers and authorities: where it came from, its questions and
-/// its bytes.
+/// Puts where a request came from behind a text, its questions and its bytes.
+fn put_rebuilt(request: &Request, out: &mut Output) {
+    put_origin(request, out);
+    put_questions(&request.message().queries, out);
+    put_bytes(request.as_slice(), out);
+}
+
+/// Tells of the request that is made of a message without answers and authorities.
 fn rebuild(
     settings: &Settings,
     alloc: Global,
@@ -335,9 +341,7 @@ fn rebuild(
     out: &mut Output,
 ) -> Result<(), Fault> {
     let request = rebuilt_request(settings, alloc, digits)?;
-    put_origin(&request, out);
-    put_questions(&request.message().queries, out);
-    put_bytes(request.as_slice(), out);
+    put_rebuilt(&request, out);
     drop(request);
     Ok(())
 }
@@ -476,23 +480,65 @@ fn refuse(
     tell_of(settings, alloc, Told::Refusal(code), digits, out)
 }
 
-/// Obeys a command on requests that are read, if it is one.
-fn obey_reading(
+/// Tells what a server reads of a request, by the words behind the command.
+fn obey_request(
+    settings: &Settings,
+    alloc: Global,
+    words: &[&str],
+    out: &mut Output,
+) -> Result<(), Fault> {
+    match words {
+        ["as-update", digits @ ..] => tell_of(settings, alloc, Told::Update, digits, out),
+        ["over", first, digits @ ..] => tell_over(settings, alloc, first, digits, out),
+        digits => tell_of(settings, alloc, Told::Request, digits, out),
+    }
+}
+
+/// Obeys a command whose first word is a number or a code, if it is one.
+fn obey_numbered(
+    settings: &Settings,
+    alloc: Global,
+    command: &str,
+    words: &[&str],
+    out: &mut Output,
+) -> Option<Result<(), Fault>> {
+    let (word, digits) = words.split_first()?;
+    Some(match command {
+        "emit" if !digits.is_empty() => emit(settings, alloc, word, digits, out),
+        "refuse" => refuse(settings, alloc, word, digits, out),
+        "questions" => tell_questions(alloc, word, digits, out),
+        _ => return None,
+    })
+}
+
+/// Compares messages, if the words behind the command say so.
+fn obey_same(
     settings: &Settings,
     alloc: Global,
     words: &[&str],
     out: &mut Output,
 ) -> Option<Result<(), Fault>> {
-    Some(match words {
-        ["request", "as-update", digits @ ..] => {
-            tell_of(settings, alloc, Told::Update, digits, out)
-        }
-        ["request", "over", first, digits @ ..] => tell_over(settings, alloc, first, digits, out),
-        ["request", digits @ ..] => tell_of(settings, alloc, Told::Request, digits, out),
-        ["questions", count, digits @ ..] => tell_questions(alloc, count, digits, out),
-        ["same", "message", first, "and", second] => compare(settings, alloc, first, second, out),
-        _ => return None,
-    })
+    match words {
+        ["message", first, "and", second] => Some(compare(settings, alloc, first, second, out)),
+        _ => None,
+    }
+}
+
+/// Obeys a command of this name, if it is one on requests.
+fn obey_command(
+    settings: &Settings,
+    alloc: Global,
+    command: &str,
+    words: &[&str],
+    out: &mut Output,
+) -> Option<Result<(), Fault>> {
+    match command {
+        "request" => Some(obey_request(settings, alloc, words, out)),
+        "rebuild" => Some(rebuild(settings, alloc, words, out)),
+        "respond" => Some(tell_of(settings, alloc, Told::Response, words, out)),
+        "same" => obey_same(settings, alloc, words, out),
+        _ => obey_numbered(settings, alloc, command, words, out),
+    }
 }
 
 /// Obeys a command on requests, if it is one.
@@ -502,13 +548,6 @@ pub fn obey(
     words: &[&str],
     out: &mut Output,
 ) -> Option<Result<(), Fault>> {
-    Some(match words {
-        ["emit", limit, digits @ ..] if !digits.is_empty() => {
-            emit(settings, alloc, limit, digits, out)
-        }
-        ["rebuild", digits @ ..] => rebuild(settings, alloc, digits, out),
-        ["respond", digits @ ..] => tell_of(settings, alloc, Told::Response, digits, out),
-        ["refuse", code, digits @ ..] => refuse(settings, alloc, code, digits, out),
-        _ => return obey_reading(settings, alloc, words, out),
-    })
+    let (command, words) = words.split_first()?;
+    obey_command(settings, alloc, command, words, out)
 }

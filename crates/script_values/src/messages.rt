@@ -235,17 +235,28 @@ enum Reading {
     Copies,
 }
 
+/// What bytes are read as by a word, if it says so.
+fn reading_named(word: &str) -> Option<Reading> {
+    match word {
+        "name" => Some(Reading::Name),
+        "question" => Some(Reading::Question),
+        "record" => Some(Reading::Record),
+        "parts" => Some(Reading::Parts),
+        "fronts" => Some(Reading::Fronts),
+        "copies" => Some(Reading::Copies),
+        _ => None,
+    }
+}
+
 /// What bytes are read as by the words of a command, and the words with their digits.
 fn reading_of<'w>(words: &'w [&'w str]) -> (Reading, &'w [&'w str]) {
     match words {
         ["name", "behind-header", digits @ ..] => (Reading::NameBehindHeader, digits),
-        ["name", digits @ ..] => (Reading::Name, digits),
-        ["question", digits @ ..] => (Reading::Question, digits),
-        ["record", digits @ ..] => (Reading::Record, digits),
-        ["parts", digits @ ..] => (Reading::Parts, digits),
-        ["fronts", digits @ ..] => (Reading::Fronts, digits),
-        ["copies", digits @ ..] => (Reading::Copies, digits),
-        digits => (Reading::Message, digits),
+        [word, digits @ ..] => match reading_named(word) {
+            Some(reading) => (reading, digits),
+            None => (Reading::Message, words),
+        },
+        [] => (Reading::Message, words),
     }
 }
 

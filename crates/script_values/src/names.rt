@@ -240,6 +240,17 @@ fn share(alloc: Global, word: &str, other: &str, out: &mut Output) -> Result<(),
     put_shared(alloc, &mut name, other, out)
 }
 
+/// Obeys a command on one name, if it is one.
+fn obey_one(alloc: Global, words: &[&str], out: &mut Output) -> Option<Result<(), Fault>> {
+    Some(match words {
+        ["name", word] => describe(alloc, word, out),
+        ["name", word, "relative"] => describe_marked(alloc, word, false, out),
+        ["name", word, "qualified"] => describe_marked(alloc, word, true, out),
+        ["parents", word] => list_parents(alloc, word, out),
+        _ => return None,
+    })
+}
+
 /// Obeys a command on names, if it is one.
 pub fn obey(
     alloc: Global,
@@ -248,19 +259,10 @@ pub fn obey(
     out: &mut Output,
 ) -> Option<Result<(), Fault>> {
     Some(match words {
-        ["name", word] => describe(alloc, word, out),
-        ["name", word, "relative"] => describe_marked(alloc, word, false, out),
-        ["name", word, "qualified"] => describe_marked(alloc, word, true, out),
-        ["name", ..] => Err(Fault::Usage(NAME_USAGE)),
         ["plain", ..] => describe_plain(alloc, behind_word(line), out),
         ["compare", first, second] => compare(alloc, first, second, out),
-        ["compare", ..] => Err(Fault::Usage(COMPARE_USAGE)),
         ["encloses", zone, name] => enclose(alloc, zone, name, out),
-        ["encloses", ..] => Err(Fault::Usage(ENCLOSES_USAGE)),
-        ["parents", word] => list_parents(alloc, word, out),
-        ["parents", ..] => Err(Fault::Usage(PARENTS_USAGE)),
         ["shared", name, other] => share(alloc, name, other, out),
-        ["shared", ..] => Err(Fault::Usage(SHARED_USAGE)),
-        _ => return None,
+        _ => return obey_one(alloc, words, out),
     })
 }

@@ -52,6 +52,18 @@ pub fn put_proto_fault(e: ProtoError, out: &mut Output) {
     }
 }
 
+/// The name that comes next, where a message may have its header before it.
+fn next_name(
+    alloc: Global,
+    decoder: &mut BinDecoder<'_>,
+    is_behind_header: bool,
+) -> Result<Name, DecodeError> {
+    if is_behind_header {
+        decoder.read_header()?;
+    }
+    decoder.read_name(alloc)
+}
+
 /// The name that bytes begin with, or that stands behind the header of a message, and where it ends.
 pub fn read_name(
     alloc: Global,
@@ -59,10 +71,7 @@ pub fn read_name(
     is_behind_header: bool,
 ) -> Result<(Name, usize), DecodeError> {
     let mut decoder = BinDecoder::new(bytes);
-    if is_behind_header {
-        decoder.read_header()?;
-    }
-    let name = decoder.read_name(alloc)?;
+    let name = next_name(alloc, &mut decoder, is_behind_header)?;
     Ok((name, decoder.index()))
 }
 
@@ -80,11 +89,16 @@ pub fn read_record(alloc: Global, bytes: &[u8]) -> Result<(Record, usize), Decod
     Ok((record, decoder.index()))
 }
 
+/// The record behind the header that comes next.
+fn next_first_record(alloc: Global, decoder: &mut BinDecoder<'_>) -> Result<Record, DecodeError> {
+    decoder.read_header()?;
+    decoder.read_record(alloc)
+}
+
 /// The record that stands behind the header of a message without questions, and where it ends.
 pub fn read_first_record(alloc: Global, bytes: &[u8]) -> Result<(Record, usize), DecodeError> {
     let mut decoder = BinDecoder::new(bytes);
-    decoder.read_header()?;
-    let record = decoder.read_record(alloc)?;
+    let record = next_first_record(alloc, &mut decoder)?;
     Ok((record, decoder.index()))
 }
 
@@ -121,15 +135,14 @@ fn questions_end(
     Ok(decoder.index())
 }
 
-/// Where the parts of a message end, read one by one.
-pub fn read_parts(alloc: Global, bytes: &[u8]) -> Result<Ends, DecodeError> {
-    let mut decoder = BinDecoder::new(bytes);
+/// Where the parts of the message that comes next end, read one by one.
+fn next_parts(alloc: Global, decoder: &mut BinDecoder<'_>) -> Result<Ends, DecodeError> {
     let counts = decoder.read_header()?.counts;
     let header = decoder.index();
-    let questions = questions_end(alloc, &mut decoder, counts.queries)?;
-    let answers = section_end(alloc, &mut decoder, counts.answers)?;
-    let authorities = section_end(alloc, &mut decoder, counts.authorities)?;
-    let additionals = additionals_end(alloc, &mut decoder, counts.additionals)?;
+    let questions = questions_end(alloc, decoder, counts.queries)?;
+    let answers = section_end(alloc, decoder, counts.answers)?;
+    let authorities = section_end(alloc, decoder, counts.authorities)?;
+    let additionals = additionals_end(alloc, decoder, counts.additionals)?;
     Ok(Ends {
         header,
         questions,
@@ -137,4 +150,12 @@ pub fn read_parts(alloc: Global, bytes: &[u8]) -> Result<Ends, DecodeError> {
         authorities,
         additionals,
     })
+}
+
+/// Where the parts of a message end.
+pub fn read_parts(alloc: Global, bytes: &[u8]) -> Result<Ends, DecodeError> {
+    let mut decoder = BinDecoder::new(bytes);
+    let ends = next_parts(alloc, &mut decoder);
+    drop(decoder);
+    ends
 }
