@@ -298,11 +298,13 @@ fn put_emitted(alloc: Global, message: &MessageRequest, limit: u16, out: &mut Ou
     }
 }
 
-/// The message of a request without records, put together from its parts.
-fn rebuilt(alloc: Global, bytes: &[u8]) -> Result<MessageRequest, DecodeError> {
-    let mut decoder = BinDecoder::new(bytes);
+/// The message of a request that comes next, without answers and authorities, put together from its parts.
+fn next_rebuilt(
+    alloc: Global,
+    decoder: &mut BinDecoder<'_>,
+) -> Result<MessageRequest, DecodeError> {
     let header = decoder.read_header()?;
-    let queries = Queries::read(alloc, &mut decoder, header.counts.queries)?;
+    let queries = Queries::read(alloc, decoder, header.counts.queries)?;
     let additionals = decoder.read_additionals(alloc, header.counts.additionals)?;
     let (additionals, edns, signature) = additionals.into_parts();
     Ok(MessageRequest {
@@ -314,6 +316,14 @@ fn rebuilt(alloc: Global, bytes: &[u8]) -> Result<MessageRequest, DecodeError> {
         signature,
         edns,
     })
+}
+
+/// The message of a request without answers and authorities, put together from its parts.
+fn rebuilt(alloc: Global, bytes: &[u8]) -> Result<MessageRequest, DecodeError> {
+    let mut decoder = BinDecoder::new(bytes);
+    let message = next_rebuilt(alloc, &mut decoder);
+    drop(decoder);
+    message
 }
 
 /// The request that is made of a message without answers and authorities.

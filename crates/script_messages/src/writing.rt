@@ -178,12 +178,21 @@ fn rewrite_message(
     Ok(Written::new(header, bytes))
 }
 
+/// How many questions the message has that comes next, and where they begin.
+fn next_questions(
+    alloc: Global,
+    decoder: &mut BinDecoder<'_>,
+) -> Result<(u16, usize), DecodeError> {
+    let count = decoder.read_header()?.counts.queries;
+    let start = decoder.index();
+    drop(decoder.read_queries(alloc, count)?);
+    Ok((count, start))
+}
+
 /// The bytes of the questions of a message, and how many questions they hold.
 fn question_bytes<'m>(alloc: Global, bytes: &'m [u8]) -> Result<(&'m [u8], u16), DecodeError> {
     let mut decoder = BinDecoder::new(bytes);
-    let count = decoder.read_header()?.counts.queries;
-    let start = decoder.index();
-    decoder.read_queries(alloc, count)?;
+    let (count, start) = next_questions(alloc, &mut decoder)?;
     Ok((decoder.slice_from(start)?, count))
 }
 
