@@ -1,68 +1,54 @@
 //! The commands, by their subjects.
 //!
-//! Each module has a function `obey`, which is given the words of a line, the line without the blanks around it, and the
+//! Each subject has a function `obey`, which is given the words of a line, the line without the blanks around it, and the
 //! text to put behind what is printed; it obeys the line if that is one of its commands, and else gives `None`.
 
-pub(crate) mod asking;
-pub(crate) mod calling;
-pub(crate) mod chains;
-pub(crate) mod encoding;
-pub(crate) mod lists;
-pub(crate) mod messages;
-pub(crate) mod names;
-pub(crate) mod networks;
-pub(crate) mod records;
-pub(crate) mod requests;
-pub(crate) mod sections;
-pub(crate) mod setting;
-pub(crate) mod signing;
-pub(crate) mod updatable;
-pub(crate) mod updates;
-pub(crate) mod updating;
-pub(crate) mod values;
-pub(crate) mod zones;
-
-use crate::fault::Fault;
-use crate::script::Script;
+use script_messages::{encoding, requests};
+use script_updates::{sections, updatable, updating};
+use script_values::fault::Fault;
+use script_values::output::Output;
+use script_values::{codes, messages, names, networks, records};
+use script_zones::state::Zones;
+use script_zones::{asking, calling, chains, lists, places, setting, zones};
 use std::alloc::Global;
 
 /// Obeys a command of a server's: its settings, zones and chains.
 fn obey_server(
-    script: &mut Script,
+    state: &mut Zones,
     alloc: Global,
     words: &[&str],
-    out: &mut String,
+    out: &mut Output,
 ) -> Option<Result<(), Fault>> {
-    if let Some(done) = setting::obey(script, alloc, words, out) {
+    if let Some(done) = setting::obey(state, alloc, words, out) {
         return Some(done);
     }
-    if let Some(done) = sections::obey(script, words) {
+    if let Some(done) = places::obey(state, words) {
         return Some(done);
     }
-    if let Some(done) = zones::obey(script, alloc, words, out) {
+    if let Some(done) = zones::obey(state, alloc, words, out) {
         return Some(done);
     }
-    chains::obey(script, alloc, words, out)
+    chains::obey(state, alloc, words, out)
 }
 
 /// Obeys a command on what is asked of a server, or on whom it serves.
 fn obey_asked(
-    script: &mut Script,
+    state: &mut Zones,
     alloc: Global,
     words: &[&str],
     line: &str,
-    out: &mut String,
+    out: &mut Output,
 ) -> Option<Result<(), Fault>> {
-    if let Some(done) = asking::obey(script, alloc, words, out) {
+    if let Some(done) = asking::obey(state, alloc, words, out) {
         return Some(done);
     }
-    if let Some(done) = calling::obey(script, alloc, words, out) {
+    if let Some(done) = calling::obey(state, alloc, words, out) {
         return Some(done);
     }
-    if let Some(done) = lists::obey(script, alloc, words, line, out) {
+    if let Some(done) = lists::obey(state, alloc, words, line, out) {
         return Some(done);
     }
-    networks::obey(script, alloc, words, out)
+    networks::obey(&mut state.access, alloc, words, out)
 }
 
 /// Obeys a command on values.
@@ -70,7 +56,7 @@ fn obey_values(
     alloc: Global,
     words: &[&str],
     line: &str,
-    out: &mut String,
+    out: &mut Output,
 ) -> Option<Result<(), Fault>> {
     if let Some(done) = names::obey(alloc, words, line, out) {
         return Some(done);
@@ -83,57 +69,57 @@ fn obey_values(
 
 /// Obeys a command on values and bytes.
 fn obey_bytes(
-    script: &mut Script,
+    state: &mut Zones,
     alloc: Global,
     words: &[&str],
     line: &str,
-    out: &mut String,
+    out: &mut Output,
 ) -> Option<Result<(), Fault>> {
     if let Some(done) = obey_values(alloc, words, line, out) {
         return Some(done);
     }
-    if let Some(done) = requests::obey(script, alloc, words, out) {
+    if let Some(done) = requests::obey(&state.messages.settings, alloc, words, out) {
         return Some(done);
     }
-    if let Some(done) = encoding::obey(script, alloc, words, line, out) {
+    if let Some(done) = encoding::obey(&mut state.messages, alloc, words, line, out) {
         return Some(done);
     }
-    values::obey(script, alloc, words, out)
+    codes::obey(&state.messages.reply, alloc, words, out)
 }
 
 /// Obeys a command on dynamic updates.
 fn obey_updates(
-    script: &mut Script,
+    state: &mut Zones,
     alloc: Global,
     words: &[&str],
     line: &str,
-    out: &mut String,
+    out: &mut Output,
 ) -> Option<Result<(), Fault>> {
-    if let Some(done) = updatable::obey(script, alloc, words, out) {
+    if let Some(done) = updatable::obey(state, alloc, words) {
         return Some(done);
     }
-    if let Some(done) = updating::obey(script, alloc, words, out) {
+    if let Some(done) = updating::obey(state, alloc, words, out) {
         return Some(done);
     }
-    updates::obey(script, alloc, words, line, out)
+    sections::obey(state, alloc, words, line, out)
 }
 
 /// Obeys a command, if there is such a command.
 pub(crate) fn obey(
-    script: &mut Script,
+    state: &mut Zones,
     alloc: Global,
     words: &[&str],
     line: &str,
-    out: &mut String,
+    out: &mut Output,
 ) -> Option<Result<(), Fault>> {
-    if let Some(done) = obey_server(script, alloc, words, out) {
+    if let Some(done) = obey_server(state, alloc, words, out) {
         return Some(done);
     }
-    if let Some(done) = obey_asked(script, alloc, words, line, out) {
+    if let Some(done) = obey_asked(state, alloc, words, line, out) {
         return Some(done);
     }
-    if let Some(done) = obey_updates(script, alloc, words, line, out) {
+    if let Some(done) = obey_updates(state, alloc, words, line, out) {
         return Some(done);
     }
-    obey_bytes(script, alloc, words, line, out)
+    obey_bytes(state, alloc, words, line, out)
 }

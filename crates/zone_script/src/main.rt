@@ -5,51 +5,31 @@
 //! refused, and 4 where reading or printing failed.
 #![tactic(auto)]
 
-mod asked;
-mod begun;
-mod calls;
 mod commands;
-mod draft;
-mod fault;
-mod handler;
-mod open_zone;
-mod part;
-mod pieces;
-mod printing;
-mod question;
-mod reading;
+mod forms;
 mod script;
-mod sections;
-mod settings;
-mod signer;
-mod sink;
-mod text;
-mod updates;
-mod verifier;
-mod words;
-mod writing;
 
-use crate::fault::Fault;
 use crate::script::Script;
+use script_values::fault::Fault;
 use std::alloc::Global;
 use std::io::{BufRead, BufReader};
 use std::process::ExitCode;
-use std::rt::Env;
+use std::rt::{Env, Files};
 use std::{env, io};
 
 /// Obeys a line as it was read, and prints what is said of it.
-fn obey_line<R: Print + Alloc<A = Global>>(
+fn obey_line<R: Files + Print + Alloc<A = Global>>(
     rt: &R,
     script: &mut Script,
     line: Result<String, io::Error>,
 ) -> Result<(), Fault> {
-    let said = script.said(rt.alloc(), line)?;
+    let said = script.said(rt, line)?;
     print!(rt; "{said}")?;
     Ok(())
 }
 
 /// Obeys the lines of the standard input.
-fn obey_lines<R: Input + Print + Alloc<A = Global>>(
+fn obey_lines<R: Files + Input + Print + Alloc<A = Global>>(
     rt: &R,
     script: &mut Script,
 ) -> Result<(), Fault> {
@@ -61,7 +41,7 @@ fn obey_lines<R: Input + Print + Alloc<A = Global>>(
 }
 
 /// Obeys the script of the standard input, and tells whether each line was obeyed.
-fn obey_input<R: Input + Print + Alloc<A = Global>>(rt: &R) -> Result<bool, Fault> {
+fn obey_input<R: Files + Input + Print + Alloc<A = Global>>(rt: &R) -> Result<bool, Fault> {
     let mut script = Script::new(rt.alloc())?;
     let ended = obey_lines(rt, &mut script);
     let is_obeyed = script.is_obeyed();
@@ -94,7 +74,7 @@ fn status<R: Print>(rt: &R, ended: &Result<bool, Fault>) -> u8 {
 }
 
 /// Runs the program, and gives its status.
-fn run<R: Env + Input + Print + Alloc<A = Global>>(rt: &R) -> u8 {
+fn run<R: Env + Files + Input + Print + Alloc<A = Global>>(rt: &R) -> u8 {
     match has_arguments(rt) {
         Ok(false) => status(rt, &obey_input(rt)),
         Ok(true) => tell(rt, "usage: zone_script < SCRIPT", 2),

@@ -1,61 +1,22 @@
 //! The state of a script, and its lines.
 
-use crate::calls::CallLog;
 use crate::commands;
-use crate::draft::Draft;
-use crate::fault::Fault;
-use crate::handler::Handler;
-use crate::open_zone::OpenZone;
-use crate::sections::{Section, Sections};
-use crate::settings::Settings;
-use crate::signer::{ScriptedSigner, Signing};
-use crate::text::record;
-use crate::updates::Updates;
-use hickory_server::access::AccessControl;
-use hickory_server::proto::{LowerName, Record};
-use hickory_server::zone_handler::Catalog;
+use crate::forms::{form_of, put_forms};
+use hickory_wire::Record;
+use script_messages::state::Place;
+use script_values::fault::Fault;
+use script_values::output::Output;
+use script_values::text::record;
+use script_zones::state::Zones;
+use script_zones::{chains, zones};
 use std::alloc::{AllocError, Global};
-use std::collections::BTreeSet;
-use std::io;
+use std::rt::Files;
+use std::{fs, io};
 
-/// What the records that follow are part of.
-#[derive(Clone, Copy, PartialEq, Eq)]
-pub(crate) enum Place {
-    /// Nothing: no command has said so far.
-    Nothing,
-    /// The zone last begun.
-    Zone,
-    /// This section of the answer last begun, of the part last begun.
-    Answer(Section),
-    /// This section of the reply that is to be encoded.
-    Reply(Section),
-}
-
-/// A server whose handlers and signer are those of a script.
-pub(crate) type Server = Catalog<ScriptedSigner, Handler>;
-
-/// What a script has said so far.
+/// What a script has said so far, and which of its lines is obeyed.
 #[derive(Drop)]
 pub(crate) struct Script {
-    pub(crate) settings: Settings,
-    pub(crate) catalog: Server,
-    /// The names that a chain was served at.
-    pub(crate) served: BTreeSet<LowerName>,
-    /// The zone whose records are given. It comes behind the handlers of `chain`.
-    pub(crate) zone: Option<OpenZone>,
-    /// The handlers since a chain was last served, but for the open zone.
-    pub(crate) chain: Vec<Handler>,
-    /// The calls that scripted handlers got.
-    pub(crate) log: CallLog,
-    /// What the records that follow are part of.
-    pub(crate) place: Place,
-    /// The records of the reply that is to be encoded.
-    pub(crate) reply: Sections,
-    /// The rest of it.
-    pub(crate) draft: Draft,
-    pub(crate) access: AccessControl,
-    /// The update that is being written.
-    pub(crate) updates: Updates,
+    zones: Zones,
     line_number: u64,
     is_obeyed: bool,
 }
@@ -71,23 +32,27 @@ fn is_record(words: &[&str]) -> bool {
     matches!(words, [owner, _, ..] if owner.ends_with('.'))
 }
 
+/// Why a line of these words is no command, or none that is written so.
+fn unknown(words: &[&str]) -> Fault {
+    match words {
+        [word, ..] => match form_of(word) {
+            Some(form) => Fault::Usage(form),
+            None => Fault::Command,
+        },
+        [] => Fault::Command,
+    }
+}
+
+/// The first word of a line.
+fn first_word(line: &str) -> &str {
+    line.split_whitespace().next().unwrap_or("")
+}
+
 impl Script {
     /// Nothing said.
     pub(crate) fn new(alloc: Global) -> Result<Script, AllocError> {
-        let log = CallLog::new(alloc)?;
-        let signer = ScriptedSigner::new(Signing::Fails, &log)?;
         Ok(Script {
-            settings: Settings::new(),
-            catalog: Catalog::new(alloc, signer),
-            served: BTreeSet::new(alloc),
-            zone: None,
-            chain: Vec::new(alloc),
-            log,
-            place: Place::Nothing,
-            reply: Sections::new(alloc),
-            draft: Draft::new(alloc),
-            access: AccessControl::new(alloc),
-            updates: Updates::new(alloc),
+            zones: Zones::new(alloc)?,
             line_number: 0,
             is_obeyed: true,
         })
@@ -100,11 +65,13 @@ impl Script {
 
     /// Puts a copy of a record where the last section command says.
     fn put(&mut self, alloc: Global, record: &Record) -> Result<(), Fault> {
-        match self.place {
+        match self.zones.messages.place {
             Place::Nothing => Err(Fault::NoSection),
-            Place::Zone => commands::zones::put(self, alloc, record),
-            Place::Answer(section) => commands::chains::put(self, section, record),
+            Place::Zone => zones::put(&mut self.zones, alloc, record),
+            Place::Answer(section) => chains::put(&mut self.zones, section, record),
             Place::Reply(section) => self
+                .zones
+                .messages
                 .reply
                 .push(section, record.clone()?)
                 .map_err(Fault::from),
@@ -120,67 +87,111 @@ impl Script {
     }
 
     /// Obeys a line of these words.
-    fn obey_words(
+    fn obey_words<R: Files + Alloc<A = Global>>(
         &mut self,
-        alloc: Global,
+        rt: &R,
         words: &[&str],
         line: &str,
-        out: &mut String,
+        out: &mut Output,
     ) -> Result<(), Fault> {
+        let alloc = rt.alloc();
         if is_record(words) {
             return self.put_line(alloc, line);
         }
-        match commands::obey(self, alloc, words, line.trim(), out) {
+        match words {
+            ["file", name, path] => {
+                return zones::load_file(&mut self.zones, alloc, name, fs::read(rt, path));
+            }
+            ["help"] => {
+                put_forms(out);
+                return Ok(());
+            }
+            _ => {}
+        }
+        match commands::obey(&mut self.zones, alloc, words, line.trim(), out) {
             Some(done) => done,
-            None => Err(Fault::Command),
+            None => Err(unknown(words)),
         }
     }
 
     /// Obeys a line that is neither blank nor a comment. What it prints is put behind `out`.
-    fn obey(&mut self, alloc: Global, line: &str, out: &mut String) -> Result<(), Fault> {
-        let words: Vec<&str> = line.split_whitespace().collect(alloc)?;
-        let done = self.obey_words(alloc, &words, line, out);
+    fn obey<R: Files + Alloc<A = Global>>(
+        &mut self,
+        rt: &R,
+        line: &str,
+        out: &mut Output,
+    ) -> Result<(), Fault> {
+        let words: Vec<&str> = line.split_whitespace().collect(rt.alloc())?;
+        let done = self.obey_words(rt, &words, line, out);
         drop(words);
         done
     }
 
     /// What a line prints.
-    fn answer(&mut self, alloc: Global, line: &str) -> Result<String, Fault> {
+    fn answer<R: Files + Alloc<A = Global>>(
+        &mut self,
+        rt: &R,
+        line: &str,
+    ) -> Result<String, Fault> {
+        let mut out = Output::new(rt.alloc());
         if is_comment(line) {
-            return Ok(format!(in alloc; "{line}\n")?);
+            out.put(line);
+            out.put("\n");
+            return out.ended(Ok(()));
         }
-        let mut out = String::new(alloc);
-        self.obey(alloc, line, &mut out)?;
-        Ok(out)
+        let obeyed = self.obey(rt, line, &mut out);
+        out.ended(obeyed)
     }
 
-    /// What is printed of a fault.
-    fn told(&mut self, alloc: Global, fault: &Fault) -> Result<String, AllocError> {
+    /// What is printed of a fault of a line.
+    fn told(&mut self, alloc: Global, line: &str, fault: &Fault) -> Result<String, AllocError> {
         self.is_obeyed = false;
-        let number = self.line_number;
-        match fault {
-            Fault::At { column, fault } => {
-                format!(in alloc; "line {number}, column {column}: {fault}\n")
+        let mut out = Output::new(alloc);
+        out.put("line ");
+        out.put_value(&self.line_number);
+        if let Fault::At { column, .. } = fault {
+            out.put(", column ");
+            out.put_value(column);
+        }
+        out.put(": ");
+        out.put_value(fault);
+        if let Fault::Command = fault {
+            out.put(": ");
+            out.put(first_word(line));
+        }
+        out.put("\n");
+        out.into_text()
+    }
+
+    /// Obeys a line, and gives what is printed of it. A fault ends the script: any other is told in what is printed.
+    fn line_said<R: Files + Alloc<A = Global>>(
+        &mut self,
+        rt: &R,
+        line: &str,
+        answer: Result<String, Fault>,
+    ) -> Result<String, Fault> {
+        match answer {
+            Err(fault) if !fault.is_last() => {
+                self.told(rt.alloc(), line, &fault).map_err(Fault::from)
             }
-            fault => format!(in alloc; "line {number}: {fault}\n"),
+            answer => answer,
         }
     }
 
     /// Obeys a line as it was read, and gives what is printed of it. A fault ends the script: any other is told in what
     /// is printed.
-    pub(crate) fn said(
+    pub(crate) fn said<R: Files + Alloc<A = Global>>(
         &mut self,
-        alloc: Global,
+        rt: &R,
         line: Result<String, io::Error>,
     ) -> Result<String, Fault> {
         self.line_number = self.line_number.saturating_add(1);
-        let answer = match line {
-            Ok(line) => self.answer(alloc, line.as_str()),
-            Err(e) => Err(Fault::from(e)),
-        };
-        match answer {
-            Err(fault) if !fault.is_last() => self.told(alloc, &fault).map_err(Fault::from),
-            answer => answer,
+        match line {
+            Ok(line) => {
+                let answer = self.answer(rt, line.as_str());
+                self.line_said(rt, line.as_str(), answer)
+            }
+            Err(e) => self.line_said(rt, "", Err(Fault::from(e))),
         }
     }
 }

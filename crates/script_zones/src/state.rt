@@ -1,0 +1,59 @@
+//! What a script has said of zones and of the server so far.
+
+use access_control::AccessControl;
+use hickory_catalog::catalog::Catalog;
+use hickory_wire::LowerName;
+use script_handlers::calls::CallLog;
+use script_handlers::handler::Handler;
+use script_handlers::open_zone::OpenZone;
+use script_handlers::signer::{ScriptedSigner, Signing};
+use script_handlers::sink::Sinking;
+use script_messages::state::Messages;
+use script_messages::updates::Updates;
+use std::alloc::{AllocError, Global};
+use std::collections::BTreeSet;
+
+/// A server whose handlers and signer are those of a script.
+pub type Server = Catalog<ScriptedSigner, Handler>;
+
+/// What a script has said of zones and of the server so far, and of messages.
+#[derive(Drop)]
+pub struct Zones {
+    /// What it has said of messages.
+    pub messages: Messages,
+    /// The server of the chains.
+    pub catalog: Server,
+    /// The names that a chain was served at.
+    pub served: BTreeSet<LowerName>,
+    /// The zone whose records are given. It comes behind the handlers of `chain`.
+    pub zone: Option<OpenZone>,
+    /// The handlers since a chain was last served, but for the open zone.
+    pub chain: Vec<Handler>,
+    /// The calls that scripted handlers got.
+    pub log: CallLog,
+    /// What the sink does with replies.
+    pub sinking: Sinking,
+    /// The networks that are denied and allowed.
+    pub access: AccessControl,
+    /// The update that is being written.
+    pub updates: Updates,
+}
+
+impl Zones {
+    /// Nothing said.
+    pub fn new(alloc: Global) -> Result<Zones, AllocError> {
+        let log = CallLog::new(alloc)?;
+        let signer = ScriptedSigner::new(Signing::Fails, &log)?;
+        Ok(Zones {
+            messages: Messages::new(alloc),
+            catalog: Catalog::new(alloc, signer),
+            served: BTreeSet::new(alloc),
+            zone: None,
+            chain: Vec::new(alloc),
+            log,
+            sinking: Sinking::Works,
+            access: AccessControl::new(alloc),
+            updates: Updates::new(alloc),
+        })
+    }
+}
