@@ -2,7 +2,7 @@
 
 use crate::calls::CallLog;
 use hickory_base::errors::{DnsError, LookupError, UpdateFault};
-use hickory_base::zone_store::{AuthLookup, Lookup, LookupControlFlow, ZoneTransfer};
+use hickory_base::zone_store::{AuthLookup, Lookup, LookupControlFlow, WholeReply, ZoneTransfer};
 use hickory_wire::{DNSClass, Items, Name, Proof, Query, Record, RecordType, ResponseCode};
 use script_values::sections::{Sections, copies, no_records};
 use std::alloc::{AllocError, Global};
@@ -42,6 +42,8 @@ pub enum Outcome {
     Found,
     /// What was resolved elsewhere, its records with this proof.
     Resolved(Proof),
+    /// The whole reply, with this code, and with AA or without.
+    Whole(ResponseCode, bool),
     /// Nothing.
     Empty,
     /// A response code.
@@ -121,6 +123,25 @@ fn resolved(alloc: Global, records: &Sections, proof: Proof) -> Result<AuthLooku
     }))
 }
 
+/// The whole reply, with this code, and with AA or without.
+fn whole(
+    alloc: Global,
+    records: &Sections,
+    response_code: ResponseCode,
+    authoritative: bool,
+) -> Result<AuthLookup, AllocError> {
+    let answers = copies(alloc, &records.answers)?;
+    let authorities = copies(alloc, &records.authorities)?;
+    let additionals = copies(alloc, &records.additionals)?;
+    Ok(AuthLookup::Whole(WholeReply {
+        response_code,
+        authoritative,
+        answers,
+        authorities,
+        additionals,
+    }))
+}
+
 /// The answers of what was found.
 fn answers_of(alloc: Global, found: AuthLookup) -> Items<Record> {
     match found {
@@ -137,6 +158,7 @@ fn answers_of(alloc: Global, found: AuthLookup) -> Items<Record> {
             answers,
             additionals: _additionals,
         } => answers,
+        AuthLookup::Whole(reply) => reply.answers,
     }
 }
 
@@ -165,6 +187,9 @@ impl Answer {
         match self.outcome {
             Outcome::Found => Ok(found(alloc, &self.records)?),
             Outcome::Resolved(proof) => Ok(resolved(alloc, &self.records, proof)?),
+            Outcome::Whole(code, authoritative) => {
+                Ok(whole(alloc, &self.records, code, authoritative)?)
+            }
             Outcome::Empty => Ok(AuthLookup::Empty),
             Outcome::NoRecords(code) => Err(no_records(alloc, &self.records, code)?),
             other => Err(fault(other)),
@@ -229,9 +254,11 @@ fn fault(outcome: Outcome) -> LookupError {
         Outcome::Bogus => LookupError::Net(DnsError::DnssecBogus),
         Outcome::Unreadable => LookupError::Io,
         Outcome::Memory => LookupError::Memory,
-        Outcome::Failed | Outcome::Found | Outcome::Resolved(_) | Outcome::Empty => {
-            LookupError::Net(DnsError::Other)
-        }
+        Outcome::Failed
+        | Outcome::Found
+        | Outcome::Resolved(_)
+        | Outcome::Whole(_, _)
+        | Outcome::Empty => LookupError::Net(DnsError::Other),
     }
 }
 

@@ -95,6 +95,8 @@ enum Asked {
     Lookup,
     /// Its lookup, with EDNS that has DO for the reply.
     LookupWithDo,
+    /// Its update, without EDNS for the reply.
+    Update,
 }
 
 /// Hands a request to the lookup of the server, with EDNS that has DO for the reply.
@@ -123,6 +125,7 @@ fn hand_over(
         Asked::Server => zones.catalog.handle_request(alloc, request, now, sink),
         Asked::Lookup => zones.catalog.lookup(alloc, request, None, now, sink),
         Asked::LookupWithDo => look_up_with_do(zones, alloc, request, sink),
+        Asked::Update => zones.catalog.update(alloc, request, None, now, sink),
     }
 }
 
@@ -194,6 +197,7 @@ pub fn obey(
     Some(match words {
         ["ask", words @ ..] => ask(zones, alloc, Asked::Server, words, out),
         ["lookup", words @ ..] => ask(zones, alloc, lookup_of(words), words, out),
+        ["modify", words @ ..] => ask(zones, alloc, Asked::Update, words, out),
         ["find", name] => find(zones, alloc, name, out),
         _ => return None,
     })

@@ -6,8 +6,8 @@ use crate::state::Zones;
 use hickory_base::errors::{DnsError, LookupError};
 use hickory_base::server::Request;
 use hickory_base::zone_store::{
-    AuthLookup, LookupControlFlow, LookupOptions, Nsec3QueryInfo, StoredAnswer, ZoneHandler,
-    ZoneTransfer,
+    AuthLookup, LookupControlFlow, LookupOptions, Nsec3QueryInfo, StoredAnswer, WholeReply,
+    ZoneHandler, ZoneTransfer,
 };
 use hickory_wire::{LowerName, RecordType, TSigResponseContext};
 use script_handlers::handler::Handler;
@@ -38,6 +38,16 @@ fn print_fault(out: &mut Output, fault: &LookupError) {
     out.put("\n");
 }
 
+/// Puts a whole reply behind a text: its code, AA, and the records of its sections.
+fn print_whole(out: &mut Output, reply: &WholeReply) {
+    out.put("whole, ");
+    out.put_value(&reply.response_code);
+    out.put(if reply.authoritative { ", aa\n" } else { "\n" });
+    print_records(out, reply.answers.as_slice());
+    print_records(out, reply.authorities.as_slice());
+    print_records(out, reply.additionals.as_slice());
+}
+
 /// Puts what was found behind a text: the answers, and then what is beside records of a zone.
 fn print_found(out: &mut Output, found: &AuthLookup) {
     match found {
@@ -54,6 +64,7 @@ fn print_found(out: &mut Output, found: &AuthLookup) {
             print_records(out, answers.as_slice());
             print_records(out, additionals.as_slice());
         }
+        AuthLookup::Whole(reply) => print_whole(out, reply),
     }
 }
 

@@ -118,7 +118,7 @@ fn begin(zones: &mut Zones, alloc: Global, origin: &str, words: &[&str]) -> Resu
 
 /// How `on` is written.
 pub const ANSWER_USAGE: &str =
-    "on search|consult|lookup|denial|transfer skip|continue|break|add [CODE|resolved [secure|insecure|bogus]|empty|no-records CODE|bogus|failed|unreadable|memory], on update changed|unchanged|CODE|memory";
+    "on search|consult|lookup|denial|transfer skip|continue|break|add [CODE|resolved [secure|insecure|bogus]|whole CODE [aa]|empty|no-records CODE|bogus|failed|unreadable|memory], on update changed|unchanged|CODE|memory";
 
 /// How `serve` is written.
 pub const SERVE_USAGE: &str = "serve NAME";
@@ -160,6 +160,8 @@ fn outcome(words: &[&str]) -> Result<Outcome, CodeTextError> {
         ["resolved", "secure"] => Outcome::Resolved(Proof::Secure),
         ["resolved", "insecure"] => Outcome::Resolved(Proof::Insecure),
         ["resolved", "bogus"] => Outcome::Resolved(Proof::Bogus),
+        ["whole", code] => Outcome::Whole(code.parse::<ResponseCode>()?, false),
+        ["whole", code, "aa"] => Outcome::Whole(code.parse::<ResponseCode>()?, true),
         ["empty"] => Outcome::Empty,
         ["no-records", code] => Outcome::NoRecords(code.parse::<ResponseCode>()?),
         ["bogus"] => Outcome::Bogus,

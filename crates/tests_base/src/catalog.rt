@@ -1,5 +1,4 @@
-//! The catalog: a transfer whose sink fails, and an update that is handed to it.
+//! The catalog: a transfer whose sink fails.
 
 mod fixtures;
 mod transfers;
-mod updates;

@@ -49,6 +49,9 @@ const ASK_USAGE: &str =
 /// How `lookup` is written.
 const LOOKUP_USAGE: &str = "lookup HEX, lookup NAME TYPE [.. reply-do]";
 
+/// How `modify` is written.
+const MODIFY_USAGE: &str = "modify HEX, modify NAME TYPE [..]";
+
 /// Settings.
 const SETTINGS: &[&str] = &[
     HELP_USAGE,
@@ -84,7 +87,7 @@ const ZONES: &[&str] = &[
 ];
 
 /// What is asked.
-const ASKING: &[&str] = &[ASK_USAGE, LOOKUP_USAGE, CALL_USAGE];
+const ASKING: &[&str] = &[ASK_USAGE, LOOKUP_USAGE, MODIFY_USAGE, CALL_USAGE];
 
 /// Dynamic updates.
 const UPDATES: &[&str] = &[
