@@ -260,7 +260,9 @@ fn run_arguments<R: Files + Env + Clock + Input + Print + Eprint + Alloc<A = Glo
     rt: &R,
     arguments: &[String],
 ) -> u8 {
-    if let [word] = arguments && word.as_str() == "--version" {
+    if let [word] = arguments
+        && word.as_str() == "--version"
+    {
         return print_version(rt);
     }
     match Settings::read(rt.alloc(), arguments) {
