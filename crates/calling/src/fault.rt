@@ -2,59 +2,27 @@
 
 use hickory_server::proto::NameError;
 use hickory_server::server::serve::ServeError;
+use hickory_server::store::file::ZoneError;
 use hickory_server::zone_text::ZoneFileError;
-use std::alloc::{AllocError, AllocFailed};
+use std::alloc::AllocError;
 use thiserror::Error;
 
 /// Why a sample has no answer.
-#[derive(Clone, Copy, Debug, PartialEq, Eq, Error)]
+#[derive(Debug, Drop, Error)]
 pub enum Fault {
-    /// The text is no name.
-    #[error("no name")]
-    Name,
-    /// The text is no zone file.
+    /// A text is no name.
     #[error("{0}")]
-    Text(ZoneFileError),
-    /// The records make no zone.
-    #[error("the records make no zone")]
-    Zone,
+    Name(#[from] NameError),
+    /// A text is no list of records.
+    #[error("{0}")]
+    Records(#[from] ZoneFileError),
+    /// A text is no zone file.
+    #[error("{0}")]
+    Zone(#[from] ZoneError),
+    /// A message was not served.
+    #[error("{0}")]
+    Served(#[from] ServeError),
     /// Memory was refused.
     #[error("no memory")]
-    Memory,
-}
-
-impl From<AllocError> for Fault {
-    fn from(_e: AllocError) -> Fault {
-        Fault::Memory
-    }
-}
-
-impl<T: Drop> From<AllocFailed<T>> for Fault {
-    fn from(_e: AllocFailed<T>) -> Fault {
-        Fault::Memory
-    }
-}
-
-impl From<ServeError> for Fault {
-    fn from(_e: ServeError) -> Fault {
-        Fault::Memory
-    }
-}
-
-impl From<NameError> for Fault {
-    fn from(e: NameError) -> Fault {
-        match e {
-            NameError::Text => Fault::Name,
-            NameError::Memory => Fault::Memory,
-        }
-    }
-}
-
-impl From<ZoneFileError> for Fault {
-    fn from(e: ZoneFileError) -> Fault {
-        match e {
-            ZoneFileError::Memory => Fault::Memory,
-            other => Fault::Text(other),
-        }
-    }
+    Memory(#[from(alloc)] AllocError),
 }

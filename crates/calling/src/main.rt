@@ -3,6 +3,7 @@
 #![tactic(auto)]
 
 mod fault;
+mod hmac;
 mod keys;
 mod parked;
 mod serving;
@@ -12,21 +13,21 @@ mod updating;
 mod zone_file;
 
 use crate::fault::Fault;
-use crate::keys::NoKeys;
+use crate::keys::{OneKey, key};
 use crate::parked::Parked;
 use crate::serving::{serve_datagram, serve_zone};
 use crate::silent::Silent;
 use crate::sizes::Sizes;
 use crate::updating::change;
-use crate::zone_file::read_zone;
+use crate::zone_file::closed_zone;
 use hickory_server::access::AccessControl;
 use hickory_server::proto::{BinDecoder, Header, Items, LowerName, Name, Octets, Protocol};
 use hickory_server::server::serve::{Incoming, Outcome};
-use hickory_server::server::{Request, RequestHandler};
+use hickory_server::server::{NoKeys, Request, RequestHandler};
 use hickory_server::store::sqlite::SqliteZoneHandler;
 use hickory_server::zone_handler::{AxfrPolicy, Catalog};
 use hickory_server::zone_text::read_zone_file;
-use std::alloc::Global;
+use std::alloc::{AllocError, Global};
 use std::net::{IpAddr, Ipv4Addr, SocketAddr};
 use std::process::ExitCode;
 
@@ -43,6 +44,19 @@ www  A   192.0.2.1
 const QUERY: [u8; 33] =
     *b"\x12\x34\x01\x00\x00\x01\x00\x00\x00\x00\x00\x00\x03www\x07example\x03com\x00\x00\x01\x00\x01";
 
+/// An update of example.com that adds new.example.com, signed by the key key.example. at 1,700,000,000 seconds (RFC 8945 section 5.1).
+const UPDATE: [u8; 133] = *b"\
+    \x124(\x00\x00\x01\x00\x00\x00\x01\x00\x01\
+    \x07example\x03com\x00\x00\x06\x00\x01\
+    \x03new\xc0\x0c\x00\x01\x00\x01\x00\x00\x00<\x00\x04\xc0\x00\x02\x07\
+    \x03key\x07example\x00\
+    \x00\xfa\x00\xff\x00\x00\x00\x00\x00=\x0bhmac-sha256\x00\x00\x00e\
+    S\xf1\x00\x01,\x00\x20\
+    w\xc1\xcd9\xda\x8a\x5cV\xc6b\x04\x1e\xdbn\xed\xc9\
+    y:S1\xbf\xe56]\x00rn\x81v\xe0\xda\xd7\
+    \x124\x00\x00\x00\x00\
+";
+
 /// The address that messages come from.
 fn source() -> SocketAddr {
     SocketAddr::new(IpAddr::V4(Ipv4Addr::LOCALHOST), 53)
@@ -58,6 +72,23 @@ fn query(alloc: Global) -> Result<Incoming, Fault> {
     })
 }
 
+/// The update as it comes over TCP, at this moment.
+fn update(alloc: Global, now: u64) -> Result<Incoming, Fault> {
+    Ok(Incoming {
+        bytes: UPDATE.to_vec(alloc)?,
+        src: source(),
+        protocol: Protocol::Tcp,
+        now,
+    })
+}
+
+/// The key of the update, with this secret.
+fn update_key(alloc: Global, secret: &[u8; 20]) -> Result<OneKey, Fault> {
+    let mut block = [0; 64];
+    block[..20].copy_from_slice(secret);
+    Ok(key(alloc, "key.example.", block)?)
+}
+
 /// The name that all samples serve.
 fn origin(alloc: Global) -> Result<Name, Fault> {
     Ok(Name::from_ascii(alloc, "example.com.")?)
@@ -66,8 +97,14 @@ fn origin(alloc: Global) -> Result<Name, Fault> {
 /// What a zone file's zone answers to the query.
 fn of_zone_file(alloc: Global) -> Result<Outcome, Fault> {
     let origin = origin(alloc)?;
-    let zone = read_zone(alloc, &origin, ZONE)?;
-    serve_zone(alloc, LowerName::new(alloc, &origin)?, zone, query(alloc)?)
+    let zone = closed_zone(alloc, &origin, ZONE)?;
+    serve_zone(
+        alloc,
+        NoKeys,
+        LowerName::new(alloc, &origin)?,
+        zone,
+        query(alloc)?,
+    )
 }
 
 /// Whether a reply that comes back is dropped by a server without zones.
@@ -90,7 +127,24 @@ fn of_parked(alloc: Global) -> Result<Outcome, Fault> {
         origin: LowerName::new(alloc, &origin)?,
         address: Ipv4Addr::new(192, 0, 2, 80),
     };
-    serve_zone(alloc, LowerName::new(alloc, &origin)?, zone, query(alloc)?)
+    serve_zone(
+        alloc,
+        NoKeys,
+        LowerName::new(alloc, &origin)?,
+        zone,
+        query(alloc)?,
+    )
+}
+
+/// What the update is answered where the key has this secret, at this moment.
+fn of_update(alloc: Global, secret: &[u8; 20], now: u64) -> Result<Outcome, Fault> {
+    let origin = origin(alloc)?;
+    let verifier = update_key(alloc, secret)?;
+    let zone = closed_zone(alloc, &origin, ZONE)?;
+    let handler = SqliteZoneHandler::new(zone, AxfrPolicy::Deny, true, verifier);
+    let signer = update_key(alloc, secret)?;
+    let origin = LowerName::new(alloc, &origin)?;
+    serve_zone(alloc, signer, origin, handler, update(alloc, now)?)
 }
 
 /// What a handler without an answer leads to.
@@ -99,7 +153,13 @@ fn of_silent(alloc: Global) -> Result<Outcome, Fault> {
     let zone = Silent {
         origin: LowerName::new(alloc, &origin)?,
     };
-    serve_zone(alloc, LowerName::new(alloc, &origin)?, zone, query(alloc)?)
+    serve_zone(
+        alloc,
+        NoKeys,
+        LowerName::new(alloc, &origin)?,
+        zone,
+        query(alloc)?,
+    )
 }
 
 /// What a reply says in its header.
@@ -133,17 +193,17 @@ fn reply_sizes(alloc: Global) -> Result<Items<usize>, Fault> {
     };
     let bytes = QUERY.to_vec(alloc)?;
     let Ok(request) = Request::from_bytes(alloc, bytes, source(), Protocol::Tcp) else {
-        return Err(Fault::Memory);
+        return Err(Fault::Memory(AllocError));
     };
     match catalog.handle_request(alloc, &request, 0, &mut sink) {
         Ok(_) => Ok(sink.sizes),
-        Err(_) => Err(Fault::Memory),
+        Err(_) => Err(Fault::Memory(AllocError)),
     }
 }
 
 /// The zone of the file, as one that can be changed.
 fn updatable(alloc: Global, origin: &Name) -> Result<SqliteZoneHandler<NoKeys>, Fault> {
-    let zone = read_zone(alloc, origin, ZONE)?;
+    let zone = closed_zone(alloc, origin, ZONE)?;
     Ok(SqliteZoneHandler::new(zone, AxfrPolicy::Deny, false, NoKeys))
 }
 
@@ -154,8 +214,29 @@ fn changed(alloc: Global) -> Result<u32, Fault> {
     let mut zone = updatable(alloc, &origin)?;
     match change(alloc, &mut zone, added.as_slice()) {
         Ok(_) => Ok(zone.in_memory().serial()),
-        Err(_) => Err(Fault::Memory),
+        Err(_) => Err(Fault::Memory(AllocError)),
     }
+}
+
+/// A line for the update, one where the key has another secret, and one where it comes too late.
+fn update_lines(alloc: Global) -> Result<String, Fault> {
+    let now = 1_700_000_000;
+    let good = line(
+        alloc,
+        "update",
+        &of_update(alloc, b"a secret of a sample", now)?,
+    )?;
+    let bad = line(
+        alloc,
+        "bad",
+        &of_update(alloc, b"a secret of another.", now)?,
+    )?;
+    let late = line(
+        alloc,
+        "late",
+        &of_update(alloc, b"a secret of a sample", now + 301)?,
+    )?;
+    Ok(format!(in alloc; "{good}\n{bad}\n{late}")?)
 }
 
 /// All lines.
@@ -167,8 +248,9 @@ fn lines(alloc: Global) -> Result<String, Fault> {
     let size = sizes.as_slice().first().copied().unwrap_or(0);
     let serial = changed(alloc)?;
     let is_dropped = drops_replies(alloc)?;
+    let updates = update_lines(alloc)?;
     Ok(format!(in alloc;
-        "{zone_file}\n{parked}\n{silent}\nsizes: {size}\nserial: {serial}\ndropped: {is_dropped}"
+        "{zone_file}\n{parked}\n{silent}\nsizes: {size}\nserial: {serial}\ndropped: {is_dropped}\n{updates}"
     )?)
 }
 

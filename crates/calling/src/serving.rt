@@ -5,25 +5,25 @@ ghost use Rattle.hickory_catalog.specs.Server.{server_of};
 ghost use Rattle.hickory_server.specs.Serving.{Step};
 
 use crate::fault::Fault;
-use crate::keys::NoKeys;
 use hickory_server::access::AccessControl;
 use hickory_server::proto::LowerName;
 use hickory_server::server::serve::{Incoming, Outcome, ServeError, serve};
 use hickory_server::zone_handler::{Catalog, ReplySigner, ZoneHandler};
-use std::alloc::Global;
+use std::alloc::{AllocError, Global};
 
 /// What becomes of a message at a server of one zone, which everybody may ask.
-pub fn serve_zone<H: ZoneHandler>(
+pub fn serve_zone<S: ReplySigner, H: ZoneHandler>(
     alloc: Global,
+    signer: S,
     origin: LowerName,
     zone: H,
     message: Incoming,
 ) -> Result<Outcome, Fault> {
     let mut chain = Vec::new(alloc);
     chain.push(zone)?;
-    let mut catalog = Catalog::new(alloc, NoKeys);
+    let mut catalog = Catalog::new(alloc, signer);
     if catalog.upsert(origin, chain).is_err() {
-        return Err(Fault::Memory);
+        return Err(Fault::Memory(AllocError));
     }
     Ok(serve(alloc, &AccessControl::new(alloc), &mut catalog, message)?)
 }
