@@ -1,3 +1,4 @@
 pub mod Hmac
 pub mod Parking
+pub mod Serving
 pub mod Signatures

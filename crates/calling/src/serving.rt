@@ -1,8 +1,9 @@
 //! Serving one message.
 
-ghost use Rattle.std.specs.Prelude.{◌≡◌, IfOk, IfSome, IfNone};
+ghost use Rattle.std.specs.Prelude.{◌≡◌, ◌↔◌, IfNone, IfOk, IfSome, IsNone, IsTrue};
 ghost use Rattle.hickory_catalog.specs.Server.{server_of};
 ghost use Rattle.hickory_server.specs.Serving.{Step};
+ghost use Rattle.calling.specs.Serving.{IsResponse};
 
 use crate::fault::Fault;
 use hickory_server::access::AccessControl;
@@ -29,8 +30,13 @@ pub fn serve_zone<S: ReplySigner, H: ZoneHandler>(
 }
 
 /// Whether these bytes are a response (RFC 1035 section 4.1.1).
-fn is_response(bytes: &[u8]) -> bool {
-    matches!(bytes.get(2), Some(flags) if *flags >= 0x80)
+fn is_response(bytes: &[u8]) -> bool
+    ensures { IsTrue result ↔ IsResponse bytes.now }
+{
+    match bytes.get(2) {
+        Some(flags) => *flags >= 0x80,
+        None => false,
+    }
 }
 
 /// What becomes of a datagram, or nothing where it is a response: two servers that answer responses would answer each other for ever.
@@ -42,7 +48,8 @@ pub fn serve_datagram<S: ReplySigner, H: ZoneHandler>(
 ) -> Result<Option<Outcome>, ServeError>
     ensures served { IfOk result (λ told. IfSome told (λ outcome.
         Step access.now (server_of H.ZoneHandler S.signature_for catalog.old) message outcome catalog.new.zones)) }
-    ensures dropped { IfOk result (λ told. IfNone told (catalog.new ≡ catalog.old)) }
+    ensures dropped { IfOk result (λ told. IsResponse message.bytes.items → IsNone told) }
+    ensures untouched { IfOk result (λ told. IfNone told (IsResponse message.bytes.items × (catalog.new ≡ catalog.old))) }
 {
     if is_response(&message.bytes) {
         return Ok(None);

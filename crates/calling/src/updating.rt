@@ -1,6 +1,9 @@
 //! Changing a zone as a dynamic update does.
 
-ghost use Rattle.std.specs.Prelude.{◌≡◌, OnErr};
+ghost use Rattle.std.specs.Prelude.{true};
+ghost use Rattle.hickory_base.specs.zone_store.ZoneSets.{zone_records};
+ghost use Rattle.hickory_store.specs.Prescan.{prescan_refusal};
+ghost use Rattle.hickory_store.specs.UpdateAnswers.{Updates, applied, unless_refused};
 
 use hickory_server::proto::Record;
 use hickory_server::store::sqlite::{SqliteZoneHandler, Verifier};
@@ -14,7 +17,7 @@ pub fn change<V: Verifier>(
     zone: &mut SqliteZoneHandler<V>,
     updates: &[Record],
 ) -> Result<bool, UpdateFault>
-    ensures { OnErr result (zone.new.zone ≡ zone.old.zone) }
+    ensures { Updates (unless_refused (prescan_refusal zone.old.zone.origin 1 updates.now) (applied zone.old.zone.origin 1 (zone_records zone.old.zone.sets) updates.now true)) result zone.old.zone zone.new.zone }
 {
     match zone.pre_scan(updates) {
         Ok(()) => zone.update_records(alloc, updates, true),
