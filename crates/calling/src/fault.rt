@@ -2,6 +2,7 @@
 
 use hickory_server::proto::NameError;
 use hickory_server::server::serve::ServeError;
+use hickory_server::store::blocklist::AddError;
 use hickory_server::store::file::ZoneError;
 use hickory_server::zone_text::ZoneFileError;
 use std::alloc::AllocError;
@@ -19,6 +20,9 @@ pub enum Fault {
     /// A text is no zone file.
     #[error("{0}")]
     Zone(#[from] ZoneError),
+    /// A text is no list of names.
+    #[error("{0}")]
+    List(#[from] AddError),
     /// A message was not served.
     #[error("{0}")]
     Served(#[from] ServeError),

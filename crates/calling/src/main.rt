@@ -2,6 +2,7 @@
 //! `docs/CALLING.md` quotes them.
 #![tactic(auto)]
 
+mod blocking;
 mod fault;
 mod hmac;
 mod keys;
@@ -12,10 +13,11 @@ mod sizes;
 mod updating;
 mod zone_file;
 
+use crate::blocking::{blocking, chain_of};
 use crate::fault::Fault;
 use crate::keys::{OneKey, key};
 use crate::parked::Parked;
-use crate::serving::{serve_datagram, serve_zone};
+use crate::serving::{serve_chain, serve_datagram};
 use crate::silent::Silent;
 use crate::sizes::Sizes;
 use crate::updating::change;
@@ -25,7 +27,7 @@ use hickory_server::proto::{BinDecoder, Header, Items, LowerName, Name, Octets, 
 use hickory_server::server::serve::{Incoming, Outcome};
 use hickory_server::server::{NoKeys, Request, RequestHandler};
 use hickory_server::store::sqlite::SqliteZoneHandler;
-use hickory_server::zone_handler::{AxfrPolicy, Catalog};
+use hickory_server::zone_handler::{AxfrPolicy, Catalog, ReplySigner, ZoneHandler};
 use hickory_server::zone_text::read_zone_file;
 use std::alloc::{AllocError, Global};
 use std::net::{IpAddr, Ipv4Addr, SocketAddr};
@@ -94,6 +96,19 @@ fn origin(alloc: Global) -> Result<Name, Fault> {
     Ok(Name::from_ascii(alloc, "example.com.")?)
 }
 
+/// What becomes of a message at a server of one zone with one handler.
+fn serve_zone<S: ReplySigner, H: ZoneHandler>(
+    alloc: Global,
+    signer: S,
+    apex: LowerName,
+    zone: H,
+    message: Incoming,
+) -> Result<Outcome, Fault> {
+    let mut chain = Vec::new(alloc);
+    chain.push(zone)?;
+    serve_chain(alloc, signer, apex, chain, message)
+}
+
 /// What a zone file's zone answers to the query.
 fn of_zone_file(alloc: Global) -> Result<Outcome, Fault> {
     let origin = origin(alloc)?;
@@ -103,6 +118,21 @@ fn of_zone_file(alloc: Global) -> Result<Outcome, Fault> {
         NoKeys,
         LowerName::new(alloc, &origin)?,
         zone,
+        query(alloc)?,
+    )
+}
+
+/// What the zone answers behind a list that blocks the name of the query.
+fn of_blocked(alloc: Global) -> Result<Outcome, Fault> {
+    let origin = origin(alloc)?;
+    let list = blocking(alloc, origin.clone()?, "www.example.com\n")?;
+    let zone = closed_zone(alloc, &origin, ZONE)?;
+    let chain = chain_of(alloc, list, zone)?;
+    serve_chain(
+        alloc,
+        NoKeys,
+        LowerName::new(alloc, &origin)?,
+        chain,
         query(alloc)?,
     )
 }
@@ -244,13 +274,14 @@ fn lines(alloc: Global) -> Result<String, Fault> {
     let zone_file = line(alloc, "zone file", &of_zone_file(alloc)?)?;
     let parked = line(alloc, "parked", &of_parked(alloc)?)?;
     let silent = line(alloc, "silent", &of_silent(alloc)?)?;
+    let blocked = line(alloc, "blocked", &of_blocked(alloc)?)?;
     let sizes = reply_sizes(alloc)?;
     let size = sizes.as_slice().first().copied().unwrap_or(0);
     let serial = changed(alloc)?;
     let is_dropped = drops_replies(alloc)?;
     let updates = update_lines(alloc)?;
     Ok(format!(in alloc;
-        "{zone_file}\n{parked}\n{silent}\nsizes: {size}\nserial: {serial}\ndropped: {is_dropped}\n{updates}"
+        "{zone_file}\n{parked}\n{silent}\n{blocked}\nsizes: {size}\nserial: {serial}\ndropped: {is_dropped}\n{updates}"
     )?)
 }
 

@@ -12,18 +12,16 @@ use hickory_server::server::serve::{Incoming, Outcome, ServeError, serve};
 use hickory_server::zone_handler::{Catalog, ReplySigner, ZoneHandler};
 use std::alloc::{AllocError, Global};
 
-/// What becomes of a message at a server of one zone, which everybody may ask.
-pub fn serve_zone<S: ReplySigner, H: ZoneHandler>(
+/// What becomes of a message at a server of one zone, by the zone's handlers, which everybody may ask.
+pub fn serve_chain<S: ReplySigner, H: ZoneHandler>(
     alloc: Global,
     signer: S,
-    origin: LowerName,
-    zone: H,
+    apex: LowerName,
+    chain: Vec<H>,
     message: Incoming,
 ) -> Result<Outcome, Fault> {
-    let mut chain = Vec::new(alloc);
-    chain.push(zone)?;
     let mut catalog = Catalog::new(alloc, signer);
-    if catalog.upsert(origin, chain).is_err() {
+    if catalog.upsert(apex, chain).is_err() {
         return Err(Fault::Memory(AllocError));
     }
     Ok(serve(alloc, &AccessControl::new(alloc), &mut catalog, message)?)
