@@ -1,6 +1,6 @@
 //! A zone from the text of its file.
 
-ghost use Rattle.std.specs.Prelude.IfOk;
+ghost use Rattle.std.specs.Prelude.{IfOk};
 ghost use Rattle.hickory_base.specs.declared.zone_store.handler.AxfrPolicy.TheVariants.{Deny};
 ghost use Rattle.hickory_base.specs.declared.zone_store.handler.ZoneType.TheVariants.{Primary};
 ghost use Rattle.hickory_server.specs.ZoneOfText.{IsZoneOfText};

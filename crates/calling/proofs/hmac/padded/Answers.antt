@@ -1,4 +1,4 @@
-use Rattle.std.proofs.Common.{rules, ◌≡◌, ◌<◌, ◌≤◌, length, List, ℕ, get_or, bit_xor, arith}
+use Rattle.std.proofs.Common.{rules, ◌≡◌, ◌<◌, length, get_or, bit_xor}
 use Rattle.std.proofs.lemmas.List.Edits.{map_over_more}
 use Rattle.calling.proofs.hmac.padded.Goals as goal
 

@@ -1,5 +1,5 @@
 -- The octets before the place are done.
-use Rattle.std.proofs.Common.{◌≡◌, ◌++◌, length, take, drop}
+use Rattle.std.proofs.Common.{◌≡◌, ◌++◌, take, drop}
 use Rattle.calling.specs.Hmac.{padded}
 use Rattle.calling.proofs.hmac.padded.Given as goal
 

@@ -1,5 +1,4 @@
-use Rattle.std.proofs.Common.{◌≡◌, ◌≤◌, length, ap, arith}
-use Rattle.wire_names.specs.rr.domain.DomainName.{AreLabels, wire_form}
+use Rattle.std.proofs.Common.{length, ap, arith}
 use Rattle.wire_names.proofs.lemmas.rr.domain.WireForm.{name_len-wire_form}
 use Rattle.calling.proofs.keys.OneKey.record_len.Goals as goal
 

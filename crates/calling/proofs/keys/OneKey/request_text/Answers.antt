@@ -1,4 +1,4 @@
-use Rattle.std.proofs.Common.{◌≡◌, ◌-◌, ◌++◌, length, slice_range, ap, ◌∙◌, List, ℕ}
+use Rattle.std.proofs.Common.{◌-◌, ◌++◌, length, slice_range, ap, ◌∙◌, List, ℕ}
 use Rattle.calling.specs.Signatures.{fields, unsigned, variables}
 use Rattle.calling.proofs.keys.OneKey.request_text.Goals as goal
 

@@ -1,4 +1,4 @@
-use Rattle.std.proofs.Common.{rules, ◌≡◌, ◌∙◌, ◌+◌, ap, sym, length, nat_lt, cond, Bool, true, false, Option, Some, None, ℕ}
+use Rattle.std.proofs.Common.{rules, ◌≡◌, ◌∙◌, ◌+◌, ap, sym, length, nat_lt, cond, Bool, true, false, Some, None, ℕ}
 use Rattle.std.specs.declared.ops.Range.{Range}
 use Rattle.calling.specs.Signatures.{fields, is_signed, record_len, times_of}
 use Rattle.calling.proofs.keys.OneKeyVerifier.verify.Goals as goal
