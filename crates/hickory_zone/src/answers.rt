@@ -10,11 +10,13 @@ ghost use Rattle.std.specs.List.{AllByRecursion};
 ghost use Rattle.hickory_base.specs.zone_store.Lookups.{stored_result};
 ghost use Rattle.hickory_zone.specs.Additionals.{additionals, is_hostless};
 ghost use Rattle.hickory_zone.specs.Chains.{IsIn};
+ghost use Rattle.hickory_zone.specs.Features.{AreFeatures};
 ghost use Rattle.hickory_zone.specs.ChainEnds.{ending_of};
 ghost use Rattle.hickory_zone.specs.Replies.{IsStandard, StandardAnswer, reply_of, zone_of};
 
 use crate::additionals::{append_additionals, is_hostless};
 use crate::chains::{ChainEnd, append_copies, follow};
+use crate::features::Features;
 use crate::find::{Found, look_up};
 use hickory_base::errors::{DnsError, LookupError};
 use hickory_base::zone_store::{
@@ -128,8 +130,10 @@ fn answer_within(
     zone: &InMemoryZoneHandler,
     name: &LowerName,
     record_type: RecordType,
+    has: Features,
 ) -> Result<AuthLookup, LookupError>
     requires owners { AreOwners zone.now.origin zone.now.sets }
+    requires features { AreFeatures (zone_of zone.now) has }
     requires within { IsIn (zone_of zone.now) name.now }
     ensures { IsStandard (zone_of zone.now) name.now record_type result }
 {
@@ -143,6 +147,7 @@ fn answer_within(
         &first,
         record_type,
         MAX_ALIASES,
+        has,
         &mut answers,
     )?;
     reply_of(alloc, sets, answers, end)
@@ -154,14 +159,16 @@ pub fn answer(
     zone: &InMemoryZoneHandler,
     name: &LowerName,
     record_type: RecordType,
+    has: Features,
 ) -> Result<AuthLookup, LookupError>
-    requires { AreOwners zone.now.origin zone.now.sets }
+    requires owners { AreOwners zone.now.origin zone.now.sets }
+    requires features { AreFeatures (zone_of zone.now) has }
     ensures { IsStandard (zone_of zone.now) name.now record_type result }
 {
     if !is_in(zone.origin(), name) {
         return Err(LookupError::ResponseCode(ResponseCode::REFUSED));
     }
-    answer_within(alloc, zone, name, record_type)
+    answer_within(alloc, zone, name, record_type, has)
 }
 
 /// Whether none of the records names a host.
@@ -178,15 +185,17 @@ pub fn stored<'z>(
     zone: &'z InMemoryZoneHandler,
     first: &RrKey,
     record_type: RecordType,
+    has: Features,
 ) -> Option<StoredAnswer<'z>>
     requires least { first.now.record_type ≡ 0 }
     requires owners { AreOwners zone.now.origin zone.now.sets }
+    requires features { AreFeatures (zone_of zone.now) has }
     ensures { IfSome result (λ answer. StandardAnswer (zone_of zone.now) first.now.name record_type (stored_result answer)) }
 {
     if !is_in(zone.origin(), &first.name) {
         return None;
     }
-    stored_within(alloc, zone, first, record_type)
+    stored_within(alloc, zone, first, record_type, has)
 }
 
 /// The same of a name in the zone.
@@ -195,13 +204,22 @@ fn stored_within<'z>(
     zone: &'z InMemoryZoneHandler,
     first: &RrKey,
     record_type: RecordType,
+    has: Features,
 ) -> Option<StoredAnswer<'z>>
     requires least { first.now.record_type ≡ 0 }
     requires owners { AreOwners zone.now.origin zone.now.sets }
+    requires features { AreFeatures (zone_of zone.now) has }
     requires within { IsIn (zone_of zone.now) first.now.name }
     ensures { IfSome result (λ answer. StandardAnswer (zone_of zone.now) first.now.name record_type (stored_result answer)) }
 {
-    match look_up(alloc, zone.origin(), zone.records(), first, record_type) {
+    match look_up(
+        alloc,
+        zone.origin(),
+        zone.records(),
+        first,
+        record_type,
+        has,
+    ) {
         Ok(Found::Answer(records)) => {
             if are_hostless(records) {
                 Some(StoredAnswer::Records(records))

@@ -8,6 +8,7 @@ ghost use Rattle.hickory_zone.specs.Zones.{AreOwners};
 ghost use Rattle.hickory_zone.specs.Replies.{StandardLookedUp, StandardSearched};
 
 use crate::answers::{answer, are_owners, stored};
+use crate::features::{Features, features_of};
 use hickory_base::errors::{LookupError, UpdateFault};
 use hickory_base::server::{Request, RequestInfo};
 use hickory_base::zone_store::{
@@ -23,6 +24,8 @@ use std::marker::Model;
 pub struct AuthoritativeZone {
     alloc: Global,
     zone: InMemoryZoneHandler,
+    // What the zone has at all.
+    has: Features,
 }
 
 impl Model for AuthoritativeZone {
@@ -30,11 +33,13 @@ impl Model for AuthoritativeZone {
 
     ghost Value = { MemoryZone };
 
+    ghost use Rattle.hickory_zone.specs.Features.{AreFeatures};
+    ghost use Rattle.hickory_zone.specs.Replies.{zone_of};
     ghost use Rattle.hickory_zone.specs.Zones.{AreOwners};
 
     ghost view = { λ z. z.zone };
 
-    ghost invariant = { λ z. AreOwners z.zone.origin z.zone.sets };
+    ghost invariant = { λ z. AreOwners z.zone.origin z.zone.sets × AreFeatures (zone_of z.zone) z.has };
 }
 
 impl AuthoritativeZone {
@@ -50,7 +55,8 @@ impl AuthoritativeZone {
         requires { AreOwners zone.origin zone.sets }
         ensures { result ≡ zone }
     {
-        AuthoritativeZone { alloc, zone }
+        let has = features_of(zone.origin(), zone.records());
+        AuthoritativeZone { alloc, zone, has }
     }
 }
 
@@ -107,7 +113,7 @@ impl ZoneHandler for AuthoritativeZone {
         _info: Option<&RequestInfo<'_>>,
         _options: LookupOptions,
     ) -> LookupControlFlow<AuthLookup> {
-        LookupControlFlow::Continue(answer(alloc, &self.zone, name, record_type))
+        LookupControlFlow::Continue(answer(alloc, &self.zone, name, record_type, self.has))
     }
 
     fn search(
@@ -126,6 +132,7 @@ impl ZoneHandler for AuthoritativeZone {
                 &self.zone,
                 query.name(),
                 query.query_type(),
+                self.has,
             )),
             None,
         )
@@ -142,6 +149,7 @@ impl ZoneHandler for AuthoritativeZone {
                 &self.zone,
                 info.query.first_key(),
                 info.query.query_type(),
+                self.has,
             ),
             Err(_) => None,
         }

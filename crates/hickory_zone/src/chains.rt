@@ -9,10 +9,12 @@ ghost use Rattle.wire_names.specs.rr.domain.NameOrder.{Encloses, lower_name};
 ghost use Rattle.hickory_zone.specs.Zones.{AreOwners, Sets, owned_by};
 ghost use Rattle.wire_names.specs.rr.domain.DomainName.{DomainName};
 ghost use Rattle.hickory_zone.specs.Chains.{IsIn, canonical, is_cname, owns_cname};
+ghost use Rattle.hickory_zone.specs.Features.{AreFeatures};
 ghost use Rattle.hickory_zone.specs.ChainEnds.{Chased, IsAllPut, Linked, ending_of};
 ghost use Rattle.hickory_zone.specs.declared.chains.ChainEnd.TheVariants.{Answered, Without};
 ghost use Rattle.hickory_zone.specs.declared.chains.Link.TheVariants.{End};
 
+use crate::features::Features;
 use crate::find::{Found, look_up};
 use crate::redirections::append_redirection;
 use hickory_base::zone_store::RecordSet;
@@ -160,15 +162,17 @@ fn append_link<'z>(
     sets: &'z BTreeMap<RrKey, Rc<RecordSet>>,
     first: &RrKey,
     record_type: RecordType,
+    has: Features,
     answers: &mut Vec<Record>,
 ) -> Result<Link<'z>, AllocError>
     requires least { first.now.record_type ≡ 0 }
     requires qualified { first.now.name.is_fqdn ≡ true }
     requires owners { AreOwners origin.now (sets_of sets.now) }
     requires within { Encloses origin.now.labels first.now.name.labels }
+    requires features { AreFeatures (record { origin = origin.now; sets = sets_of sets.now }) has }
     ensures { IfOk result (Linked (record { origin = origin.now; sets = sets_of sets.now }) record_type first.now.name answers.old.items answers.new.items) }
 {
-    match look_up(alloc, origin, sets, first, record_type)? {
+    match look_up(alloc, origin, sets, first, record_type, has)? {
         Found::Answer(records) => {
             append_copies(answers, records)?;
             Ok(Link::End(ChainEnd::Answered))
@@ -240,15 +244,17 @@ pub fn follow<'z>(
     first: &RrKey,
     record_type: RecordType,
     left: u8,
+    has: Features,
     answers: &mut Vec<Record>,
 ) -> Result<ChainEnd<'z>, AllocError>
     requires least { first.now.record_type ≡ 0 }
     requires qualified { first.now.name.is_fqdn ≡ true }
     requires owners { AreOwners origin.now (sets_of sets.now) }
     requires within { Encloses origin.now.labels first.now.name.labels }
+    requires features { AreFeatures (record { origin = origin.now; sets = sets_of sets.now }) has }
     ensures { IfOk result (λ end. Chased (record { origin = origin.now; sets = sets_of sets.now }) record_type left first.now.name answers.old.items answers.new.items (ending_of end)) }
 {
-    let to = match append_link(alloc, origin, sets, first, record_type, answers)? {
+    let to = match append_link(alloc, origin, sets, first, record_type, has, answers)? {
         Link::End(end) => return Ok(end),
         Link::Leads(to) => to,
     };
@@ -262,5 +268,14 @@ pub fn follow<'z>(
         return Ok(ChainEnd::LeftOpen);
     }
     let next = RrKey::new(name, RecordType::new(0));
-    follow(alloc, origin, sets, &next, record_type, left - 1, answers)
+    follow(
+        alloc,
+        origin,
+        sets,
+        &next,
+        record_type,
+        left - 1,
+        has,
+        answers,
+    )
 }

@@ -5,7 +5,8 @@ ghost use Rattle.std.specs.Bool.{OnTrue};
 ghost use Rattle.std.specs.Option.{option_copied};
 ghost use Rattle.hickory_base.specs.zone_store.ZoneAnswers.{records_at};
 ghost use Rattle.hickory_base.specs.zone_store.ZoneSets.{has_name, sets_of};
-ghost use Rattle.hickory_zone.specs.Zones.{AreOwners, Answers, AnswersDirectly, Exists, Sets, any_of, ancestor, at_node, Zone, of_sets, rrset, synthesized, type_any, type_cname, type_ds, type_ns};
+ghost use Rattle.hickory_zone.specs.Zones.{AreOwners, Answers, AnswersDirectly, Exists, Sets, any_of, ancestor, at_node, Zone, of_sets, rrset, synthesized, type_any, type_cname, type_ds, type_ns, wildcard};
+ghost use Rattle.hickory_zone.specs.Features.{AreFeatures};
 ghost use Rattle.hickory_zone.specs.FoundRecords.{first_or};
 ghost use Rattle.hickory_zone.specs.KeysBeside.{SharedMap, StandsBehind};
 ghost use Rattle.std.specs.Option.{unwrap_or};
@@ -13,6 +14,7 @@ ghost use Rattle.wire_names.specs.rr.domain.DomainName.{DomainName};
 ghost use Rattle.hickory_zone.specs.FoundRecords.{CutAt, WildFound, outcome_of, IsAbove, IsEncloser, Tells};
 ghost use Rattle.wire_names.specs.rr.domain.NameOrder.{Encloses};
 
+use crate::features::Features;
 use crate::redirections::{Redirection, redirection_of, top_dname};
 use crate::wildcards::wildcard_below;
 use hickory_base::zone_store::RecordSet;
@@ -192,10 +194,15 @@ fn highest_cut<'z>(
     sets: &'z BTreeMap<RrKey, Rc<RecordSet>>,
     origin: &LowerName,
     name: LowerName,
+    has: Features,
 ) -> Option<Delegation<'z>>
-    requires { Encloses origin.now.labels name.labels }
+    requires within { Encloses origin.now.labels name.labels }
+    requires features { AreFeatures (record { origin = origin.now; sets = sets_of sets.now }) has }
     ensures { CutAt (record { origin = origin.now; sets = sets_of sets.now }) name result }
 {
+    if !has.cuts {
+        return None;
+    }
     let mut key = RrKey::new(name, RecordType::NS);
     let mut highest = None;
     let mut is_at_name = true;
@@ -218,17 +225,22 @@ fn cut_at<'z>(
     origin: &LowerName,
     name: &LowerName,
     servers: Option<&'z [Record]>,
+    has: Features,
 ) -> Result<Option<Delegation<'z>>, AllocError>
     requires within { Encloses origin.now.labels name.now.labels }
     requires servers { option_copied servers ≡ rrset (sets_of sets.now) name.now type_ns }
+    requires features { AreFeatures (record { origin = origin.now; sets = sets_of sets.now }) has }
     ensures { IfOk result (CutAt (record { origin = origin.now; sets = sets_of sets.now }) name.now) }
 {
+    if !has.cuts {
+        return Ok(None);
+    }
     if name.zone_of(origin) {
         return Ok(None);
     }
     let mut parent = name.clone()?;
     parent.remove_first_label();
-    if let Some(cut) = highest_cut(sets, origin, parent) {
+    if let Some(cut) = highest_cut(sets, origin, parent, has) {
         return Ok(Some(Delegation {
             servers: cut.servers,
             is_at_name: false,
@@ -382,10 +394,15 @@ fn find_wild<'z>(
     sets: &'z BTreeMap<RrKey, Rc<RecordSet>>,
     encloser: &LowerName,
     record_type: RecordType,
+    has: Features,
 ) -> Result<Found<'z>, AllocError>
-    requires { encloser.now.is_fqdn ≡ true }
+    requires qualified { encloser.now.is_fqdn ≡ true }
+    requires features { has.wildcards ≡ false → ¬ (Exists (sets_of sets.now) (wildcard encloser.now)) }
     ensures { (origin : DomainName) → AreOwners origin (sets_of sets.now) → IfOk result (WildFound (sets_of sets.now) encloser.now record_type) }
 {
+    if !has.wildcards {
+        return Ok(Found::NoName);
+    }
     let Some(source) = wildcard_below(alloc, encloser)? else {
         return Ok(Found::NoName);
     };
@@ -406,6 +423,7 @@ fn look_above<'z>(
     first: &RrKey,
     record_type: RecordType,
     behind: Option<&'z RrKey>,
+    has: Features,
 ) -> Result<Found<'z>, AllocError>
     requires least { first.now.record_type ≡ 0 }
     requires qualified { first.now.name.is_fqdn ≡ true }
@@ -413,18 +431,19 @@ fn look_above<'z>(
     requires within { Encloses origin.now.labels first.now.name.labels }
     requires behind { StandsBehind sets.now first.now (option_copied behind) }
     requires missing { ¬ (Exists (sets_of sets.now) first.now.name) }
+    requires features { AreFeatures (record { origin = origin.now; sets = sets_of sets.now }) has }
     ensures { IfOk result (λ found. Answers (record { origin = origin.now; sets = sets_of sets.now }) first.now.name record_type (outcome_of (sets_of sets.now) first.now.name found)) }
 {
     let Some(encloser) = closest_encloser(sets, first, behind)? else {
         return Ok(Found::NoName);
     };
-    if let Some(by) = top_dname(sets, origin, encloser.clone()?) {
+    if let Some(by) = top_dname(sets, origin, encloser.clone()?, has) {
         return Ok(Found::Redirected(by));
     }
-    if let Some(cut) = highest_cut(sets, origin, encloser.clone()?) {
+    if let Some(cut) = highest_cut(sets, origin, encloser.clone()?, has) {
         return Ok(Found::Referral(cut.servers));
     }
-    find_wild(alloc, sets, &encloser, record_type)
+    find_wild(alloc, sets, &encloser, record_type, has)
 }
 
 /// What the zone has for a name in it that exists and owns this.
@@ -434,18 +453,20 @@ fn look_at<'z>(
     name: &LowerName,
     record_type: RecordType,
     node: Node<'z>,
+    has: Features,
 ) -> Result<Found<'z>, AllocError>
     requires within { Encloses origin.now.labels name.now.labels }
     requires exists { Exists (sets_of sets.now) name.now }
     requires wanted { option_copied node.wanted ≡ rrset (sets_of sets.now) name.now record_type }
     requires alias { option_copied node.alias ≡ rrset (sets_of sets.now) name.now type_cname }
     requires servers { option_copied node.servers ≡ rrset (sets_of sets.now) name.now type_ns }
+    requires features { AreFeatures (record { origin = origin.now; sets = sets_of sets.now }) has }
     ensures { IfOk result (λ found. Answers (record { origin = origin.now; sets = sets_of sets.now }) name.now record_type (outcome_of (sets_of sets.now) name.now found)) }
 {
-    if let Some(by) = redirection_of(sets, origin, name)? {
+    if let Some(by) = redirection_of(sets, origin, name, has)? {
         return Ok(Found::Redirected(by));
     }
-    let cut = cut_at(sets, origin, name, node.servers)?;
+    let cut = cut_at(sets, origin, name, node.servers, has)?;
     Ok(find_existing(node, record_type, cut))
 }
 
@@ -456,17 +477,19 @@ pub fn look_up<'z>(
     sets: &'z BTreeMap<RrKey, Rc<RecordSet>>,
     first: &RrKey,
     record_type: RecordType,
+    has: Features,
 ) -> Result<Found<'z>, AllocError>
     requires least { first.now.record_type ≡ 0 }
     requires qualified { first.now.name.is_fqdn ≡ true }
     requires owners { AreOwners origin.now (sets_of sets.now) }
     requires within { Encloses origin.now.labels first.now.name.labels }
+    requires features { AreFeatures (record { origin = origin.now; sets = sets_of sets.now }) has }
     ensures { IfOk result (λ found. Answers (record { origin = origin.now; sets = sets_of sets.now }) first.now.name record_type (outcome_of (sets_of sets.now) first.now.name found)) }
 {
     let node = node_at(sets, first, record_type);
     if is_above(&first.name, node.behind) {
-        look_at(origin, sets, &first.name, record_type, node)
+        look_at(origin, sets, &first.name, record_type, node, has)
     } else {
-        look_above(alloc, origin, sets, first, record_type, node.behind)
+        look_above(alloc, origin, sets, first, record_type, node.behind, has)
     }
 }

@@ -5,6 +5,7 @@ ghost use Rattle.wire_names.specs.rr.domain.DomainName.{label_offset};
 ghost use Rattle.wire_names.specs.rr.domain.NameOrder.{Encloses};
 ghost use Rattle.hickory_base.specs.zone_store.ZoneRecords.{is_at};
 ghost use Rattle.hickory_base.specs.zone_store.ZoneSets.{sets_of};
+ghost use Rattle.hickory_zone.specs.Features.{AreFeatures};
 ghost use Rattle.hickory_zone.specs.FoundRecords.{RedirectedAt, TopDname, higher};
 ghost use Rattle.hickory_zone.specs.Redirections.{cname_for, is_too_long, substitute, target_in, whole_name};
 ghost use Rattle.hickory_zone.specs.Chains.{by_cname, is_dname, once, owns_dname, redirect, redirect_to};
@@ -12,6 +13,7 @@ ghost use Rattle.hickory_zone.specs.ChainEnds.{IsStep};
 
 use crate::additionals::is_memory;
 use crate::chains::{ChainEnd, Link, append_copies};
+use crate::features::Features;
 use crate::find::set_under;
 use hickory_base::zone_store::RecordSet;
 use hickory_wire::{BinDecoder, Labels, LowerName, Name, RData, Record, RecordType, RrKey};
@@ -20,7 +22,7 @@ use std::collections::BTreeMap;
 use std::rc::Rc;
 
 /// The type of what redirects the names below its owner (RFC 6672 section 2.1).
-const DNAME: u16 = 39;
+pub(crate) const DNAME: u16 = 39;
 
 /// DNAME records that redirect names below their owner.
 #[derive(Clone, Copy)]
@@ -85,10 +87,15 @@ pub(crate) fn top_dname<'z>(
     sets: &'z BTreeMap<RrKey, Rc<RecordSet>>,
     origin: &LowerName,
     name: LowerName,
+    has: Features,
 ) -> Option<Redirection<'z>>
-    requires { Encloses origin.now.labels name.labels }
+    requires within { Encloses origin.now.labels name.labels }
+    requires features { AreFeatures (record { origin = origin.now; sets = sets_of sets.now }) has }
     ensures { TopDname (record { origin = origin.now; sets = sets_of sets.now }) name result }
 {
+    if !has.dnames {
+        return None;
+    }
     let mut key = RrKey::new(name, RecordType::NS);
     let mut highest = None;
     while !key.name.zone_of(origin) {
@@ -107,16 +114,21 @@ pub(crate) fn redirection_of<'z>(
     sets: &'z BTreeMap<RrKey, Rc<RecordSet>>,
     origin: &LowerName,
     name: &LowerName,
+    has: Features,
 ) -> Result<Option<Redirection<'z>>, AllocError>
-    requires { Encloses origin.now.labels name.now.labels }
+    requires within { Encloses origin.now.labels name.now.labels }
+    requires features { AreFeatures (record { origin = origin.now; sets = sets_of sets.now }) has }
     ensures { IfOk result (RedirectedAt (record { origin = origin.now; sets = sets_of sets.now }) name.now) }
 {
+    if !has.dnames {
+        return Ok(None);
+    }
     if name.zone_of(origin) {
         return Ok(None);
     }
     let mut parent = name.clone()?;
     parent.remove_first_label();
-    Ok(top_dname(sets, origin, parent))
+    Ok(top_dname(sets, origin, parent, has))
 }
 
 /// The name that these octets are, if they are one and nothing more.

@@ -2,6 +2,7 @@
 pub mod Beside
 pub mod Cuts
 pub mod Every
+pub mod Features
 pub mod Nodes
 pub mod Outcomes
 pub mod Owners

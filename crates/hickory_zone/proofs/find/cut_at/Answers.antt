@@ -8,8 +8,8 @@ use Rattle.hickory_zone.specs.FoundRecords.{CutAt, EndsAt}
 use Rattle.hickory_zone.specs.Zones.{IsAuthoritativeAt, Zone, ancestor}
 use Rattle.hickory_zone.proofs.find.cut_at.Goals as goal
 
-pub highest_cut-requires : goal.highest_cut-requires
-highest_cut-requires c =
+pub highest_cut-requires-clause-within : goal.highest_cut-requires-clause-within
+highest_cut-requires-clause-within c =
     let f : c.zone_of.result ≡ false = c.if-zone_of.false in
     let above : c.remove_first_label.new.self ≡ ancestor c.args.name.now 1 = c.remove_first_label.ensures ∙ ap (λ d. ancestor d 1) c.in_ok-parent.ensures.cases in
     subst (λ d. Encloses c.args.origin.now.labels d.labels) (sym above)

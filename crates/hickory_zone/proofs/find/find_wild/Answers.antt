@@ -14,7 +14,7 @@ pub returns-then-is_above : goal.returns-then-is_above
 returns-then-is_above c =
     let is : c.new-first.result.name ≡ wildcard c.args.encloser.now = ap (λ k. k.name) c.new-first.ensures ∙ (rw c.in-Some.is at c.in_ok-source.ensures) in
     let least : c.new-first.result.record_type ≡ 0 = ap (λ k. k.record_type) c.new-first.ensures ∙ c.new.ensures in
-    stands c.args.sets.now c.args.encloser.now c.args.record_type c.new-first.result (option_copied c.node_at-node.result.behind) is least c.requires c.node_at-node.ensures.behind c.find_at_wildcard.result
+    stands c.args.sets.now c.args.encloser.now c.args.record_type c.new-first.result (option_copied c.node_at-node.result.behind) is least c.requires.qualified c.node_at-node.ensures.behind c.find_at_wildcard.result
     (c.is_above.ensures.0 c.if-is_above.true) (c.find_at_wildcard.ensures c.args.sets.now c.node_at-node.ensures.behind c.node_at-node.ensures.wanted c.node_at-node.ensures.alias)
 
 pub returns : goal.returns
@@ -22,5 +22,5 @@ returns c =
     let is : c.new-first.result.name ≡ wildcard c.args.encloser.now = ap (λ k. k.name) c.new-first.ensures ∙ (rw c.in-Some.is at c.in_ok-source.ensures) in
     let least : c.new-first.result.record_type ≡ 0 = ap (λ k. k.record_type) c.new-first.ensures ∙ c.new.ensures in
     let f : c.is_above.result ≡ false = c.if-is_above.false in
-    none_stands c.args.sets.now c.args.encloser.now c.args.record_type c.new-first.result (option_copied c.node_at-node.result.behind) is least c.requires c.node_at-node.ensures.behind
+    none_stands c.args.sets.now c.args.encloser.now c.args.record_type c.new-first.result (option_copied c.node_at-node.result.behind) is least c.requires.qualified c.node_at-node.ensures.behind
     (λ a. false≢true (sym f ∙ c.is_above.ensures.1 a))

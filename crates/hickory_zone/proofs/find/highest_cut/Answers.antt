@@ -26,7 +26,7 @@ loop-key-preserved c =
     let e : c.zone_of.result ≡ false = c.loop-key-test.true in
     let apart : ¬ (Encloses c.loop-key.key.name.labels zone.origin.labels) = λ x. false≢true (sym e ∙ c.zone_of.ensures.1 x) in
     let next : CutSoFar zone name (i.0 + 1) c.match-set_under.highest = elim c.match-set_under.branch [
-      | in-Some w ↦ subst (CutSoFar zone name (i.0 + 1)) (sym w.highest-is) (step_cut zone name i.0 c.loop-key.key w.in-Some.servers c.loop-key.is_at_name i.1 c.requires apart (ap option_copied (sym w.in-Some.is) ∙ c.set_under.ensures) i.3)
+      | in-Some w ↦ subst (CutSoFar zone name (i.0 + 1)) (sym w.highest-is) (step_cut zone name i.0 c.loop-key.key w.in-Some.servers c.loop-key.is_at_name i.1 c.requires.within apart (ap option_copied (sym w.in-Some.is) ∙ c.set_under.ensures) i.3)
       | in_default w ↦ subst (CutSoFar zone name (i.0 + 1)) (sym w.highest-is) (step_none zone name i.0 c.loop-key.key c.loop-key.highest i.1 (ap option_copied (sym w.in_default.is) ∙ c.set_under.ensures) i.2)
     ] in
     let off : c.remove_first_label.new.self ≡ ancestor name (i.0 + 1) = c.remove_first_label.ensures ∙ ap (λ k. ancestor k.name 1) i.1 ∙ ancestor-ancestor name 1 i.0 in

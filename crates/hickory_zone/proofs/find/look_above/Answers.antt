@@ -13,8 +13,8 @@ returns-in_default c =
     let found = c.in_ok-encloser.ensures c.args.origin.now c.requires.owners in
     direct (nothing_redirects zone c.args.first.now.name (rw c.in_default.is at found)) (nothing zone c.args.first.now.name c.args.record_type (rw c.in_default.is at found))
 
-pub top_dname-requires : goal.top_dname-requires
-top_dname-requires c =
+pub top_dname-requires-clause-within : goal.top_dname-requires-clause-within
+top_dname-requires-clause-within c =
     let zone : Zone = record { origin = c.args.origin.now; sets = sets_of c.args.sets.now } in
     let found = c.in_ok-encloser.ensures c.args.origin.now c.requires.owners in
     let e : IsEncloser zone.sets c.args.first.now.name c.in-Some.encloser = rw c.in-Some.is at found in
@@ -29,8 +29,8 @@ returns-in-Some-top_dname c =
     as_redirected zone c.args.first.now.name c.args.record_type c.top_dname.result c.in-Some-top_dname.by c.in-Some-top_dname.is
     (from_encloser zone c.args.first.now.name c.in-Some.encloser c.top_dname.result e c.requires.missing top)
 
-pub highest_cut-requires : goal.highest_cut-requires
-highest_cut-requires c =
+pub highest_cut-requires-clause-within : goal.highest_cut-requires-clause-within
+highest_cut-requires-clause-within c =
     let zone : Zone = record { origin = c.args.origin.now; sets = sets_of c.args.sets.now } in
     let found = c.in_ok-encloser.ensures c.args.origin.now c.requires.owners in
     let e : IsEncloser zone.sets c.args.first.now.name c.in-Some.encloser = rw c.in-Some.is at found in

@@ -12,12 +12,12 @@ returns-then-zone_of c =
     let zone : Zone = record { origin = c.args.origin.now; sets = sets_of c.args.sets.now } in
     apex_direct zone c.args.name.now (c.zone_of.ensures.0 c.if-zone_of.true)
 
-pub top_dname-requires : goal.top_dname-requires
-top_dname-requires c =
+pub top_dname-requires-clause-within : goal.top_dname-requires-clause-within
+top_dname-requires-clause-within c =
     let f : c.zone_of.result ≡ false = c.if-zone_of.false in
     let above : c.remove_first_label.new.self ≡ ancestor c.args.name.now 1 = c.remove_first_label.ensures ∙ ap (λ d. ancestor d 1) c.in_ok-parent.ensures.cases in
     subst (λ d. Encloses c.args.origin.now.labels d.labels) (sym above)
-    (parent_within c.args.origin.now.labels c.args.name.now.labels c.requires (λ x. false≢true (sym f ∙ c.zone_of.ensures.1 x)))
+    (parent_within c.args.origin.now.labels c.args.name.now.labels c.requires.within (λ x. false≢true (sym f ∙ c.zone_of.ensures.1 x)))
 
 pub returns : goal.returns
 returns c =
