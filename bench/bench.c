@@ -27,6 +27,7 @@ enum call {
     WRITE_MESSAGE,
     ANSWER_REQUEST,
     ANSWER_TRANSFER,
+    SERVE,
     UPDATE,
     FIND_ZONE,
     ALLOW,
@@ -41,6 +42,7 @@ struct side {
     uint64_t (*write_message)(const uint8_t *, size_t, uint16_t, uint64_t);
     uint64_t (*answer_request)(const uint8_t *, size_t, const uint8_t *, size_t, uint64_t);
     uint64_t (*answer_transfer)(const uint8_t *, size_t, const uint8_t *, size_t, uint64_t);
+    uint64_t (*serve)(const uint8_t *, size_t, const uint8_t *, size_t, uint64_t);
     uint64_t (*update)(const uint8_t *, size_t, const uint8_t *, size_t, uint64_t);
     uint64_t (*find_zone)(const uint8_t *, size_t, const uint8_t *, size_t, uint64_t);
     uint64_t (*allow)(const uint8_t *, size_t, uint32_t, uint64_t);
@@ -50,11 +52,11 @@ struct side {
 
 static const struct side sides[] = {
     {"ours", bench_calls_read_request, bench_calls_read_message, bench_calls_write_message,
-     bench_calls_answer_request, bench_calls_answer_transfer, bench_calls_update, bench_calls_find_zone,
+     bench_calls_answer_request, bench_calls_answer_transfer, bench_calls_serve, bench_calls_update, bench_calls_find_zone,
      bench_calls_allow, bench_calls_read_blocklist, bench_calls_is_blocked},
     {"peer", peer_read_request, peer_read_message, peer_write_message, peer_answer_request, peer_answer_transfer,
-     peer_update, peer_find_zone, NULL, NULL, peer_is_blocked},
-    {"ldns", NULL, ldns_read_message, ldns_write_message, NULL, NULL, NULL, NULL, NULL, NULL, NULL},
+     NULL, peer_update, peer_find_zone, NULL, NULL, peer_is_blocked},
+    {"ldns", NULL, ldns_read_message, ldns_write_message, NULL, NULL, NULL, NULL, NULL, NULL, NULL, NULL},
 };
 
 #define SIDES (sizeof sides / sizeof sides[0])
@@ -92,6 +94,8 @@ static int has_call(const struct side *side, const struct job *job)
     case ANSWER_TRANSFER:
         // The peer looks through all records for each that it takes, and needs minutes for the largest zone.
         return side->answer_transfer != NULL && (job->size < 100000 || strcmp(side->name, "ours") == 0);
+    case SERVE:
+        return side->serve != NULL;
     case UPDATE:
         return side->update != NULL;
     case FIND_ZONE:
@@ -125,6 +129,9 @@ static uint64_t run_or_refuse(const struct side *side, const struct job *job, ui
         break;
     case ANSWER_TRANSFER:
         answer = side->answer_transfer(in->at, in->len, second->at, second->len, rounds);
+        break;
+    case SERVE:
+        answer = side->serve(in->at, in->len, second->at, second->len, rounds);
         break;
     case UPDATE:
         answer = side->update(in->at, in->len, second->at, second->len, rounds);
@@ -400,6 +407,17 @@ static void measure_replies(void)
     measure("whole reply, Refused", 1, ANSWER_REQUEST, zone(1), address_query("www.example.net."), 0);
 }
 
+// Datagrams, as programs serve them, by a zone of 1,004 sets that answers as RFC 1034 says.
+static void measure_served(void)
+{
+    measure("served, an address", 1004, SERVE, standard_zone(), address_query("h500.example.com."), 0);
+    measure("served, an address of 120 labels", 1004, SERVE, standard_zone(), deep_query(), 0);
+    measure("served, no data", 1004, SERVE, standard_zone(), query("h500.example.com.", 28), 0);
+    measure("served, NXDomain", 1004, SERVE, standard_zone(), address_query("none.example.com."), 0);
+    measure("served, a wildcard", 1004, SERVE, standard_zone(), address_query("x.w.example.com."), 0);
+    measure("served, a referral", 1004, SERVE, standard_zone(), address_query("www.c.example.com."), 0);
+}
+
 // An update that adds names and one that deletes them again; the zone is then as before, but for its serial.
 static void measure_zones(void)
 {
@@ -504,6 +522,7 @@ int main(int argc, char **argv)
     word = argc == 3 ? argv[2] : "";
     measure_messages();
     measure_replies();
+    measure_served();
     measure_zones();
     measure_maps();
     measure_blocklist();

@@ -97,13 +97,15 @@ struct bytes edns_query(void)
     return made;
 }
 
-struct bytes address_query(const char *name)
+struct bytes query(const char *name, uint16_t type)
 {
     struct bytes made = {0};
     put_header(&made, 0x0100, 0, 0);
-    put_question(&made, name, TYPE_A);
+    put_question(&made, name, type);
     return made;
 }
+
+struct bytes address_query(const char *name) { return query(name, TYPE_A); }
 
 // 192.0.0.0 and so on.
 static void put_address(struct bytes *to, uint32_t i) { put32(to, 0xc0000000u + i); }
@@ -214,6 +216,69 @@ struct bytes large_zone(uint32_t count)
         free(part.at);
     }
     return made;
+}
+
+// The text of so many labels `a`.
+static char *labels_a(char *text, size_t count)
+{
+    text[0] = '\0';
+    for (size_t i = 0; i < count; i++)
+        memcpy(text + 2 * i, "a.", 3);
+    return text;
+}
+
+// Labels behind one another, the question's name behind them.
+static void put_below(struct bytes *to, const char *labels)
+{
+    while (*labels != '\0') {
+        size_t len = strcspn(labels, ".");
+        put_label(to, labels, len);
+        labels += len + 1;
+    }
+    put_pointer(to, QUESTION);
+}
+
+static void put_address_below(struct bytes *to, const char *labels)
+{
+    put_below(to, labels);
+    put_fields(to, TYPE_A, 4);
+    put_address(to, 0);
+}
+
+// A server of the zone c.example.com., whose label has two bytes.
+static void put_server_of_c(struct bytes *to, const char *label)
+{
+    put_below(to, "c.");
+    put_fields(to, TYPE_NS, 3 + 2 + 2);
+    put_label(to, label, 2);
+    put_label(to, "c", 1);
+    put_pointer(to, QUESTION);
+}
+
+struct bytes standard_zone(void)
+{
+    struct bytes made = large_zone(998), part = {0};
+    char deep[2 * 118 + 1];
+    put_header(&part, 0x8400, 7, 0);
+    put_question(&part, "example.com.", TYPE_AXFR);
+    put_address_below(&part, "ns.");
+    put_address_below(&part, "*.w.");
+    put_server_of_c(&part, "n1");
+    put_server_of_c(&part, "n2");
+    put_address_below(&part, "n1.c.");
+    put_address_below(&part, "n2.c.");
+    put_address_below(&part, labels_a(deep, 118));
+    put16(&made, (uint16_t)part.len);
+    put(&made, part.at, part.len);
+    free(part.at);
+    return made;
+}
+
+struct bytes deep_query(void)
+{
+    char deep[2 * 118 + sizeof "example.com."];
+    strcat(labels_a(deep, 118), "example.com.");
+    return address_query(deep);
 }
 
 struct bytes transfer_query(void)

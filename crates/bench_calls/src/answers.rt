@@ -31,7 +31,7 @@ impl ReplySigner for NoSigner {
 }
 
 /// The catalog with one zone, which this handler answers for.
-fn catalog<H: ZoneHandler>(
+pub(crate) fn catalog<H: ZoneHandler>(
     alloc: Global,
     origin: LowerName,
     handler: H,

@@ -10,6 +10,7 @@ mod answers;
 mod blocklist;
 mod messages;
 mod reply_sizes;
+mod served;
 mod updates;
 mod verifier;
 mod zone;

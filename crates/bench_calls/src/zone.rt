@@ -4,6 +4,7 @@ use crate::verifier::NoKeys;
 use hickory_base::zone_store::{AxfrPolicy, InMemoryZoneHandler, RecordSet, ZoneType};
 use hickory_store::sqlite::SqliteZoneHandler;
 use hickory_wire::{LowerName, Message, Record, RrKey};
+use hickory_zone::AuthoritativeZone;
 use std::alloc::Global;
 use std::collections::BTreeMap;
 use std::rc::Rc;
@@ -155,4 +156,18 @@ pub(crate) fn updatable_zone(
     let (origin, zone) = zone_of(alloc, answers_of(alloc, bytes)?)?;
     let handler = SqliteZoneHandler::new(zone, AxfrPolicy::AllowAll, true, NoKeys);
     Some((origin, handler))
+}
+
+/// A zone that answers as RFC 1034 says, of the answers of messages, each behind its length.
+pub(crate) fn authoritative_zone(
+    alloc: Global,
+    bytes: &[u8],
+) -> Option<(LowerName, AuthoritativeZone)> {
+    let (origin, zone) = zone_of(alloc, answers_of(alloc, bytes)?)?;
+    if !AuthoritativeZone::accepts(&zone) {
+        drop(zone);
+        drop(origin);
+        return None;
+    }
+    Some((origin, AuthoritativeZone::new(alloc, zone)))
 }
