@@ -55,12 +55,13 @@ pub fn named_classes() -> [DNSClass; 5]
     ]
 }
 
-/// The kinds of requests that have names (RFC 1035 section 4.1.1, RFC 1996, RFC 2136 section 1.3, RFC 6895 section 2.2).
-pub fn named_op_codes() -> [OpCode; 4]
-    ensures { result ≡ 0 ∷ 2 ∷ 4 ∷ 5 ∷ [] }
+/// The kinds of requests that have names (RFC 1035 section 4.1.1, RFC 3425, RFC 1996, RFC 2136 section 1.3, RFC 6895 section 2.2).
+pub fn named_op_codes() -> [OpCode; 5]
+    ensures { result ≡ 0 ∷ 1 ∷ 2 ∷ 4 ∷ 5 ∷ [] }
 {
     [
         OpCode::QUERY,
+        OpCode::IQUERY,
         OpCode::STATUS,
         OpCode::NOTIFY,
         OpCode::UPDATE,

@@ -3,3 +3,4 @@ pub mod FullForm
 pub mod QuestionForm
 pub mod RecordSize
 pub mod Reply
+pub mod ReplyRanges

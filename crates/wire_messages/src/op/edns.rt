@@ -5,6 +5,7 @@ ghost use Rattle.std.specs.Cmp.{partial_equiv_from_equiv};
 ghost use Rattle.std.specs.Option.{option_copied};
 ghost use Rattle.wire_messages.specs.op.EdnsSameness.{edns_eq, edns_eq_equiv};
 ghost use Rattle.wire_messages.specs.serialize.layout.HeaderLayout.{flag};
+ghost use Rattle.wire_messages.specs.serialize.writing.ReplyRanges.{IsEdnsInRange};
 
 use crate::rr::dns_class::DNSClass;
 use std::alloc::{AllocError, Global};
@@ -119,14 +120,16 @@ impl Edns {
 
     /// The fifteen flags behind DO, which are kept as they were read. A sender leaves them zero (RFC 6891 section 6.1.4, Z).
     pub fn reserved_flags(&self) -> u16
-        ensures { result ≡ self.now.reserved_flags }
+        ensures value { result ≡ self.now.reserved_flags }
+        ensures in_range { result < 2 ^ 15 }
     {
         self.reserved_flags
     }
 
     /// The TTL field of the OPT record: high code, version, DO, and the flags behind it (RFC 6891 section 6.1.3).
     pub fn ttl(&self) -> u32
-        ensures { result ≡ self.now.rcode_high * 2 ^ 24 + self.now.version * 2 ^ 16 + flag self.now.dnssec_ok 15 + self.now.reserved_flags }
+        ensures fields { result ≡ self.now.rcode_high * 2 ^ 24 + self.now.version * 2 ^ 16 + flag self.now.dnssec_ok 15 + self.now.reserved_flags }
+        ensures in_range { IsEdnsInRange self.now }
     {
         let high = u32::from(self.rcode_high()) * 0x100_0000 + u32::from(self.version()) * 0x1_0000;
         let dnssec_ok = if self.dnssec_ok { 0x8000 } else { 0 };

@@ -23,6 +23,8 @@ impl Model for OpCode {
 impl OpCode {
     /// A standard query (RFC 1035 section 4.1.1).
     pub const QUERY: OpCode = OpCode { value: 0 };
+    /// An inverse query, which is obsolete (RFC 3425 section 3).
+    pub const IQUERY: OpCode = OpCode { value: 1 };
     /// A question about the server's status (RFC 1035 section 4.1.1).
     pub const STATUS: OpCode = OpCode { value: 2 };
     /// A notice that a zone changed (RFC 1996).

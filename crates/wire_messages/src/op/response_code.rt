@@ -75,7 +75,8 @@ impl ResponseCode {
 
     /// The four bits that stand in the header.
     pub fn low(self) -> u8
-        ensures { result ≡ self % 16 }
+        ensures bits { result ≡ self % 16 }
+        ensures in_range { self < 4096 }
     {
         (self.value % 16) as u8
     }

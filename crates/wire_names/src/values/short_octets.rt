@@ -1,8 +1,8 @@
 //! Bytes that are mostly few.
 
-ghost use Rattle.std.specs.Prelude.{◌≡◌, IfOk, OnOk};
+ghost use Rattle.std.specs.Prelude.{◌≡◌, [], IfOk, OnOk};
 
-use crate::rr::domain::wire::Wire;
+use crate::rr::domain::wire::{ShortBytes, Wire};
 use std::alloc::{AllocError, Global};
 use std::marker::Model;
 
@@ -24,6 +24,15 @@ impl Model for ShortOctets {
 }
 
 impl ShortOctets {
+    /// No bytes. It takes no memory.
+    pub fn new() -> Self
+        ensures { result ≡ [] }
+    {
+        ShortOctets {
+            bytes: Wire::Short(ShortBytes::new()),
+        }
+    }
+
     /// A copy of these bytes.
     pub fn from_slice(alloc: Global, bytes: &[u8]) -> Result<Self, AllocError>
         ensures { IfOk result (λ octets. octets ≡ bytes.now) }

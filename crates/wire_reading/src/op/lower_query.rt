@@ -1,6 +1,6 @@
 //! Questions with their names in lower case.
 
-ghost use Rattle.std.specs.Prelude.{◌≡◌, ◌++◌, [], true, IfOk, OnOk};
+ghost use Rattle.std.specs.Prelude.{◌≡◌, ◌++◌, [], true, IfOk, OnErr, OnOk};
 ghost use Rattle.wire_names.specs.rr.domain.NameOrder.{lower_name};
 ghost use Rattle.wire_messages.specs.serialize.reading.Reading.{GivesSeenBy};
 ghost use Rattle.wire_messages.specs.serialize.reading.RecordReading.{question};
@@ -85,14 +85,15 @@ impl LowerQuery {
 
     /// The question at a decoder's place, as `BinDecoder::read_query` has it, in the place of another.
     ///
-    /// After an error nothing is promised of the question.
+    /// After an error it is the root, of no type and no class.
     #[inline(never)]
     pub fn read_in_place(
         &mut self,
         alloc: Global,
         decoder: &mut BinDecoder<'_>,
     ) -> Result<(), DecodeError>
-        ensures { GivesSeenBy (λ _. self.new) result decoder.old decoder.new question }
+        ensures exact { GivesSeenBy (λ _. self.new) result decoder.old decoder.new question }
+        ensures err { OnErr result (self.new ≡ record { name = record { labels = []; is_fqdn = true }; query_type = 0; query_class = 0 }) }
     {
         match read_parts(alloc, decoder, &mut self.original, &mut self.first_key.name) {
             Ok(()) => Ok(()),

@@ -1,5 +1,6 @@
 -- Lemmas of what was written: it stands, keeps the limit and reads back.
 pub mod FiveLists
+pub mod OneRun
 pub mod ReadingBack
 pub mod RepliesEncoded
 pub mod WrittenAdditionals

@@ -166,6 +166,8 @@ body_of bytes = replicate 12 0 ++ drop 12 bytes
 pub www_written : Written 512 www_reply www_reply_in_full (fronts_with (all_of 1) (all_of 0) (all_of 0))
 www_written = record {
   body = body_of www_reply_in_full;
+  limited = omega arith;
+  in_range = record { metadata = record { id = omega arith; op_code = omega arith; response_code = omega arith }; edns = tt };
   fits = omega arith;
   lists = next_list (record { counted = omega arith; puts = (body_of www_reply_in_full, put_answer 512 (header_and_questions www_reply) (omega arith) (omega arith), refl); ends = refl }) (four_empty 512 (body_of www_reply_in_full));
   owners = record { sections = body_of www_reply_in_full; repeating = one_owner (put_answer 512 (header_and_questions www_reply) (omega arith) (omega arith)); last = refl };

@@ -11,7 +11,6 @@ use Rattle.hickory_wire.proofs.worked.worked_decoding.Goals as goal
 
 pub returns-clause-www_decodable : goal.returns-clause-www_decodable
 returns-clause-www_decodable c = record {
-  metadata = record { id = omega arith; op_code = omega arith; response_code = omega arith };
   asked = (
     33,
     record {
@@ -28,13 +27,11 @@ returns-clause-www_decodable c = record {
   authorities = tt;
   soa = tt;
   additionals = tt;
-  edns = tt;
   signature = tt;
 }
 
 pub returns-clause-bad_version_decodable : goal.returns-clause-bad_version_decodable
 returns-clause-bad_version_decodable c = record {
-  metadata = record { id = omega arith; op_code = omega arith; response_code = omega arith };
   asked = refl;
   questions = tt;
   question_count = refl;
@@ -42,7 +39,6 @@ returns-clause-bad_version_decodable c = record {
   authorities = tt;
   soa = tt;
   additionals = tt;
-  edns = record { rcode_high = omega arith; version = omega arith; reserved_flags = omega arith };
   signature = tt;
 }
 

@@ -21,13 +21,12 @@ returns-clause-header_too_large c = too_large (omega arith) refl
 pub returns-clause-formless : goal.returns-clause-formless
 returns-clause-formless c = formless {e = CharacterDataTooLong} (record {
   body = header_and_questions formless_reply ++ a_record;
-  fronts = [];
+  put = fronts_with (all_of 1) (all_of 0) (all_of 0);
   fits = omega arith;
-  lists = stuck_list {count = 1} (record {
+  lists = stuck_list {front = all_of 1} (record {
     counted = omega arith;
     puts = (header_and_questions formless_reply ++ a_record, put_address 512 (header_and_questions formless_reply) (omega arith) (omega arith), refl);
     ends = record { next = too_long_string; rest = []; is = refl; formless = refl };
-  });
-  put = fronts_with (all_of 1) (all_of 0) (all_of 0);
+  }) refl refl;
   owners = record { sections = header_and_questions formless_reply ++ a_record; repeating = one_owner (put_address 512 (header_and_questions formless_reply) (omega arith) (omega arith)); last = refl };
 }) refl

@@ -72,6 +72,8 @@ put_signature = put_root 123 five (tsig_record signature_record) (omega arith) r
 pub returns-clause-in_full : goal.returns-clause-in_full
 returns-clause-in_full c = record {
   body = six;
+  limited = omega arith;
+  in_range = record { metadata = record { id = omega arith; op_code = omega arith; response_code = omega arith }; edns = record { rcode_high = omega arith; version = omega arith; reserved_flags = omega arith } };
   fits = omega arith;
   lists = next_list (record { counted = omega arith; puts = (one, put_answer 123 (omega arith), refl); ends = refl })
       (next_list (record { counted = omega arith; puts = (two, put_server 123 (omega arith), (three, put_authority 123 (omega arith), refl)); ends = refl })
@@ -85,6 +87,8 @@ returns-clause-in_full c = record {
 pub returns-clause-left_out : goal.returns-clause-left_out
 returns-clause-left_out c = record {
   body = four;
+  limited = omega arith;
+  in_range = record { metadata = record { id = omega arith; op_code = omega arith; response_code = omega arith }; edns = record { rcode_high = omega arith; version = omega arith; reserved_flags = omega arith } };
   fits = omega arith;
   lists = next_list (record { counted = omega arith; puts = (one, put_answer 84 (omega arith), refl); ends = refl })
       (next_list (record { counted = omega arith; puts = (two, put_server 84 (omega arith), (three, put_authority 84 (omega arith), refl)); ends = refl })
@@ -98,9 +102,8 @@ returns-clause-left_out c = record {
 pub returns-clause-no_form_first : goal.returns-clause-no_form_first
 returns-clause-no_form_first c = formless {e = CharacterDataTooLong} (record {
   body = header_and_questions formless_and_large;
-  fronts = [];
-  fits = omega arith;
-  lists = stuck_list {count = 0} (record { counted = omega arith; puts = refl; ends = record { next = too_long_string; rest = []; is = refl; formless = refl } });
   put = fronts_with (all_of 0) (all_of 0) (all_of 0);
+  fits = omega arith;
+  lists = stuck_list {front = all_of 0} (record { counted = omega arith; puts = refl; ends = record { next = too_long_string; rest = []; is = refl; formless = refl } }) refl refl;
   owners = record { sections = header_and_questions formless_and_large; repeating = refl; last = refl };
 }) refl

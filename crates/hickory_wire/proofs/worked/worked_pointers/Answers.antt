@@ -38,6 +38,8 @@ mail_put = record {
 pub returns-clause-exchange : goal.returns-clause-exchange
 returns-clause-exchange c = record {
   body = body_of mail_bytes;
+  limited = omega arith;
+  in_range = record { metadata = record { id = omega arith; op_code = omega arith; response_code = omega arith }; edns = tt };
   fits = omega arith;
   lists = next_list (record { counted = omega arith; puts = (body_of mail_bytes, mail_put, refl); ends = refl }) (four_empty 512 (body_of mail_bytes));
   owners = record { sections = body_of mail_bytes; repeating = one_owner mail_put; last = refl };
@@ -70,6 +72,8 @@ returns-clause-behind_a_cut c =
     let size : full_size large_answer ≡ 527 = refl in
     record {
       body = body_of large_bytes;
+      limited = omega arith;
+      in_range = record { metadata = record { id = omega arith; op_code = omega arith; response_code = omega arith }; edns = tt };
       fits = omega arith;
       lists = next_list (record { counted = omega arith; puts = refl; ends = record { next = large_answer; rest = []; is = refl; formed = refl; large = omega (arith, size) } })
           (next_list (no_records 512 start) (next_list (record { counted = omega arith; puts = (body_of large_bytes, address_put, refl); ends = refl })

@@ -19,6 +19,8 @@ returns-clause-in_full c = www_written
 pub returns-clause-just_enough : goal.returns-clause-just_enough
 returns-clause-just_enough c = record {
   body = body_of www_reply_in_full;
+  limited = omega arith;
+  in_range = record { metadata = record { id = omega arith; op_code = omega arith; response_code = omega arith }; edns = tt };
   fits = omega arith;
   lists = next_list (record { counted = omega arith; puts = (body_of www_reply_in_full, put_answer 64 (header_and_questions www_reply) (omega arith) (omega arith), refl); ends = refl }) (four_empty 64 (body_of www_reply_in_full));
   owners = record { sections = body_of www_reply_in_full; repeating = one_owner (put_answer 64 (header_and_questions www_reply) (omega arith) (omega arith)); last = refl };
@@ -49,6 +51,8 @@ answer_compressed = record {
 pub returns-clause-compressed : goal.returns-clause-compressed
 returns-clause-compressed c = record {
   body = body_of www_reply_compressed;
+  limited = omega arith;
+  in_range = record { metadata = record { id = omega arith; op_code = omega arith; response_code = omega arith }; edns = tt };
   fits = omega arith;
   lists = next_list (record { counted = omega arith; puts = (body_of www_reply_compressed, answer_compressed, refl); ends = refl }) (four_empty 512 (body_of www_reply_compressed));
   owners = record { sections = body_of www_reply_compressed; repeating = one_owner answer_compressed; last = refl };
@@ -58,6 +62,8 @@ returns-clause-compressed c = record {
 pub returns-clause-answer_left_out : goal.returns-clause-answer_left_out
 returns-clause-answer_left_out c = record {
   body = header_and_questions www_reply;
+  limited = omega arith;
+  in_range = record { metadata = record { id = omega arith; op_code = omega arith; response_code = omega arith }; edns = tt };
   fits = omega arith;
   lists = next_list (record { counted = omega arith; puts = refl; ends = record { next = www_answer; rest = []; is = refl; formed = refl; large = omega arith } }) (four_empty 63 (header_and_questions www_reply));
   owners = record { sections = header_and_questions www_reply; repeating = refl; last = refl };
@@ -83,6 +89,8 @@ returns-clause-not_left_out c = λ written. let first = first_list written.lists
 pub returns-clause-question_alone : goal.returns-clause-question_alone
 returns-clause-question_alone c = record {
   body = header_and_questions www_reply;
+  limited = omega arith;
+  in_range = record { metadata = record { id = omega arith; op_code = omega arith; response_code = omega arith }; edns = tt };
   fits = omega arith;
   lists = next_list (record { counted = omega arith; puts = refl; ends = record { next = www_answer; rest = []; is = refl; formed = refl; large = omega arith } }) (four_empty 33 (header_and_questions www_reply));
   owners = record { sections = header_and_questions www_reply; repeating = refl; last = refl };
@@ -96,6 +104,8 @@ first_answer = header_and_questions long_reply ++ www_answer_bytes
 pub returns-clause-lists_cut_apart : goal.returns-clause-lists_cut_apart
 returns-clause-lists_cut_apart c = record {
   body = first_answer ++ a_record;
+  limited = omega arith;
+  in_range = record { metadata = record { id = omega arith; op_code = omega arith; response_code = omega arith }; edns = tt };
   fits = omega arith;
   lists = next_list (record { counted = omega arith; puts = (first_answer, put_answer 60 (header_and_questions long_reply) (omega arith) (omega arith), refl); ends = record { next = www_answer; rest = www_answer ∷ []; is = refl; formed = refl; large = omega arith } })
       (next_list (record { counted = omega arith; puts = (first_answer ++ a_record, put_address 60 first_answer (omega arith) (omega arith), refl); ends = refl }) (three_empty 60 (first_answer ++ a_record)));
@@ -110,6 +120,8 @@ thirty_put = (answered_once, put_answer 512 (header_and_questions hundred_answer
 pub returns-clause-hundred_answers : goal.returns-clause-hundred_answers
 returns-clause-hundred_answers c = record {
   body = body_of thirty_answers;
+  limited = omega arith;
+  in_range = record { metadata = record { id = omega arith; op_code = omega arith; response_code = omega arith }; edns = tt };
   fits = omega arith;
   lists = next_list (record { counted = omega arith; puts = all_put 512 [] (replicate 30 www_answer) (header_and_questions hundred_answers) (body_of thirty_answers) thirty_put; ends = record { next = www_answer; rest = replicate 69 www_answer; is = refl; formed = refl; large = omega arith } })
       (four_empty 512 (body_of thirty_answers));
@@ -133,6 +145,8 @@ dnssec_ok_put = record {
 pub returns-clause-dnssec_ok : goal.returns-clause-dnssec_ok
 returns-clause-dnssec_ok c = record {
   body = body_of dnssec_ok_bytes;
+  limited = omega arith;
+  in_range = record { metadata = record { id = omega arith; op_code = omega arith; response_code = omega arith }; edns = record { rcode_high = omega arith; version = omega arith; reserved_flags = omega arith } };
   fits = omega arith;
   lists = next_list (no_records 512 (header_and_questions dnssec_ok_reply)) (next_list (no_records 512 (header_and_questions dnssec_ok_reply)) (next_list (no_records 512 (header_and_questions dnssec_ok_reply))
       (next_list (record { counted = omega arith; puts = (body_of dnssec_ok_bytes, dnssec_ok_put, refl); ends = refl }) (next_list (no_records 512 (body_of dnssec_ok_bytes)) none_left))));
@@ -156,6 +170,8 @@ bad_version_put = record {
 pub returns-clause-bad_version : goal.returns-clause-bad_version
 returns-clause-bad_version c = record {
   body = body_of bad_version_bytes;
+  limited = omega arith;
+  in_range = record { metadata = record { id = omega arith; op_code = omega arith; response_code = omega arith }; edns = record { rcode_high = omega arith; version = omega arith; reserved_flags = omega arith } };
   fits = omega arith;
   lists = next_list (no_records 512 (header_and_questions bad_version_reply)) (next_list (no_records 512 (header_and_questions bad_version_reply)) (next_list (no_records 512 (header_and_questions bad_version_reply))
       (next_list (record { counted = omega arith; puts = (body_of bad_version_bytes, bad_version_put, refl); ends = refl }) (next_list (no_records 512 (body_of bad_version_bytes)) none_left))));
@@ -187,6 +203,8 @@ signature_put = record {
 pub returns-clause-signed : goal.returns-clause-signed
 returns-clause-signed c = record {
   body = body_of signed_bytes;
+  limited = omega arith;
+  in_range = record { metadata = record { id = omega arith; op_code = omega arith; response_code = omega arith }; edns = tt };
   fits = omega arith;
   lists = next_list (no_records 512 (header_and_questions signed_reply)) (next_list (no_records 512 (header_and_questions signed_reply)) (next_list (no_records 512 (header_and_questions signed_reply))
       (next_list (no_records 512 (header_and_questions signed_reply)) (next_list (record { counted = omega arith; puts = (body_of signed_bytes, signature_put, refl); ends = refl }) none_left))));

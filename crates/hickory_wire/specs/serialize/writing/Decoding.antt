@@ -1,14 +1,12 @@
 -- What reading gives of a reply that was written.
-use Rattle.std.specs.Prelude.{◌≡◌, ℕ, zero, suc, ◌%◌, ◌<◌, ◌^◌, List, ◌++◌, length, take, map, ◌||◌, Option, None, option_map, IfSome}
+use Rattle.std.specs.Prelude.{◌≡◌, ℕ, zero, suc, ◌%◌, List, ◌++◌, length, take, map, ◌||◌, Option, None, option_map, IfSome}
 use Rattle.std.specs.List.{AllByRecursion}
-use Rattle.wire_messages.specs.op.EdnsFields.{EdnsFields}
 use Rattle.wire_messages.specs.serialize.layout.MessageLayout.{ItemsAt, IsPlainRecord, high_code, with_high_code}
 use Rattle.wire_messages.specs.serialize.layout.QuestionLayout.{QuestionAt, IsFormedQuestion}
 use Rattle.wire_messages.specs.serialize.layout.FieldRanges.{IsReadAsItsType}
 use Rattle.wire_messages.specs.serialize.layout.NameLayout.{IsFullyQualified}
 use Rattle.wire_messages.specs.serialize.writing.Reply.{Reply}
 use Rattle.wire_writing.specs.serialize.writing.Writing.{Fronts, header_and_questions, is_any_cut}
-use Rattle.wire_messages.specs.declared.op.header.Metadata.{Metadata}
 use Rattle.wire_reading.specs.declared.op.message.Message.{Message}
 use Rattle.wire_messages.specs.declared.op.query.Query.{Query}
 use Rattle.wire_messages.specs.declared.rr.rdata.RData.{RData}
@@ -32,22 +30,10 @@ pub record IsReadableSignature (r : Record TSIG) : Type 0 where
   pub name : IsFullyQualified r.name
   pub algorithm : IsFullyQualified r.rdata.algorithm
 
--- fields that fit the TTL of an OPT record
-pub record IsFormedEdns (e : EdnsFields) : Type 0 where
-  pub rcode_high : e.rcode_high < 2 ^ 8
-  pub version : e.version < 2 ^ 8
-  pub reserved_flags : e.reserved_flags < 2 ^ 15
-
--- id, kind and code within their bits
-pub record IsFormedMetadata (m : Metadata) : Type 0 where
-  pub id : m.id < 2 ^ 16
-  pub op_code : m.op_code < 2 ^ 4
-  pub response_code : m.response_code < 2 ^ 12
-
 -- What is written of the reply reads back: its questions stand behind the header in just the bytes that are repeated, and none of their names leads
--- into the header; each record, where it is written, reads back as itself; no OPT, TSIG or SIG stands in a section.
+-- into the header; each record, where it is written, reads back as itself; no OPT, TSIG or SIG stands in a section. That the numbers of the header
+-- and of EDNS are such as their fields hold is seen to where they are written, too.
 pub record IsDecodable (reply : Reply) (queries : List Query) : Type 0 where
-  pub metadata : IsFormedMetadata reply.metadata
   pub asked : ItemsAt (QuestionAt 12 (header_and_questions reply)) 12 queries (length (header_and_questions reply))
   pub questions : AllByRecursion IsFormedQuestion queries
   pub question_count : reply.question_count ≡ length queries
@@ -55,7 +41,6 @@ pub record IsDecodable (reply : Reply) (queries : List Query) : Type 0 where
   pub authorities : AllByRecursion IsReadable reply.authorities
   pub soa : AllByRecursion IsReadable reply.soa
   pub additionals : AllByRecursion IsReadable reply.additionals
-  pub edns : IfSome reply.edns IsFormedEdns
   pub signature : IfSome reply.signature IsReadableSignature
 
 -- what an option holds, where so much of its list was written

@@ -1,13 +1,13 @@
 -- A reply whose records iterators give.
-use Rattle.std.specs.Prelude.{◌≡◌, ℕ, ◌+◌, ◌<◌, ◌||◌, List, length, Option, None}
+use Rattle.std.specs.Prelude.{◌≡◌, ℕ, ◌+◌, ◌<◌, ◌||◌, List, length, Option}
 use Rattle.std.specs.Borrow.{Bor}
 use Rattle.std.specs.Option.{option_copied}
 use Rattle.hickory_wire.specs.serialize.writing.Decoding.{IsDecodable, decoded_message}
-use Rattle.wire_writing.specs.serialize.writing.Endings.{Front, GivesRecords}
+use Rattle.wire_writing.specs.serialize.writing.Endings.{GivesRecords}
 use Rattle.wire_reading.specs.serialize.layout.WholeMessage.{MessageAt}
 use Rattle.wire_reading.specs.serialize.reading.MessageReading.{Reads}
 use Rattle.wire_messages.specs.serialize.writing.Reply.{Reply, reply_lists}
-use Rattle.wire_writing.specs.serialize.writing.Writing.{ListFront, ListsWritten, OwnersRepeat, Fronts, fronts_list, is_any_cut, Written, GetsStuck, Encoded, written_header}
+use Rattle.wire_writing.specs.serialize.writing.Writing.{ListsWritten, OwnersRepeat, Fronts, fronts_list, is_any_cut, Written, GetsStuck, Encoded, written_header}
 use Rattle.wire_names.specs.declared.error.ProtoError.{ProtoError}
 use Rattle.wire_names.specs.declared.error.ProtoError.TheVariants.{MaxSizeExceeded}
 use Rattle.wire_messages.specs.declared.op.header.Header.{Header}
@@ -46,9 +46,6 @@ pub record GivesLists {A N S D : Type 0} (answers : A → Option (Bor (Record RD
   pub soa_given : GivesRecords soa parts.soa lists.soa
   pub additionals_given : GivesRecords additionals parts.additionals lists.additionals
 
-abbrev pub seen_front : Front → ListFront
-seen_front front = record { count = front.count; is_cut = front.is_cut }
-
 -- What is told of the sections sums up what was written of the five lists.
 pub record SumsUp (s : Sections) (fronts : Fronts) : Type 0 where
   pub answers : s.answers ≡ fronts.answers.count
@@ -66,9 +63,7 @@ header_by metadata question_count s = record {
 -- The lists of the reply are put behind old, and owner names that repeat are pointers. It is told what was written, and the fault, if one was met.
 pub record WritesLists (limit : ℕ) (old : List ℕ) (reply : Reply) (new : List ℕ) (s : Sections) : Type 0 where
   pub fronts : Fronts
-  pub all : List ListFront
-  pub lists : ListsWritten limit (reply_lists reply) old new all s.stops.fault
-  pub unstuck : s.stops.fault ≡ None → all ≡ fronts_list fronts
+  pub lists : ListsWritten limit (reply_lists reply) old new (fronts_list fronts) s.stops.fault
   pub owners : OwnersRepeat limit old reply fronts new
   pub sums : SumsUp s fronts
 

@@ -1,10 +1,12 @@
 //! Whole messages in bytes.
 
-ghost use Rattle.std.specs.Prelude.{◌≡◌, ℕ, ◌+◌, ◌≤◌, ◌<◌, ◌↔◌, ◌≢◌, ◌++◌, [], length, replicate, OnOk, OnErr, IfOk, IfErr, IsTrue};
+ghost use Rattle.std.specs.Prelude.{◌≡◌, ℕ, ◌+◌, ◌≤◌, ◌<◌, ◌↔◌, ◌≢◌, ◌++◌, [], length, replicate, OnOk, OnErr, IfOk, IfErr, IfSome, IsTrue, None};
 ghost use Rattle.std.specs.Iterator.{IsFinite};
+ghost use Rattle.std.specs.Option.{option_copied};
 ghost use Rattle.wire_names.specs.serialize.layout.Bytes.{AreBytes};
 ghost use Rattle.hickory_wire.specs.serialize.writing.Encoder.{written_bytes, max_size, IsSameVector};
 ghost use Rattle.wire_messages.specs.serialize.layout.HeaderLayout.{header_octets};
+ghost use Rattle.wire_messages.specs.serialize.writing.ReplyRanges.{IsEdnsInRange};
 ghost use Rattle.wire_writing.specs.serialize.writing.Writing.{fallback_header};
 ghost use Rattle.hickory_wire.specs.serialize.writing.ReplyParts.{GivesLists, RecordLists, CannotBeWritten, ReplyEncoded, ReplyWritten, WritesLists, header_by, reply_of};
 
@@ -134,6 +136,7 @@ where
         GivesLists A.next_gives N.next_gives S.next_gives D.next_gives parts.entry lists ×
         WritesLists limit bytes.old.items (reply_of parts.entry lists) bytes.new.items sections) }
     ensures header { OnOk result (12 ≤ length bytes.new.items) }
+    ensures in_range { IfOk result (λ sections. sections.stops.fault ≡ None → IfSome (option_copied parts.entry.edns) IsEdnsInRange) }
 {
     let has_records = may_have_records(&parts);
     let ReplyParts {

@@ -73,11 +73,15 @@ pub record Front : Type 0 where
 abbrev pub front_of_ending : ℕ → Ending → Front
 front_of_ending count ending = record { count = count; is_cut = is_cut_by ending; fault = fault_of ending }
 
+-- what of it is told of a list
+abbrev pub seen_front : Front → ListFront
+seen_front front = record { count = front.count; is_cut = front.is_cut }
+
 -- A list is written behind others, of which one may have been stuck; if so, nothing is written any more.
 abbrev pub ListFollows : ℕ → Option ProtoError → List ℕ → List (Record RData) → List ℕ → Front → Type 0
 ListFollows limit fault old records new front = (lists : List (List (Record RData))) (start : List ℕ) (fronts : List ListFront) → ListsWritten limit lists start old fronts fault
-    → (all : List ListFront) × ListsWritten limit (lists ++ records ∷ []) start new all front.fault × (front.fault ≡ None → (fault ≡ None) × (all ≡ fronts ++ record { count = front.count; is_cut = front.is_cut } ∷ []))
+    → ListsWritten limit (lists ++ records ∷ []) start new (fronts ++ seen_front front ∷ []) front.fault
 
--- So many records of a list are written behind others, and how the lists ended is remembered.
+-- So many records of a list are written behind others, and how the lists ended is remembered: none is stuck in the end only where none was before.
 abbrev pub ListAdds : ℕ → Stops → Stops → List ℕ → List (Record RData) → List ℕ → ℕ → Bool → Type 0
-ListAdds limit stops stops' old records new count is_cut = ListFollows limit stops.fault old records new (record { count = count; is_cut = is_cut; fault = stops'.fault }) × (stops'.is_cut ≡ (stops.is_cut || is_cut))
+ListAdds limit stops stops' old records new count is_cut = ListFollows limit stops.fault old records new (record { count = count; is_cut = is_cut; fault = stops'.fault }) × (stops'.is_cut ≡ (stops.is_cut || is_cut)) × (stops'.fault ≡ None → stops.fault ≡ None)

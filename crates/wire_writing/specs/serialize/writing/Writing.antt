@@ -1,6 +1,6 @@
 -- What bytes a reply may be written as under a limit (RFC 1035 sections 4.1.1, 4.1.4 and 4.2.1).
 -- Records are left out one by one, and TC tells of any that were: also of additionals, which RFC 2181 section 9 would let go silently.
-use Rattle.std.specs.Prelude.{◌≡◌, ℕ, ◌+◌, ◌<◌, ◌≤◌, List, [], ◌∷◌, ◌++◌, length, take, drop, replicate, Bool, true, false, ◌||◌, Option, Some, None, option_to_list, option_map}
+use Rattle.std.specs.Prelude.{◌≡◌, ℕ, ◌+◌, ◌<◌, ◌≤◌, ◌^◌, List, [], ◌∷◌, ◌++◌, length, take, drop, replicate, map, Bool, true, false, ◌||◌, Option, Some, None, option_to_list, option_map}
 use Rattle.wire_messages.specs.serialize.writing.FullForm.{EndsInFull}
 use Rattle.wire_messages.specs.serialize.layout.FieldRanges.{IsRecordInRange}
 use Rattle.wire_messages.specs.serialize.layout.HeaderLayout.{header_octets}
@@ -10,6 +10,7 @@ use Rattle.wire_messages.specs.serialize.writing.RecordSize.{full_size, unwritab
 use Rattle.wire_messages.specs.serialize.layout.MessageLayout.{tsig_record}
 use Rattle.wire_writing.specs.serialize.writing.OwnerNames.{OwnerPlace, RepeatsOwner}
 use Rattle.wire_messages.specs.serialize.writing.Reply.{Reply, opt_record, reply_lists}
+use Rattle.wire_messages.specs.serialize.writing.ReplyRanges.{IsReplyInRange}
 use Rattle.wire_names.specs.declared.error.ProtoError.{ProtoError}
 use Rattle.wire_messages.specs.declared.op.header.Header.{Header}
 use Rattle.wire_messages.specs.declared.op.header.Metadata.{Metadata}
@@ -84,14 +85,19 @@ abbrev pub ending_of : Bool → ListEnding
 ending_of true = cut
 ending_of false = whole
 
--- Lists are written one behind the other, each cut by itself, up to the last one or to a record without a form.
+-- nothing of a list was put
+abbrev pub nothing_put : ListFront
+nothing_put = record { count = 0; is_cut = false }
+
+-- Lists are written one behind the other, each cut by itself, up to the last one or to a record without a form. Behind that nothing is put.
 pub data ListsWritten (limit : ℕ) : List (List (Record RData)) → List ℕ → List ℕ → List ListFront → Option ProtoError → Type 0 where
   none_left : {bytes : List ℕ} → ListsWritten limit [] bytes bytes [] None
   next_list : {records : List (Record RData)} {lists : List (List (Record RData))} {old middle new : List ℕ} {front : ListFront} {fronts : List ListFront} {fault : Option ProtoError}
       → ListWritten limit old records middle front.count (ending_of front.is_cut) → ListsWritten limit lists middle new fronts fault
       → ListsWritten limit (records ∷ lists) old new (front ∷ fronts) fault
-  stuck_list : {records : List (Record RData)} {lists : List (List (Record RData))} {old new : List ℕ} {count : ℕ} {e : ProtoError}
-      → ListWritten limit old records new count (stuck e) → ListsWritten limit (records ∷ lists) old new [] (Some e)
+  stuck_list : {records : List (Record RData)} {lists : List (List (Record RData))} {old new : List ℕ} {front : ListFront} {fronts : List ListFront} {e : ProtoError}
+      → ListWritten limit old records new front.count (stuck e) → front.is_cut ≡ false → fronts ≡ map (λ list. nothing_put) lists
+      → ListsWritten limit (records ∷ lists) old new (front ∷ fronts) (Some e)
 
 -- what was written of each of a reply's lists
 pub record Fronts : Type 0 where
@@ -137,9 +143,12 @@ pub record OwnersRepeat (limit : ℕ) (old : List ℕ) (reply : Reply) (put : Fr
 abbrev pub header_and_questions : Reply → List ℕ
 header_and_questions reply = replicate 12 0 ++ reply.question
 
--- The bytes are the reply within the limit, of whose lists so much was written. Header and questions fit the limit.
+-- The bytes are the reply within the limit, of whose lists so much was written. Header and questions fit the limit, which is one of 16 bits, and the
+-- numbers of the header and of EDNS are such as their fields hold.
 pub record Written (limit : ℕ) (reply : Reply) (bytes : List ℕ) (fronts : Fronts) : Type 0 where
   pub body : List ℕ
+  pub limited : limit < 2 ^ 16
+  pub in_range : IsReplyInRange reply
   pub fits : 12 + length reply.question ≤ limit
   pub lists : ListsWritten limit (reply_lists reply) (header_and_questions reply) body (fronts_list fronts) None
   pub owners : OwnersRepeat limit (header_and_questions reply) reply fronts body
@@ -148,10 +157,9 @@ pub record Written (limit : ℕ) (reply : Reply) (bytes : List ℕ) (fronts : Fr
 -- The writing of the reply within the limit meets a record without a form, behind so many records of each list.
 pub record GetsStuck (limit : ℕ) (reply : Reply) (e : ProtoError) : Type 0 where
   pub body : List ℕ
-  pub fronts : List ListFront
-  pub fits : 12 + length reply.question ≤ limit
-  pub lists : ListsWritten limit (reply_lists reply) (header_and_questions reply) body fronts (Some e)
   pub put : Fronts
+  pub fits : 12 + length reply.question ≤ limit
+  pub lists : ListsWritten limit (reply_lists reply) (header_and_questions reply) body (fronts_list put) (Some e)
   pub owners : OwnersRepeat limit (header_and_questions reply) reply put body
 
 -- the header of the shortest reply there is: ServFail and nothing else

@@ -2,6 +2,7 @@
 
 ghost use Rattle.std.specs.Prelude.{◌≡◌, ℕ, ◌+◌, ◌*◌, ◌^◌, ◌<◌, ◌≤◌, ◌++◌, length, drop, if◌then◌else◌};
 ghost use Rattle.wire_messages.specs.serialize.layout.HeaderLayout.{first_flags, second_flags, header_octets, is_response};
+ghost use Rattle.wire_messages.specs.serialize.writing.ReplyRanges.{IsMetadataInRange};
 
 use wire_messages::op::header::{Header, MessageType, Metadata};
 
@@ -15,7 +16,8 @@ fn flag(is_set: bool, value: u8) -> u8
 
 // QR, opcode, AA, TC and RD (RFC 1035 section 4.1.1).
 fn first_byte(metadata: &Metadata) -> u8
-    ensures { result ≡ first_flags metadata.now }
+    ensures flags { result ≡ first_flags metadata.now }
+    ensures op_code { metadata.now.op_code < 2 ^ 4 }
 {
     let response = flag(metadata.message_type == MessageType::Response, 0x80);
     let authoritative = flag(metadata.authoritative, 4);
@@ -26,7 +28,8 @@ fn first_byte(metadata: &Metadata) -> u8
 
 // RA, AD, CD and the low response code; the unused bit is 0 (RFC 1035 section 4.1.1, RFC 4035 section 3.2).
 fn second_byte(metadata: &Metadata) -> u8
-    ensures { result ≡ second_flags metadata.now }
+    ensures flags { result ≡ second_flags metadata.now }
+    ensures response_code { metadata.now.response_code < 2 ^ 12 }
 {
     let recursion_available = flag(metadata.recursion_available, 0x80);
     let authentic_data = flag(metadata.authentic_data, 0x20);
@@ -37,7 +40,8 @@ fn second_byte(metadata: &Metadata) -> u8
 /// The twelve bytes of a header.
 #[inline(always)]
 pub fn header_bytes(header: &Header) -> [u8; 12]
-    ensures { result ≡ header_octets header.now }
+    ensures octets { result ≡ header_octets header.now }
+    ensures in_range { IsMetadataInRange header.now.metadata }
 {
     let [id_high, id_low] = header.metadata.id.to_be_bytes();
     let [queries_high, queries_low] = header.counts.queries.to_be_bytes();
@@ -72,7 +76,8 @@ fn put_front(bytes: &mut [u8], front: &[u8])
 #[inline(always)]
 pub fn put_header(bytes: &mut Vec<u8>, header: &Header)
     requires { 12 ≤ length bytes.old.items }
-    ensures { bytes.new.items ≡ header_octets header.now ++ drop 12 bytes.old.items }
+    ensures put { bytes.new.items ≡ header_octets header.now ++ drop 12 bytes.old.items }
+    ensures in_range { IsMetadataInRange header.now.metadata }
 {
     put_front(bytes, &header_bytes(header));
 }

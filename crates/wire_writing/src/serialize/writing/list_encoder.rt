@@ -1,11 +1,12 @@
 //! Lists of records in bytes, each cut by itself.
 
-ghost use Rattle.std.specs.Prelude.{◌≡◌, ℕ, ◌+◌, ◌<◌, ◌≤◌, ◌∷◌, ◌||◌, [], length, take, List, Bool, OnOk, IfOk, None, option_to_list, option_map};
+ghost use Rattle.std.specs.Prelude.{◌≡◌, ℕ, ◌+◌, ◌<◌, ◌≤◌, ◌∷◌, ◌||◌, [], length, take, List, Bool, OnOk, IfOk, IfSome, None, option_to_list, option_map};
 ghost use Rattle.std.specs.Iterator.{IsFinite};
 ghost use Rattle.std.specs.Option.{option_copied};
 ghost use Rattle.wire_writing.specs.serialize.writing.Endings.{GivesRecords, ListAdds, NotedRun, seen_ending, count_of_one, fault_of, is_cut_by};
 ghost use Rattle.wire_messages.specs.serialize.layout.MessageLayout.{tsig_record};
 ghost use Rattle.wire_messages.specs.serialize.writing.Reply.{opt_record};
+ghost use Rattle.wire_messages.specs.serialize.writing.ReplyRanges.{IsEdnsInRange};
 ghost use Rattle.wire_writing.specs.serialize.writing.Noted.{AreNotes};
 ghost use Rattle.wire_writing.specs.serialize.writing.Writing.{ListWritten, PutsAll};
 ghost use Rattle.wire_messages.specs.declared.rr.rdata.RData.{RData};
@@ -183,6 +184,7 @@ fn write_one_edns(
     ensures written { IfOk result (λ count. (is_cut : Bool) ×
         ListAdds limit stops.old stops.new bytes.old.items (opt_record edns.now ∷ []) bytes.new.items count is_cut ×
         PutsAll limit bytes.old.items (take count (opt_record edns.now ∷ [])) bytes.new.items) }
+    ensures in_range { OnOk result (stops.new.fault ≡ None → IsEdnsInRange edns.now) }
     ensures header { OnOk result (12 ≤ length bytes.new.items) }
     ensures fits { OnOk result (length bytes.new.items ≤ limit) }
     ensures counted { IfOk result (λ count. length bytes.old.items + count ≤ length bytes.new.items) }
@@ -207,6 +209,7 @@ pub fn write_optional_edns(
     ensures written { IfOk result (λ count. (is_cut : Bool) ×
         ListAdds limit stops.old stops.new bytes.old.items (option_to_list (option_map opt_record (option_copied edns.entry))) bytes.new.items count is_cut ×
         PutsAll limit bytes.old.items (take count (option_to_list (option_map opt_record (option_copied edns.entry)))) bytes.new.items) }
+    ensures in_range { OnOk result (stops.new.fault ≡ None → IfSome (option_copied edns.entry) IsEdnsInRange) }
     ensures header { OnOk result (12 ≤ length bytes.new.items) }
     ensures fits { OnOk result (length bytes.new.items ≤ limit) }
     ensures counted { IfOk result (λ count. length bytes.old.items + count ≤ length bytes.new.items) }

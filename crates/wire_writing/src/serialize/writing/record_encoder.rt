@@ -9,6 +9,7 @@ ghost use Rattle.wire_messages.specs.serialize.writing.RecordSize.{data_len, unw
 ghost use Rattle.wire_writing.specs.serialize.writing.WritingByNotes.{WritesRecord};
 ghost use Rattle.wire_messages.specs.serialize.layout.MessageLayout.{tsig_record};
 ghost use Rattle.wire_messages.specs.serialize.writing.Reply.{opt_record};
+ghost use Rattle.wire_messages.specs.serialize.writing.ReplyRanges.{IsEdnsInRange};
 ghost use Rattle.wire_writing.specs.serialize.writing.WrittenParts.{record_of};
 ghost use Rattle.wire_messages.specs.declared.rr.record.Proof.{Proof};
 
@@ -186,7 +187,8 @@ pub(crate) fn write_record<'n>(
 pub(crate) fn write_edns(bytes: &mut Vec<u8>, limit: u16, edns: &Edns) -> Result<Ending, AllocError>
     requires header { 12 ≤ length bytes.old.items }
     requires fits { length bytes.old.items ≤ limit }
-    ensures { IfOk result (λ ending. RecordEnds limit bytes.old.items (opt_record edns.now) bytes.new.items ending) }
+    ensures ends { IfOk result (λ ending. RecordEnds limit bytes.old.items (opt_record edns.now) bytes.new.items ending) }
+    ensures in_range { IsEdnsInRange edns.now }
 {
     let root = Name::root();
     write_parts(

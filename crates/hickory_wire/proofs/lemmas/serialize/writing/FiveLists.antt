@@ -6,9 +6,8 @@ use Rattle.std.specs.Borrow.{Bor}
 use Rattle.std.specs.Iterator.Runs.{SomeRun, EachRunFrom, IsChainRun}
 use Rattle.std.specs.Iterator.Adapters.{chain_steps}
 use Rattle.std.specs.declared.iter.Chain.{Chain}
-use Rattle.wire_writing.specs.serialize.writing.Endings.{Front, GivesRecords, ListFollows}
-use Rattle.hickory_wire.specs.serialize.writing.ReplyParts.{seen_front}
-use Rattle.wire_writing.specs.serialize.writing.Writing.{ListFront, ListsWritten}
+use Rattle.wire_writing.specs.serialize.writing.Endings.{Front, GivesRecords, ListFollows, seen_front}
+use Rattle.wire_writing.specs.serialize.writing.Writing.{ListsWritten}
 use Rattle.wire_writing.specs.serialize.writing.Writing.ListsWritten.{none_left}
 use Rattle.wire_messages.specs.declared.rr.rdata.RData.{RData}
 use Rattle.wire_messages.specs.declared.rr.record.Record.{Record}
@@ -16,27 +15,13 @@ use Rattle.wire_writing.proofs.lemmas.serialize.writing.Chained.{chained}
 
 -- five lists that follow one another
 pub five_lists : (limit : ℕ) (b0 b1 b2 b3 b4 b5 : List ℕ) (l1 l2 l3 l4 l5 : List (Record RData)) (f1 f2 f3 f4 f5 : Front) → ListFollows limit None b0 l1 b1 f1 → ListFollows limit f1.fault b1 l2 b2 f2 → ListFollows limit f2.fault b2 l3 b3 f3 → ListFollows limit f3.fault b3 l4 b4 f4 → ListFollows limit f4.fault b4 l5 b5 f5
-    → (all : List ListFront) × ListsWritten limit (l1 ∷ l2 ∷ l3 ∷ l4 ∷ l5 ∷ []) b0 b5 all f5.fault × (f5.fault ≡ None → all ≡ seen_front f1 ∷ seen_front f2 ∷ seen_front f3 ∷ seen_front f4 ∷ seen_front f5 ∷ [])
+    → ListsWritten limit (l1 ∷ l2 ∷ l3 ∷ l4 ∷ l5 ∷ []) b0 b5 (seen_front f1 ∷ seen_front f2 ∷ seen_front f3 ∷ seen_front f4 ∷ seen_front f5 ∷ []) f5.fault
 five_lists limit b0 b1 b2 b3 b4 b5 l1 l2 l3 l4 l5 f1 f2 f3 f4 f5 w1 w2 w3 w4 w5 =
     let s1 = w1 [] b0 [] none_left in
-    let s2 = w2 (l1 ∷ []) b0 s1.0 s1.1 in
-    let s3 = w3 (l1 ∷ l2 ∷ []) b0 s2.0 s2.1 in
-    let s4 = w4 (l1 ∷ l2 ∷ l3 ∷ []) b0 s3.0 s3.1 in
-    let s5 = w5 (l1 ∷ l2 ∷ l3 ∷ l4 ∷ []) b0 s4.0 s4.1 in (
-      s5.0,
-      s5.1,
-      λ none5.
-          let t5 = s5.2 none5 in
-          let t4 = s4.2 t5.0 in
-          let t3 = s3.2 t4.0 in
-          let t2 = s2.2 t3.0 in
-          let t1 = s1.2 t2.0 in
-          let a1 : s1.0 ≡ seen_front f1 ∷ [] = t1.1 in
-          let a2 : s2.0 ≡ seen_front f1 ∷ seen_front f2 ∷ [] = t2.1 ∙ ap (λ fs. fs ++ seen_front f2 ∷ []) a1 in
-          let a3 : s3.0 ≡ seen_front f1 ∷ seen_front f2 ∷ seen_front f3 ∷ [] = t3.1 ∙ ap (λ fs. fs ++ seen_front f3 ∷ []) a2 in
-          let a4 : s4.0 ≡ seen_front f1 ∷ seen_front f2 ∷ seen_front f3 ∷ seen_front f4 ∷ [] = t4.1 ∙ ap (λ fs. fs ++ seen_front f4 ∷ []) a3 in
-          t5.1 ∙ ap (λ fs. fs ++ seen_front f5 ∷ []) a4,
-    )
+    let s2 = w2 (l1 ∷ []) b0 (seen_front f1 ∷ []) s1 in
+    let s3 = w3 (l1 ∷ l2 ∷ []) b0 (seen_front f1 ∷ seen_front f2 ∷ []) s2 in
+    let s4 = w4 (l1 ∷ l2 ∷ l3 ∷ []) b0 (seen_front f1 ∷ seen_front f2 ∷ seen_front f3 ∷ []) s3 in
+    w5 (l1 ∷ l2 ∷ l3 ∷ l4 ∷ []) b0 (seen_front f1 ∷ seen_front f2 ∷ seen_front f3 ∷ seen_front f4 ∷ []) s4
 
 -- what is remembered of five lists, one behind the other
 pub five_cuts : (a b c d e s1 s2 s3 s4 s5 : Bool) → s1 ≡ (false || a) → s2 ≡ (s1 || b) → s3 ≡ (s2 || c) → s4 ≡ (s3 || d) → s5 ≡ (s4 || e) → s5 ≡ (a || b || c || d || e)

@@ -43,7 +43,7 @@ each_label (at_label a l s e more) = (l, each_label more)
 each_label (at_pointer high low goal past a s e lt after more) = each_label more
 
 -- the labels of a name that stands are those of a name
-name_labels : {floor : ℕ} {bytes : List ℕ} {place next : ℕ} {name : DomainName} → NameAt floor bytes place name next → AreLabels name.labels
+pub name_labels : {floor : ℕ} {bytes : List ℕ} {place next : ℕ} {name : DomainName} → NameAt floor bytes place name next → AreLabels name.labels
 name_labels {name = name} at = record { each = All-from_recursion IsLabel name.labels (each_label at.labels); short = at.short }
 
 -- labels of a run that begins at the front have no pointer, and take their length in full
@@ -131,7 +131,7 @@ back_is_formed r at =
 never_stuck : {limit : ℕ} {lists : List (List (Record RData))} {old new : List ℕ} {fronts : List ListFront} {fault : Option ProtoError} → ListsWritten limit lists old new fronts fault → AllByRecursion (AllByRecursion HasForm) lists → fault ≡ None
 never_stuck none_left formed = refl
 never_stuck (next_list one more) formed = never_stuck more formed.1
-never_stuck (stuck_list one) formed = absurd (formless_none formed.0 one)
+never_stuck (stuck_list one uncut behind) formed = absurd (formless_none formed.0 one)
 
 all_formed : (rs : List (Record RData)) → AllByRecursion (λ r. ReadsBack (without_proof r)) rs → AllByRecursion HasForm rs
 all_formed [] h = tt
@@ -145,8 +145,8 @@ never_formless : (limit : ℕ) (reply : Reply) (queries : List Query) (e : Proto
 never_formless limit reply queries e back s = let none : Some e ≡ None = never_stuck s.lists (lists_formed (reply_lists reply) back.records) in cc
 
 -- the fallback is excluded
-pub written_back : {limit : ℕ} {reply : Reply} {bytes : List ℕ} {header : Header} {queries : List Query} → limit < 2 ^ 16 → ReplyReadsBack reply queries → 12 + length reply.question ≤ limit → Encoded limit reply bytes header
+pub written_back : {limit : ℕ} {reply : Reply} {bytes : List ℕ} {header : Header} {queries : List Query} → ReplyReadsBack reply queries → 12 + length reply.question ≤ limit → Encoded limit reply bytes header
     → (fronts : Fronts) × Written limit reply bytes fronts × (header ≡ written_header reply fronts) × MessageAt bytes (decoded_message reply queries fronts)
-written_back {limit} {reply} {bytes} {queries = queries} low back fit (written {fronts = fronts} w) = (fronts, w, refl, message_stands limit reply bytes fronts queries low w back.decodable)
-written_back low back fit (too_large large is) = absurd (omega arith)
-written_back {limit} {reply} {queries = queries} low back fit (formless {e = e} stuck is) = absurd (never_formless limit reply queries e back stuck)
+written_back {limit} {reply} {bytes} {queries = queries} back fit (written {fronts = fronts} w) = (fronts, w, refl, message_stands limit reply bytes fronts queries w back.decodable)
+written_back back fit (too_large large is) = absurd (omega arith)
+written_back {limit} {reply} {queries = queries} back fit (formless {e = e} stuck is) = absurd (never_formless limit reply queries e back stuck)

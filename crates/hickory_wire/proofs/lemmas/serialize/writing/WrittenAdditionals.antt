@@ -4,7 +4,7 @@ use Rattle.std.specs.Prelude.{filter, not, option_map, option_to_list, IfSome, �
 use Rattle.std.specs.List.{AllByRecursion}
 use Rattle.std.proofs.lemmas.List.{append-nil}
 use Rattle.std.proofs.lemmas.List.Elements.{filter-append}
-use Rattle.hickory_wire.specs.serialize.writing.Decoding.{without_proof, front_of_option, IsFormedEdns, IsReadableSignature}
+use Rattle.hickory_wire.specs.serialize.writing.Decoding.{without_proof, front_of_option, IsReadableSignature}
 use Rattle.wire_messages.specs.op.EdnsFields.{EdnsFields}
 use Rattle.wire_messages.specs.serialize.layout.FieldRanges.{IsRecordInRange}
 use Rattle.wire_messages.specs.serialize.layout.HeaderLayout.{flag}
@@ -12,6 +12,7 @@ use Rattle.wire_messages.specs.serialize.layout.MessageLayout.{ItemsAt, IsPlainR
 use Rattle.wire_messages.specs.rr.RecordData.{type_of}
 use Rattle.wire_messages.specs.serialize.layout.RecordLayout.{FormAt, RecordAt, IsFormedRecord}
 use Rattle.wire_messages.specs.serialize.writing.Reply.{opt_record}
+use Rattle.wire_messages.specs.serialize.writing.ReplyRanges.{IsEdnsInRange}
 use Rattle.wire_messages.specs.declared.rr.rdata.RData.{RData}
 use Rattle.wire_messages.specs.declared.rr.record.Record.{Record}
 use Rattle.wire_messages.specs.declared.rr.tsig.TSIG.{TSIG}
@@ -34,7 +35,7 @@ ttl_parts : (ttl high version bit reserved : ℕ) → high < 2 ^ 8 → version <
 ttl_parts ttl high version bit reserved h v b r e = record { high_is = omega arith; version_is = omega arith; bit_is = omega arith; reserved_is = omega arith }
 
 -- what an OPT record says is what it was made of
-opt_says : (e : EdnsFields) → IsFormedEdns e → e ≡ edns_of (opt_record e) e.options
+opt_says : (e : EdnsFields) → IsEdnsInRange e → e ≡ edns_of (opt_record e) e.options
 opt_says e f =
     let b = flag_bit e.dnssec_ok in
     let ttl = e.rcode_high * 2 ^ 24 + e.version * 2 ^ 16 + flag e.dnssec_ok 15 + e.reserved_flags in
@@ -54,7 +55,7 @@ pub record OptWritten (bytes : List ℕ) (place : ℕ) (opts : List (Record RDat
   pub none_other : filter (λ r. not (is_opt r)) opts ≡ []
   pub count : length opts ≡ n
 
-pub opt_written : (bytes : List ℕ) (place next n : ℕ) (edns : Option EdnsFields) → IfSome edns IsFormedEdns → n ≤ length (option_to_list (option_map opt_record edns)) → AllByRecursion IsRecordInRange (take n (option_to_list (option_map opt_record edns))) → ItemsAt (FormAt 12 bytes) place (take n (option_to_list (option_map opt_record edns))) next
+pub opt_written : (bytes : List ℕ) (place next n : ℕ) (edns : Option EdnsFields) → IfSome edns IsEdnsInRange → n ≤ length (option_to_list (option_map opt_record edns)) → AllByRecursion IsRecordInRange (take n (option_to_list (option_map opt_record edns))) → ItemsAt (FormAt 12 bytes) place (take n (option_to_list (option_map opt_record edns))) next
     → OptWritten bytes place (take n (option_to_list (option_map opt_record edns))) (front_of_option n edns) n next
 opt_written bytes place next zero None f h i at = record { stand = at; says = refl; unsigned = refl; all_opt = refl; none_other = refl; count = refl }
 opt_written bytes place next (suc n) None f h i at = absurd (omega arith)

@@ -67,7 +67,7 @@ at_front header more bytes e = record {
 front_len : (n : ℕ) (rs : List (Record RData)) → n ≤ length rs → length (map without_proof (take n rs)) ≡ n
 front_len n rs h = omega (arith, length-map (take n rs) (without_proof {R = RData}), length-take n rs)
 
-module _ (limit : ℕ) (reply : Reply) (bytes : List ℕ) (f : Fronts) (queries : List Query) (low : limit < 2 ^ 16) (w : Written limit reply bytes f) (d : IsDecodable reply queries) where
+module _ (limit : ℕ) (reply : Reply) (bytes : List ℕ) (f : Fronts) (queries : List Query) (w : Written limit reply bytes f) (d : IsDecodable reply queries) where
   abbrev start : List ℕ
   start = header_and_questions reply
 
@@ -79,6 +79,7 @@ module _ (limit : ℕ) (reply : Reply) (bytes : List ℕ) (f : Fronts) (queries 
 
   pub message_stands : MessageAt bytes (decoded_message reply queries f)
   message_stands =
+      let low = w.limited in
       let one = first_part w.lists in
       let two = first_part one.2 in
       let three = first_part two.2 in
@@ -107,7 +108,7 @@ module _ (limit : ℕ) (reply : Reply) (bytes : List ℕ) (f : Fronts) (queries 
       let s1 = readable_stand bytes (take f.answers.count reply.answers) (length start) (length one.0) readable1 (put_in_range limit (take f.answers.count reply.answers) start one.0 one.1.puts) (put_stand limit (take f.answers.count reply.answers) start one.0 bytes one.1.puts f1) in
       let s2 = readable_stand bytes (take f.authorities.count both) (length one.0) (length two.0) readable2 (put_in_range limit (take f.authorities.count both) one.0 two.0 two.1.puts) (put_stand limit (take f.authorities.count both) one.0 two.0 bytes two.1.puts f2) in
       let s3 = readable_stand bytes (take f.additionals.count reply.additionals) (length two.0) (length three.0) readable3 (put_in_range limit (take f.additionals.count reply.additionals) two.0 three.0 three.1.puts) (put_stand limit (take f.additionals.count reply.additionals) two.0 three.0 bytes three.1.puts f3) in
-      let opt = opt_written bytes (length three.0) (length four.0) f.opt.count reply.edns d.edns four.1.counted (put_in_range limit (take f.opt.count edns_list) three.0 four.0 four.1.puts) (put_stand limit (take f.opt.count edns_list) three.0 four.0 bytes four.1.puts f4) in
+      let opt = opt_written bytes (length three.0) (length four.0) f.opt.count reply.edns w.in_range.edns four.1.counted (put_in_range limit (take f.opt.count edns_list) three.0 four.0 four.1.puts) (put_stand limit (take f.opt.count edns_list) three.0 four.0 bytes four.1.puts f4) in
       let tsig = tsig_written bytes (length four.0) (length five.0) f.signature.count reply.signature d.signature five.1.counted (put_in_range limit (take f.signature.count tsig_list) four.0 five.0 five.1.puts) (put_stand limit (take f.signature.count tsig_list) four.0 five.0 bytes five.1.puts f5) in
       let rs = map without_proof (take f.additionals.count reply.additionals) in
       let opts = take f.opt.count edns_list in
@@ -120,7 +121,7 @@ module _ (limit : ℕ) (reply : Reply) (bytes : List ℕ) (f : Fronts) (queries 
         authorities_at = length one.0;
         additionals_at = length two.0;
         stop = length five.0;
-        header_stands = header_stands bytes h d.metadata.id d.metadata.op_code
+        header_stands = header_stands bytes h w.in_range.metadata.id w.in_range.metadata.op_code
             (record {
               queries = omega (arith, d.question_count, asked_few, long, w.fits);
               answers = omega (arith, one.1.longer, fit1);

@@ -22,8 +22,8 @@ lists_sizes {limit} (next_list {records = records} {old = old} {middle = middle}
     let rs = take front.count records in
     let rest = lists_sizes more (PutsAll-within limit rs old middle h one.puts) in
     record { longer = omega (arith, PutsAll-longer limit rs old middle one.puts, rest.longer); within = rest.within }
-lists_sizes {limit} (stuck_list {records = records} {old = old} {new = new} {count = count} one) h =
-    let rs = take count records in
+lists_sizes {limit} (stuck_list {records = records} {old = old} {new = new} {front = front} one uncut behind) h =
+    let rs = take front.count records in
     record { longer = omega (arith, PutsAll-longer limit rs old new one.puts); within = PutsAll-within limit rs old new h one.puts }
 
 -- a reply has at most as many bytes as the limit

@@ -5,7 +5,7 @@ use Rattle.std.proofs.lemmas.List.{take_all, take-append-le, drop-append-le, dro
 use Rattle.std.specs.Borrow.{Bor}
 use Rattle.wire_writing.specs.serialize.writing.Endings.{RecordEnds, seen_ending, count_of_one, fault_of, is_cut_by, front_of_ending, ListAdds, ListFollows}
 use Rattle.wire_writing.specs.serialize.writing.Writing as writing
-use Rattle.wire_writing.specs.serialize.writing.Writing.{Puts, PutsAll, Ends, ListWritten, ListFront, ListsWritten, ending_of}
+use Rattle.wire_writing.specs.serialize.writing.Writing.{Puts, PutsAll, Ends, ListWritten, ListFront, ListsWritten, ending_of, nothing_put}
 use Rattle.wire_writing.specs.serialize.writing.Writing.ListsWritten.{none_left, next_list, stuck_list}
 use Rattle.wire_names.specs.declared.error.ProtoError.{ProtoError}
 use Rattle.wire_messages.specs.declared.rr.rdata.RData.{RData}
@@ -91,31 +91,32 @@ lists_more : {limit : ℕ} {lists : List (List (Record RData))} {start mid : Lis
     → ListWritten limit mid records new front.count (ending_of front.is_cut) → ListsWritten limit (lists ++ records ∷ []) start new (fronts ++ front ∷ []) None
 lists_more records new front none_left e w = next_list w none_left
 lists_more records new front (next_list one more) e w = next_list one (lists_more records new front more e w)
-lists_more records new front (stuck_list one) e w = absurd cc
+lists_more records new front (stuck_list one uncut behind) e w = absurd cc
 
 -- a list that gets stuck behind others
 lists_stuck : {limit : ℕ} {lists : List (List (Record RData))} {start mid : List ℕ} {fronts : List ListFront} {fault : Option ProtoError} (records : List (Record RData)) (new : List ℕ) (count : ℕ) (e : ProtoError) → ListsWritten limit lists start mid fronts fault → fault ≡ None
-    → ListWritten limit mid records new count (writing.ListEnding.stuck e) → ListsWritten limit (lists ++ records ∷ []) start new fronts (Some e)
-lists_stuck records new count e none_left h w = stuck_list w
+    → ListWritten limit mid records new count (writing.ListEnding.stuck e) → ListsWritten limit (lists ++ records ∷ []) start new (fronts ++ record { count = count; is_cut = false } ∷ []) (Some e)
+lists_stuck records new count e none_left h w = stuck_list w refl refl
 lists_stuck records new count e (next_list one more) h w = next_list one (lists_stuck records new count e more h w)
-lists_stuck records new count e (stuck_list one) h w = absurd cc
+lists_stuck records new count e (stuck_list one uncut behind) h w = absurd cc
 
 -- behind a list that is stuck nothing is written
-lists_done : {limit : ℕ} {lists : List (List (Record RData))} {start mid : List ℕ} {fronts : List ListFront} {fault : Option ProtoError} (records : List (Record RData)) (e : ProtoError) → ListsWritten limit lists start mid fronts fault → fault ≡ Some e → ListsWritten limit (lists ++ records ∷ []) start mid fronts (Some e)
+lists_done : {limit : ℕ} {lists : List (List (Record RData))} {start mid : List ℕ} {fronts : List ListFront} {fault : Option ProtoError} (records : List (Record RData)) (e : ProtoError) → ListsWritten limit lists start mid fronts fault → fault ≡ Some e → ListsWritten limit (lists ++ records ∷ []) start mid (fronts ++ nothing_put ∷ []) (Some e)
 lists_done records e none_left h = absurd cc
 lists_done records e (next_list one more) h = next_list one (lists_done records e more h)
-lists_done {limit} {start = start} {mid = mid} records e (stuck_list {records = before} {lists = others} {count = n} {e = d} one) h =
-    stuck_list {records = before} {lists = others ++ records ∷ []} {count = n} (subst (λ x. ListWritten limit start before mid n (writing.ListEnding.stuck x)) (some_is d e h) one)
+lists_done {limit} {start = start} {mid = mid} records e (stuck_list {records = before} {lists = others} {front = front} {fronts = fronts} {e = d} one uncut behind) h =
+    stuck_list {records = before} {lists = others ++ records ∷ []} {front = front} (subst (λ x. ListWritten limit start before mid front.count (writing.ListEnding.stuck x)) (some_is d e h) one) uncut
+    (ap (λ fs. fs ++ nothing_put ∷ []) behind ∙ sym (map-append (λ list. nothing_put) others (records ∷ [])))
 
 -- what a run says, behind lists that were not stuck
 pub follows_run : (limit : ℕ) (old new : List ℕ) (records : List (Record RData)) (count : ℕ) (ending : Ending) → ListWritten limit old records new count (seen_ending ending) → ListFollows limit None old records new (front_of_ending count ending)
-follows_run limit old new records count Whole w lists start fronts h = let f : ListFront = record { count = count; is_cut = false } in (fronts ++ f ∷ [], lists_more records new f h refl w, λ _. (refl, refl))
-follows_run limit old new records count Cut w lists start fronts h = let f : ListFront = record { count = count; is_cut = true } in (fronts ++ f ∷ [], lists_more records new f h refl w, λ _. (refl, refl))
-follows_run limit old new records count (Stuck e) w lists start fronts h = (fronts, lists_stuck records new count e h refl w, λ no. absurd cc)
+follows_run limit old new records count Whole w lists start fronts h = lists_more records new (record { count = count; is_cut = false }) h refl w
+follows_run limit old new records count Cut w lists start fronts h = lists_more records new (record { count = count; is_cut = true }) h refl w
+follows_run limit old new records count (Stuck e) w lists start fronts h = lists_stuck records new count e h refl w
 
 -- what stays behind a list that is stuck
 pub follows_stuck : (limit : ℕ) (old : List ℕ) (records : List (Record RData)) (e : ProtoError) → ListFollows limit (Some e) old records old (record { count = 0; is_cut = false; fault = Some e })
-follows_stuck limit old records e lists start fronts h = (fronts, lists_done records e h refl, λ no. absurd cc)
+follows_stuck limit old records e lists start fronts h = lists_done records e h refl
 
 -- the list of no record
 pub follows_none : (limit : ℕ) (old : List ℕ) → ListFollows limit None old [] old (record { count = 0; is_cut = false; fault = None })
@@ -143,16 +144,16 @@ or_false true = refl
 or_false false = refl
 
 pub adds_none : (limit : ℕ) (stops : Stops) (old : List ℕ) → ListAdds limit stops stops old [] old 0 false
-adds_none limit stops old = (nothing_follows limit old stops.fault, or_false stops.is_cut)
+adds_none limit stops old = (nothing_follows limit old stops.fault, or_false stops.is_cut, λ none. none)
 
 -- what is remembered of a list behind one that is stuck
 pub adds_stuck : (limit : ℕ) (stops : Stops) (old : List ℕ) (records : List (Record RData)) (e : ProtoError) → stops.fault ≡ Some e → ListAdds limit stops stops old records old 0 false
-adds_stuck limit stops old records e is = (rw is (follows_stuck limit old records e), or_false stops.is_cut)
+adds_stuck limit stops old records e is = (rw is (follows_stuck limit old records e), or_false stops.is_cut, λ none. none)
 
 -- what is remembered of a run
 pub adds_run : (limit : ℕ) (stops stops' : Stops) (old new : List ℕ) (records : List (Record RData)) (count : ℕ) (ending : Ending) → stops.fault ≡ None → stops'.fault ≡ fault_of ending → stops'.is_cut ≡ (stops.is_cut || is_cut_by ending)
     → ListWritten limit old records new count (seen_ending ending) → ListAdds limit stops stops' old records new count (is_cut_by ending)
-adds_run limit stops stops' old new records count ending none fault cut w = (rw (none, fault) (follows_run limit old new records count ending w), cut)
+adds_run limit stops stops' old new records count ending none fault cut w = (rw (none, fault) (follows_run limit old new records count ending w), cut, λ unstuck. none)
 
 -- what is remembered of the list of one record
 pub adds_one : (limit : ℕ) (stops stops' : Stops) (old new : List ℕ) (r : Record RData) (ending : Ending) → stops.fault ≡ None → stops'.fault ≡ fault_of ending → stops'.is_cut ≡ (stops.is_cut || is_cut_by ending)

@@ -64,7 +64,7 @@ whole_lists {limit} (next_list {records = records} {lists = others} {old = old} 
     let first = whole_list limit old records middle front front.is_cut refl formed.0 (omega (arith, both, fits)) one in
     let rest = whole_lists more formed.1 (omega (arith, first.size, both, fits)) in
     record { uncut = (first.uncut, rest.uncut); counts = ap (λ n. n ∷ map (λ (f : ListFront). f.count) fronts) first.count ∙ ap (λ ns. length records ∷ ns) rest.counts; unstuck = rest.unstuck }
-whole_lists (stuck_list one) formed fits = absurd (formless_none formed.0 one)
+whole_lists (stuck_list one uncut behind) formed fits = absurd (formless_none formed.0 one)
 
 start_size : (question : List ℕ) → length (replicate 12 0 ++ question) ≡ 12 + length question
 start_size question = length-append (replicate 12 0) question

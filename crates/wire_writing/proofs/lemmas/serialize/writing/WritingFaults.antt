@@ -49,4 +49,4 @@ fault_kinds (rdata.Unknown code octets) e h = length_kind _ e h
 pub stuck_kinds : {limit : ℕ} {lists : List (List (Record RData))} {old new : List ℕ} {fronts : List ListFront} {fault : Option ProtoError} (e : ProtoError) → ListsWritten limit lists old new fronts fault → fault ≡ Some e → IsFormFault e
 stuck_kinds e none_left h = absurd cc
 stuck_kinds e (next_list one more) h = stuck_kinds e more h
-stuck_kinds e (stuck_list {e = d} one) h = let same : e ≡ d = some_is d e h in rw same (fault_kinds one.ends.next.rdata d one.ends.formless)
+stuck_kinds e (stuck_list {e = d} one uncut behind) h = let same : e ≡ d = some_is d e h in rw same (fault_kinds one.ends.next.rdata d one.ends.formless)

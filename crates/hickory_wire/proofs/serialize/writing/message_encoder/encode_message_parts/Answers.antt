@@ -1,4 +1,4 @@
-use Rattle.std.proofs.Common.{◌≢◌, ◌<◌, ◌^◌, rules}
+use Rattle.std.proofs.Common.{◌≢◌, rules}
 use Rattle.wire_names.specs.serialize.layout.Bytes.{AreBytes}
 use Rattle.hickory_wire.specs.serialize.writing.ReplyParts.{reply_of}
 use Rattle.wire_names.specs.declared.error.ProtoError.TheVariants.{Memory}
@@ -10,9 +10,8 @@ returns-in-Ok-clause-encoded g c =
     let w = c.in-Ok.ensures.written in
     let reply = reply_of c.args.parts w.0 in
     let bytes = c.write_reply.new.bytes.items in
-    let small : c.args.limit < 2 ^ 16 = search rules in
     let are : AreBytes bytes = c.in-Ok.ensures.bytes in
-    (w.0, w.1, reply_encoded c.args.limit reply bytes c.in-Ok.header small are (encoded_written c.args.limit reply bytes c.in-Ok.header w.2))
+    (w.0, w.1, reply_encoded c.args.limit reply bytes c.in-Ok.header are (encoded_written c.args.limit reply bytes c.in-Ok.header w.2))
 
 pub returns-in_ok-header-in-Err : goal.returns-in_ok-header-in-Err
 returns-in_ok-header-in-Err g c =
@@ -22,6 +21,5 @@ returns-in_ok-header-in-Err g c =
     let reply = reply_of c.args.parts w.0 in
     let bytes = c.write_fallback.new.bytes.items in
     let header = c.in_ok-header-in-Err.header in
-    let small : c.args.limit < 2 ^ 16 = search rules in
     let are : AreBytes bytes = c.in_ok-header-in-Err.ensures.bytes in
-    record { encoded = (w.0, w.1, reply_encoded c.args.limit reply bytes header small are (encoded_fallback c.args.limit reply bytes header c.in-Err.field-0 f.0 f.1 w.2)); err = tt }
+    record { encoded = (w.0, w.1, reply_encoded c.args.limit reply bytes header are (encoded_fallback c.args.limit reply bytes header c.in-Err.field-0 f.0 f.1 w.2)); err = tt }

@@ -1,8 +1,7 @@
 use Rattle.std.proofs.Common.{◌≡◌, ◌++◌, List, length, refl, subst, take, rules}
 use Rattle.std.specs.Iterator.Adapters.{chain_second}
 use Rattle.wire_writing.specs.serialize.writing.Noted.{AreNotes}
-use Rattle.wire_writing.specs.serialize.writing.Endings.{Front, GivesRecords, ListFollows, NotedRun}
-use Rattle.hickory_wire.specs.serialize.writing.ReplyParts.{seen_front}
+use Rattle.wire_writing.specs.serialize.writing.Endings.{Front, GivesRecords, ListFollows, NotedRun, seen_front}
 use Rattle.wire_writing.specs.serialize.writing.Writing.{Fronts}
 use Rattle.wire_messages.specs.declared.rr.rdata.RData.{RData}
 use Rattle.wire_messages.specs.declared.rr.record.Record.{Record}
@@ -55,9 +54,7 @@ returns-clause-written g c =
       },
       record {
         fronts = fronts;
-        all = five.0;
-        lists = five.1;
-        unstuck = five.2;
+        lists = five;
         owners = record {
           sections = c.write_list-3.new.bytes.items;
           repeating = repeats limit _ start c.write_list-3.new.bytes.items c.if-has_records.table c.write_list-3.new.table runs;
@@ -71,3 +68,6 @@ returns-clause-written g c =
         };
       },
     )
+
+pub returns-clause-in_range : goal.returns-clause-in_range
+returns-clause-in_range g c = λ none. let last = c.in_ok-signatures.ensures.written in c.in_ok-opts.ensures.in_range (last.1.2 none)

@@ -1,6 +1,7 @@
 use Rattle.std.proofs.Common.{◌≡◌, ◌≢◌, ◌∙◌, ◌+◌, ◌<◌, ◌≤◌, ◌^◌, ◌++◌, inl, inr, List, length, drop, replicate, None, ap, sym, arith, rules}
 use Rattle.wire_names.specs.serialize.layout.Bytes.{AreBytes}
 use Rattle.wire_messages.specs.serialize.layout.HeaderLayout.{header_octets}
+use Rattle.wire_messages.specs.serialize.writing.ReplyRanges.{IsMetadataInRange}
 use Rattle.hickory_wire.specs.serialize.writing.Decoding.{IsDecodable, decoded_message}
 use Rattle.wire_reading.specs.serialize.reading.MessageReading.{Reads}
 use Rattle.hickory_wire.specs.serialize.writing.ReplyParts.{reply_of}
@@ -10,7 +11,7 @@ use Rattle.wire_names.specs.declared.error.ProtoError.TheVariants.{MaxSizeExceed
 use Rattle.wire_messages.specs.declared.op.query.Query.{Query}
 use Rattle.wire_writing.proofs.lemmas.serialize.writing.WritingFaults.{stuck_kinds}
 use Rattle.wire_messages.proofs.lemmas.serialize.layout.VectorBytes.{are_bytes}
-use Rattle.hickory_wire.proofs.lemmas.serialize.writing.RepliesEncoded.{summed_header}
+use Rattle.hickory_wire.proofs.lemmas.serialize.writing.RepliesEncoded.{metadata_ranges, summed_header}
 use Rattle.hickory_wire.proofs.lemmas.serialize.writing.WrittenMessage.{message_stands, written_reads}
 use Rattle.hickory_wire.proofs.serialize.writing.message_encoder.write_reply.Goals as goal
 
@@ -38,7 +39,6 @@ returns-in-Some-clause-refused g c =
       w.1,
       formless (record {
         body = c.write_lists.new.bytes.items;
-        fronts = w.2.all;
         fits = fit;
         lists = rw (sym start, sym c.in-Some.is) w.2.lists;
         put = w.2.fronts;
@@ -56,17 +56,20 @@ returns-clause-written g c =
     let reply = reply_of c.args.parts w.0 in
     let bytes = c.put_header.new.bytes.items in
     let header = c.header_of-header.ensures ∙ summed_header c.args.parts.metadata c.args.parts.question_count c.in_ok-sections.sections fronts w.2.sums in
+    let ranges : IsMetadataInRange c.args.parts.metadata = metadata_ranges c.args.parts.metadata c.args.parts.question_count c.in_ok-sections.sections c.header_of-header.result c.header_of-header.ensures c.put_header.ensures.in_range in
+    let small : c.args.limit < 2 ^ 16 = search rules in
     let whole : Written c.args.limit reply bytes fronts = record {
       body = c.write_lists.new.bytes.items;
+      limited = small;
+      in_range = record { metadata = ranges; edns = c.in_ok-sections.ensures.in_range none };
       fits = fit;
-      lists = rw (sym start, sym none, sym (w.2.unstuck none)) w.2.lists;
+      lists = rw (sym start, sym none) w.2.lists;
       owners = rw (sym start) w.2.owners;
-      is = c.put_header.ensures ∙ ap (λ h. header_octets h ++ drop 12 c.write_lists.new.bytes.items) header;
+      is = c.put_header.ensures.put ∙ ap (λ h. header_octets h ++ drop 12 c.write_lists.new.bytes.items) header;
     } in
-    let small : c.args.limit < 2 ^ 16 = search rules in
     let are : AreBytes bytes = are_bytes bytes c.type_inv.bytes in
-    let back : (queries : List Query) → IsDecodable reply queries → Reads bytes (decoded_message reply queries fronts) = λ queries d. written_reads c.args.limit reply bytes fronts queries small whole d are in
-    (w.0, w.1, record { fronts = fronts; written = whole; header_is = header; stands = λ queries d. message_stands c.args.limit reply bytes fronts queries small whole d; reads = back })
+    let back : (queries : List Query) → IsDecodable reply queries → Reads bytes (decoded_message reply queries fronts) = λ queries d. written_reads c.args.limit reply bytes fronts queries whole d are in
+    (w.0, w.1, record { fronts = fronts; written = whole; header_is = header; stands = λ queries d. message_stands c.args.limit reply bytes fronts queries whole d; reads = back })
 
 pub returns-clause-bytes : goal.returns-clause-bytes
 returns-clause-bytes g c = are_bytes c.put_header.new.bytes.items c.type_inv.bytes

@@ -12,7 +12,7 @@ returns-then-is_some-clause-written c =
 pub returns-clause-written : goal.returns-clause-written
 returns-clause-written c =
     let ending = c.in_ok-ending.ending in
-    let ends = c.in_ok-ending.ensures in
+    let ends = c.in_ok-ending.ensures.ends in
     let old = c.args.bytes.now.items in
     let new = c.write_edns.new.bytes.items in
     let r = opt_record c.args.edns.now in
