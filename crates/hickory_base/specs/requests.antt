@@ -2,6 +2,7 @@
 pub mod MessageSameness
 pub mod QuestionList
 pub mod Questions
+pub mod RepeatableQuestions
 pub mod RequestForm
 pub mod RequestReading
 pub mod Requests

@@ -8,5 +8,5 @@ pub mod server;
 pub mod zone_store;
 
 pub use access_control as access;
-pub use requests::{message_request, message_sameness, update_request};
+pub use requests::{message_request, message_sameness, request_laws, update_request};
 pub use responses::{encoding_sink, message_response};

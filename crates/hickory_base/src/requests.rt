@@ -3,5 +3,6 @@
 pub mod message_request;
 pub mod message_sameness;
 pub mod request_encoding;
+pub mod request_laws;
 pub mod request_reading;
 pub mod update_request;

@@ -2,6 +2,7 @@
 pub mod MessagesCompared
 pub mod NoAdditionals
 pub mod QuestionPlaces
+pub mod RepeatedQuestions
 pub mod RequestForms
 pub mod RequestParts
 pub mod SingleQuestion

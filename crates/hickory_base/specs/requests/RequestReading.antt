@@ -2,6 +2,8 @@
 use Rattle.std.specs.Prelude.{◌≡◌, ◌≢◌, ℕ, List, [], None, Ok, slice_range}
 use Rattle.wire_messages.specs.serialize.reading.Cursor.{Cursor}
 use Rattle.wire_messages.specs.serialize.layout.MessageLayout.{ItemsAt, QuestionRead, high_code, with_high_code}
+use Rattle.wire_messages.specs.op.Metadata.{bare_metadata}
+use Rattle.wire_reading.specs.serialize.reading.MessageFaults.{MessageFault}
 use Rattle.wire_reading.specs.serialize.reading.MessageReading.{Fault}
 use Rattle.wire_messages.specs.serialize.reading.Reading.{Read, ◌>>=◌}
 use Rattle.wire_messages.specs.serialize.reading.RecordReading.{question}
@@ -12,8 +14,10 @@ use Rattle.wire_names.specs.declared.error.ProtoError.{ProtoError}
 use Rattle.wire_names.specs.declared.error.ProtoError.TheVariants.{Decode}
 use Rattle.wire_messages.specs.declared.op.header.Header.{Header}
 use Rattle.wire_messages.specs.declared.op.header.HeaderCounts.{HeaderCounts}
+use Rattle.wire_messages.specs.declared.op.header.MessageType.TheVariants as message_type
 use Rattle.wire_reading.specs.declared.op.message.Message.{Message}
 use Rattle.hickory_base.specs.requests.Questions.{QuestionSection}
+use Rattle.hickory_base.specs.requests.Requests.{ReceivedRequest}
 use Rattle.hickory_base.specs.declared.requests.message_request.MessageRequest.{MessageRequest}
 
 -- a message without a record in its additional section, as none is read yet
@@ -23,6 +27,13 @@ HasNoAdditional m = (m.additionals ≡ []) × (m.signature ≡ None) × (m.edns 
 -- a message without a record
 abbrev pub HasNoRecord : MessageRequest → Type 0
 HasNoRecord m = (m.answers ≡ []) × (m.authorities ≡ []) × HasNoAdditional m
+
+-- Nothing is left of the message of a request: it has no bytes, no question and no record, and the header of a query with id 0.
+pub record IsCleared (request : ReceivedRequest) : Type 0 where
+  pub bytes : request.bytes ≡ []
+  pub metadata : request.message.metadata ≡ bare_metadata 0 message_type.Query 0
+  pub queries : request.message.queries ≡ record { queries = []; bytes = [] }
+  pub records : HasNoRecord request.message
 
 -- so many questions, and the bytes from the first of them to the place behind the last
 unfoldable pub question_section : ℕ → Cursor → Read QuestionSection
@@ -70,9 +81,10 @@ pub record IsQuestionSection (bytes : List ℕ) (section : QuestionSection) : Ty
   pub stand : ItemsAt (QuestionRead bytes) 12 section.queries stop
   pub bytes_are : section.bytes ≡ slice_range bytes 12 stop
 
--- The error is the first fault of bytes that begin with no message, and no want of memory.
+-- The error is the first fault of bytes that begin with no message, as it stands there and as reading meets it, and no want of memory.
 pub record IsFaultOf (bytes : List ℕ) (e : ProtoError) : Type 0 where
   pub fault : DecodeError
+  pub stands : MessageFault bytes fault
   pub first : Fault bytes fault
   pub no_want : fault ≢ Memory
   pub is : e ≡ Decode fault

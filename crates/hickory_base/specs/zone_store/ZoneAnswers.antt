@@ -1,5 +1,5 @@
 -- What a zone held in memory answers: its own records, with no CNAME followed, no wildcard and no delegation.
-use Rattle.std.specs.Prelude.{◌≡◌, ◌==◌, ◌⊎◌, ℕ, Bool, cond, List, [], ◌∷◌, ◌++◌, drop, filter, Option, Some, None, Result, Ok, Err}
+use Rattle.std.specs.Prelude.{◌≡◌, ◌==◌, ◌⊎◌, ℕ, Bool, cond, false, not, List, [], ◌∷◌, ◌++◌, drop, filter, Option, Some, None, Result, Ok, Err}
 use Rattle.std.specs.List.{flat_map, list_any}
 use Rattle.std.specs.Map.{lookup}
 use Rattle.wire_names.specs.rr.domain.DomainName.{DomainName}
@@ -77,6 +77,11 @@ LookedUp zone name record_type answer = (result : _) × OrMemory (zone_answer zo
 abbrev pub SearchedFor : MemoryZone → Result Query LookupError → Flow → Type 0
 SearchedFor zone (Ok query) answer = LookedUp zone (lower_name query.name) query.query_type answer
 SearchedFor zone (Err e) answer = answer ≡ Break (Err e)
+
+-- one set is asked for: by a question, and not for any type, 255
+abbrev pub asks_for_set : Result Query LookupError → Bool
+asks_for_set (Ok query) = not (query.query_type == 255)
+asks_for_set (Err e) = false
 
 -- a request: its one question is looked up
 abbrev pub Searched : MemoryZone → ReceivedRequest → Flow → Type 0

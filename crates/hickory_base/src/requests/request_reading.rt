@@ -1,13 +1,16 @@
 //! Reading requests (RFC 1035 section 4.1).
 
-ghost use Rattle.std.specs.Prelude.{◌≡◌, ◌≢◌, ◌<◌, ◌≤◌, [], length, IfOk, IfErr, MatchResult, OnOk};
+ghost use Rattle.std.specs.Prelude.{◌≡◌, ◌≢◌, ◌<◌, ◌≤◌, [], length, IfOk, IfErr, MatchResult, OnErr, OnOk};
 ghost use Rattle.hickory_base.specs.requests.QuestionList.{question_list};
-ghost use Rattle.hickory_base.specs.requests.RequestReading.{FollowsHeader, HasNoAdditional, HasNoRecord, IsFaultOf, IsQuestionSection, message_of, question_section, additionals_of, sections};
+ghost use Rattle.hickory_base.specs.requests.RepeatableQuestions.{AreRepeatable, HasRepeatableQuestions};
+ghost use Rattle.hickory_base.specs.requests.RequestReading.{FollowsHeader, HasNoAdditional, HasNoRecord, IsCleared, IsFaultOf, IsQuestionSection, message_of, question_section, additionals_of, sections};
 ghost use Rattle.wire_messages.specs.serialize.layout.MessageLayout.{high_code, with_high_code};
+ghost use Rattle.wire_reading.specs.serialize.layout.WholeMessage.{MessageAt};
 ghost use Rattle.wire_reading.specs.serialize.reading.MessageReading.{Fault, Reads, message};
 ghost use Rattle.wire_messages.specs.serialize.reading.Reading.{Gives, GivesSeenBy};
 ghost use Rattle.wire_messages.specs.serialize.reading.RecordReading.{question};
 ghost use Rattle.wire_messages.specs.serialize.reading.SectionReading.{items, section_record};
+ghost use Rattle.wire_names.specs.serialize.layout.Bytes.{AreBytes};
 ghost use Rattle.wire_names.specs.declared.error.DecodeError.{DecodeError};
 ghost use Rattle.wire_names.specs.declared.error.DecodeError.TheVariants as decode_error;
 ghost use Rattle.wire_reading.specs.declared.op.message.Message.{Message};
@@ -69,9 +72,15 @@ fn read_one(
 
 impl Queries {
     /// A section to be read into, of one question as most are.
-    fn unread(alloc: Global) -> Result<Queries, AllocError> {
-        let original = ShortOctets::from_slice(alloc, &[])?;
-        Ok(Queries::new(Questions::One(LowerQuery::of_root()), original))
+    fn unread() -> Queries {
+        Queries::new(Questions::One(LowerQuery::of_root()), ShortOctets::new())
+    }
+
+    /// No question.
+    fn none(alloc: Global) -> Queries
+        ensures { result ≡ record { queries = []; bytes = [] } }
+    {
+        Queries::new(Questions::Many(Items::new(alloc)), ShortOctets::new())
     }
 
     /// One question, and the bytes that hold it.
@@ -134,7 +143,7 @@ impl Queries {
     ) -> Result<Queries, DecodeError>
         ensures { Gives result decoder.old decoder.new (question_section count) }
     {
-        let mut queries = Queries::unread(alloc)?;
+        let mut queries = Queries::unread();
         queries.read_in_place(alloc, decoder, count)?;
         Ok(queries)
     }
@@ -185,19 +194,19 @@ fn read_records(
 }
 
 impl MessageRequest {
-    /// A message of nothing, to be read into: a message is too large to be handed on from step to step.
-    fn empty(alloc: Global) -> Result<MessageRequest, AllocError>
-        ensures { IfOk result (λ m. HasNoRecord m) }
+    /// A message without a record, to be read into: a message is too large to be handed on from step to step.
+    fn empty(alloc: Global) -> MessageRequest
+        ensures { HasNoRecord result }
     {
-        Ok(MessageRequest {
+        MessageRequest {
             metadata: Metadata::new(0, MessageType::Query, OpCode::QUERY),
-            queries: Queries::unread(alloc)?,
+            queries: Queries::unread(),
             answers: Items::new(alloc),
             authorities: Items::new(alloc),
             additionals: Items::new(alloc),
             signature: None,
             edns: None,
-        })
+        }
     }
 
     /// Takes the records out, so that others may be read in their place.
@@ -297,6 +306,7 @@ fn read_message(
     message: &mut MessageRequest,
 ) -> Result<(), DecodeError>
     requires { HasNoRecord message.old }
+    ensures bytes { AreBytes bytes.now }
     ensures found { IfOk result (λ _. Reads bytes.now (message_of message.new)) }
     ensures questions { IfOk result (λ _. IsQuestionSection bytes.now message.new.queries) }
     ensures fault { IfErr result (λ e. e ≢ decode_error.Memory → Fault bytes.now e) }
@@ -319,8 +329,11 @@ impl Request {
     /// Reads the message that its bytes begin with, in the place of one without a record.
     fn read_own_bytes(&mut self, alloc: Global) -> Result<(), ProtoError>
         requires { HasNoRecord self.old.message }
+        ensures stands { IfOk result (λ _. MessageAt self.old.bytes (message_of self.new.message)) }
         ensures found { IfOk result (λ _. Reads self.old.bytes (message_of self.new.message)) }
         ensures questions { IfOk result (λ _. IsQuestionSection self.old.bytes self.new.message.queries) }
+        ensures repeatable { IfOk result (λ _. AreRepeatable self.old.bytes self.new.message.queries.queries → HasRepeatableQuestions self.new) }
+        ensures standing { (m : Message) → MessageAt self.old.bytes m → MatchResult result (λ _. message_of self.new.message ≡ m) (λ e. e ≡ ProtoError.Memory) }
         ensures only { (m : Message) → Reads self.old.bytes m → MatchResult result (λ _. message_of self.new.message ≡ m) (λ e. e ≡ ProtoError.Memory) }
         ensures fault { IfErr result (λ e. e ≢ ProtoError.Memory → IsFaultOf self.old.bytes e) }
         ensures kept { (self.new.bytes ≡ self.old.bytes) × (self.new.source ≡ self.old.source) × (self.new.protocol ≡ self.old.protocol) }
@@ -343,37 +356,76 @@ impl Request {
         protocol: Protocol,
     ) -> Result<Request, ProtoError>
         // What is read stands there.
+        ensures stands { IfOk result (λ r. MessageAt bytes.items (message_of r.message)) }
         ensures found { IfOk result (λ r. Reads bytes.items (message_of r.message)) }
         ensures questions { IfOk result (λ r. IsQuestionSection bytes.items r.message.queries) }
+        ensures repeatable { IfOk result (λ r. AreRepeatable bytes.items r.message.queries.queries → HasRepeatableQuestions r) }
         // What stands there is read, unless memory is refused.
+        ensures standing { (m : Message) → MessageAt bytes.items m → MatchResult result (λ r. message_of r.message ≡ m) (λ e. e ≡ ProtoError.Memory) }
         ensures only { (m : Message) → Reads bytes.items m → MatchResult result (λ r. message_of r.message ≡ m) (λ e. e ≡ ProtoError.Memory) }
         // An error is the first fault.
         ensures fault { IfErr result (λ e. e ≢ ProtoError.Memory → IsFaultOf bytes.items e) }
         ensures raw { IfOk result (λ r. r.bytes ≡ bytes.items) }
         ensures source { IfOk result (λ r. (r.source ≡ src) × (r.protocol ≡ protocol)) }
     {
-        let message = MessageRequest::empty(alloc)?;
+        let message = MessageRequest::empty(alloc);
         let mut request = Request::new(message, Octets::from_vec(bytes), src, protocol);
         request.read_own_bytes(alloc)?;
         Ok(request)
     }
 
-    /// Puts a copy of bytes in the place of its own, whose memory is used again.
-    fn set_bytes(&mut self, alloc: Global, bytes: &[u8]) -> Result<(), AllocError>
-        ensures bytes { OnOk result (self.new.bytes ≡ bytes.now) }
-        ensures message { self.new.message ≡ self.old.message }
+    /// Takes the memory of its bytes, of which none are left.
+    fn take_bytes(&mut self, alloc: Global) -> Vec<u8>
+        ensures taken { result.items ≡ [] }
+        ensures left { self.new ≡ record self.old { bytes = [] } }
     {
         let mut own = mem::replace(&mut self.bytes, Octets::from_vec(Vec::new(alloc))).into_vec();
         own.clear();
+        own
+    }
+
+    /// Puts a copy of bytes in the place of its own, whose memory is used again.
+    fn set_bytes(&mut self, alloc: Global, bytes: &[u8]) -> Result<(), AllocError>
+        ensures bytes { OnOk result (self.new ≡ record self.old { bytes = bytes.now }) }
+        ensures kept { (self.new.source ≡ self.old.source) × (self.new.protocol ≡ self.old.protocol) }
+    {
+        let mut own = self.take_bytes(alloc);
         own.extend_from_slice(bytes)?;
         self.bytes = Octets::from_vec(own);
         Ok(())
     }
 
+    /// Leaves nothing of its message.
+    fn clear(&mut self, alloc: Global)
+        ensures cleared { IsCleared self.new }
+        ensures kept { (self.new.source ≡ self.old.source) × (self.new.protocol ≡ self.old.protocol) }
+    {
+        self.bytes = Octets::from_vec(self.take_bytes(alloc));
+        self.message.clear(alloc);
+        self.message.metadata = Metadata::new(0, MessageType::Query, OpCode::QUERY);
+        self.message.queries = Queries::none(alloc);
+    }
+
+    /// Reads a message in the place of another, from a copy of its bytes in the place of others.
+    fn read_copy(&mut self, alloc: Global, bytes: &[u8]) -> Result<(), ProtoError>
+        ensures stands { IfOk result (λ _. MessageAt bytes.now (message_of self.new.message)) }
+        ensures found { IfOk result (λ _. Reads bytes.now (message_of self.new.message)) }
+        ensures questions { IfOk result (λ _. IsQuestionSection bytes.now self.new.message.queries) }
+        ensures standing { (m : Message) → MessageAt bytes.now m → MatchResult result (λ _. message_of self.new.message ≡ m) (λ e. e ≡ ProtoError.Memory) }
+        ensures only { (m : Message) → Reads bytes.now m → MatchResult result (λ _. message_of self.new.message ≡ m) (λ e. e ≡ ProtoError.Memory) }
+        ensures fault { IfErr result (λ e. e ≢ ProtoError.Memory → IsFaultOf bytes.now e) }
+        ensures raw { OnOk result (self.new.bytes ≡ bytes.now) }
+        ensures kept { (self.new.source ≡ self.old.source) × (self.new.protocol ≡ self.old.protocol) }
+    {
+        self.set_bytes(alloc, bytes)?;
+        self.message.clear(alloc);
+        self.read_own_bytes(alloc)
+    }
+
     /// The same as `from_bytes`, in the place of this request: its memory is used again, and no request is made or handed
     /// on. So a server may read each message that comes.
     ///
-    /// After an error nothing is promised of the request, but that others may be read into it.
+    /// After an error nothing is left of its message: it has no bytes, no question and no record, and the header of a query with id 0.
     pub fn read_in_place(
         &mut self,
         alloc: Global,
@@ -382,19 +434,26 @@ impl Request {
         protocol: Protocol,
     ) -> Result<(), ProtoError>
         // What is read stands there.
+        ensures stands { IfOk result (λ _. MessageAt bytes.now (message_of self.new.message)) }
         ensures found { IfOk result (λ _. Reads bytes.now (message_of self.new.message)) }
         ensures questions { IfOk result (λ _. IsQuestionSection bytes.now self.new.message.queries) }
         // What stands there is read, unless memory is refused.
+        ensures standing { (m : Message) → MessageAt bytes.now m → MatchResult result (λ _. message_of self.new.message ≡ m) (λ e. e ≡ ProtoError.Memory) }
         ensures only { (m : Message) → Reads bytes.now m → MatchResult result (λ _. message_of self.new.message ≡ m) (λ e. e ≡ ProtoError.Memory) }
-        // An error is the first fault.
+        // An error is the first fault, and nothing is left.
         ensures fault { IfErr result (λ e. e ≢ ProtoError.Memory → IsFaultOf bytes.now e) }
-        ensures raw { IfOk result (λ _. self.new.bytes ≡ bytes.now) }
-        ensures source { IfOk result (λ _. (self.new.source ≡ src) × (self.new.protocol ≡ protocol)) }
+        ensures err { OnErr result (IsCleared self.new) }
+        ensures raw { OnOk result (self.new.bytes ≡ bytes.now) }
+        ensures source { (self.new.source ≡ src) × (self.new.protocol ≡ protocol) }
     {
-        self.set_bytes(alloc, bytes)?;
         self.source = src;
         self.protocol = protocol;
-        self.message.clear(alloc);
-        self.read_own_bytes(alloc)
+        match self.read_copy(alloc, bytes) {
+            Ok(()) => Ok(()),
+            Err(e) => {
+                self.clear(alloc);
+                Err(e)
+            }
+        }
     }
 }

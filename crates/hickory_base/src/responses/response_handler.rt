@@ -92,11 +92,12 @@ pub trait ResponseHandler {
         ensures settled { settings self.new ≡ settings self.old };
 }
 
-/// What answers requests: for each it hands a reply to a sink.
+/// What answers requests: for each it hands a sink one reply, or for a transfer the list of replies that it takes.
 pub trait RequestHandler {
     ghost use Rattle.std.specs.Prelude.{◌≡◌, OnErr};
 
-    /// Handles a request, and answers what was told of the reply. `now` is in seconds since 1970.
+    /// Handles a request, and answers what the sink told of its reply, or of the last that was handed over where there are several. `now` is
+    /// in seconds since 1970.
     ///
     /// After an `Err` no reply was handed over.
     fn handle_request<R: ResponseHandler>(

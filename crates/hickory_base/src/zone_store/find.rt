@@ -1,6 +1,6 @@
 //! How the sets of a zone are found.
 
-ghost use Rattle.std.specs.Prelude.{◌≡◌, ◌++◌, IfOk, OnOk, IfSome, Some};
+ghost use Rattle.std.specs.Prelude.{◌≡◌, ◌==◌, ◌++◌, IfOk, OnOk, IfSome, Some, is_some, not};
 ghost use Rattle.std.specs.Option.{option_copied};
 ghost use Rattle.std.specs.Map.{lookup};
 ghost use Rattle.hickory_base.specs.zone_store.Lookups.{stored_result};
@@ -184,7 +184,8 @@ pub(crate) fn find_stored<'m>(
     record_type: RecordType,
 ) -> Option<StoredAnswer<'m>>
     requires { first.now.record_type ≡ 0 }
-    ensures { IfSome result (λ answer. stored_result answer ≡ zone_answer (sets_of sets.now) first.now.name record_type) }
+    ensures found { IfSome result (λ answer. stored_result answer ≡ zone_answer (sets_of sets.now) first.now.name record_type) }
+    ensures lends { is_some result ≡ not (record_type == 255) }
 {
     if record_type.value() == RecordType::ANY.value() {
         return None;

@@ -1,9 +1,15 @@
 //! How a zone that is held in memory answers.
 
-ghost use Rattle.std.specs.Prelude.{◌≡◌, Err, None, Some, false};
-ghost use Rattle.hickory_base.specs.zone_store.ZoneAnswers.{LookedUp, OrMemory, Searched, Transferred, transfer_answer};
+ghost use Rattle.std.specs.Prelude.{◌≡◌, [], Err, IfSome, None, Ok, Some, false, is_some};
+ghost use Rattle.std.specs.Map.{lookup};
+ghost use Rattle.std.specs.Option.{option_copied};
+ghost use Rattle.hickory_base.specs.requests.Questions.{one_query};
+ghost use Rattle.hickory_base.specs.zone_store.Lookups.{stored_result};
+ghost use Rattle.hickory_base.specs.zone_store.ZoneAnswers.{LookedUp, OrMemory, Searched, Transferred, asks_for_set, transfer_answer};
+ghost use Rattle.hickory_base.specs.zone_store.ZoneSets.{is_key};
 ghost use Rattle.hickory_base.specs.declared.errors.UpdateFault.TheVariants.{Code};
-ghost use Rattle.hickory_base.specs.declared.zone_store.lookup.LookupControlFlow.TheVariants.{Skip};
+ghost use Rattle.hickory_base.specs.declared.zone_store.lookup.AuthLookup.TheVariants.{Records};
+ghost use Rattle.hickory_base.specs.declared.zone_store.lookup.LookupControlFlow.TheVariants.{Continue, Skip};
 
 use crate::errors::{LookupError, UpdateFault};
 use crate::server::{Request, RequestInfo};
@@ -100,18 +106,22 @@ impl ZoneHandler for InMemoryZoneHandler {
         )
     }
 
-    fn stored_answer(
-        &self,
-        request: &Request,
-        _options: LookupOptions,
-    ) -> Option<StoredAnswer<'_>> {
+    /// What is stored for the one question, unless records of any type are asked for.
+    fn stored_answer(&self, request: &Request, _options: LookupOptions) -> Option<StoredAnswer<'_>>
+        ensures stored { IfSome result (λ answer. Searched self.now request.now (Continue (stored_result answer))) }
+        ensures lends { is_some result ≡ asks_for_set (one_query request.now.message.queries.queries) }
+    {
         match request.message().queries.try_as_query() {
             Ok(query) => find_stored(&self.records, query.first_key(), query.query_type()),
             Err(_) => None,
         }
     }
 
-    fn stored_soa(&self, _options: LookupOptions) -> Option<&[Record]> {
+    /// The records of type SOA at the origin, where there are any.
+    fn stored_soa(&self, _options: LookupOptions) -> Option<&[Record]>
+        ensures stored { IfSome result (λ records. LookedUp self.now self.now.origin 6 (Continue (Ok (Records records.now [])))) }
+        ensures lends { option_copied result ≡ lookup (is_key self.now.origin 6) self.now.sets }
+    {
         self.soa_set()
     }
 

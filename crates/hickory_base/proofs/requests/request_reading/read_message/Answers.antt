@@ -22,3 +22,6 @@ returns-clause-found c = reads_from_gives c.read_in_place.new.self c.read_in_pla
 
 pub returns-clause-questions : goal.returns-clause-questions
 returns-clause-questions c = questions_stand c.read_in_place.new.self c.read_in_place.result c.args.bytes.now c.new.result (λ k. omega (arith, c.type_inv.bytes k)) c.new.ensures c.read_in_place.ensures.questions
+
+pub returns-clause-bytes : goal.returns-clause-bytes
+returns-clause-bytes c = λ k. omega (arith, c.type_inv.bytes k)
