@@ -12,6 +12,7 @@ use Rattle.wire_messages.specs.declared.rr.rdata.RData.{RData}
 use Rattle.wire_messages.specs.declared.rr.record.Record.{Record}
 use Rattle.wire_messages.specs.declared.rr.tsig.TSigResponseContext.{TSigResponseContext}
 use Rattle.hickory_base.specs.Failures.{is_nx_domain}
+use Rattle.hickory_base.specs.requests.Questions.{edns_version}
 use Rattle.hickory_base.specs.requests.Requests.{ReceivedRequest}
 use Rattle.hickory_base.specs.declared.errors.LookupError.{LookupError}
 use Rattle.hickory_base.specs.declared.errors.LookupError.TheVariants.{ResponseCode}
@@ -30,7 +31,9 @@ use Rattle.hickory_catalog.specs.Forwarded.{findings_contents, findings_of, forw
 use Rattle.hickory_catalog.specs.ForwardedLaws.{ForwardedCodes, is_one_of}
 use Rattle.hickory_catalog.specs.Queries.{GivenReplies, HandlerReply, QueryReplies, ReplyByType, ZoneReplies, ZoneReply, lookup, no_zone, one, other_count, split, transfer, unanswered, untransferred, whole, whole_contents, zone}
 use Rattle.hickory_catalog.specs.Replies.{Contents, bare_contents, error_reply, unsigned_reply}
-use Rattle.hickory_catalog.specs.ReplyEdns.{with_high_code}
+use Rattle.hickory_catalog.specs.ReplyEdns.{reply_edns, with_high_code}
+use Rattle.hickory_catalog.specs.Requests.{RequestAnswered, header_fault, is_request, request_fault}
+use Rattle.hickory_catalog.specs.Requests as comes_to
 use Rattle.hickory_catalog.specs.Server.{Server}
 use Rattle.hickory_catalog.specs.Signing.{SignedReply, Signer, failed, plain, signed}
 use Rattle.hickory_catalog.specs.Transfers.{message_of_transfer, transfer_contents, transfer_fault}
@@ -159,3 +162,30 @@ update_fits server request edns now reply zones updates (no_apex _ _ is _) = err
 update_fits server request edns now reply zones updates (no_handler _ _ is _) = error_is request.message edns reply 2 (omega arith) is
 update_fits server request edns now reply zones updates (answered _ _ _ small s) =
     signed_fits request.message edns server.signer _ _ reply s (record { id = refl; op_code = sym updates; response_code = small; untruncated = refl })
+
+-- a code for which a request is not looked into has twelve bits
+header_small : (asks known : Bool) (code : ℕ) → cond asks (cond known None (Some 4)) (Some 1) ≡ Some code → code < 2 ^ 12
+header_small true true code e = absurd cc
+header_small true false code e = let same : 4 ≡ code = cc in omega arith
+header_small false known code e = let same : 1 ≡ code = cc in omega arith
+
+fault_small : (version : Bool) (fault : Option ℕ) (code : ℕ) → cond version fault (Some 16) ≡ Some code → (fault ≡ Some code → code < 2 ^ 12) → code < 2 ^ 12
+fault_small true fault code e small = small e
+fault_small false fault code e small = let same : 16 ≡ code = cc in omega arith
+
+refusal_small : (request : MessageRequest) (code : ℕ) → request_fault request ≡ Some code → code < 2 ^ 12
+refusal_small request code e =
+    fault_small (edns_version request.edns == 0) (header_fault request) code e
+    (header_small (is_request request.metadata.message_type) (request.metadata.op_code == 0 || request.metadata.op_code == 5) code)
+
+-- so is each reply to a request
+pub request_fits : {H : Type 0} (server : Server H) → ForwardedCodes → AuthoritativeCodes server.handler → (request : ReceivedRequest) (now : ℕ) (replies : List Reply) (zones : List (DomainName × List H))
+    → RequestAnswered server request now replies zones → AllByRecursion (RepliesTo request.message (reply_edns server.identifier request.message.edns)) replies
+request_fits server forwarded codes request now replies zones (comes_to.refused {code = code} fault is unchanged) =
+    let edns = reply_edns server.identifier request.message.edns in
+    fits_alone request.message edns (error_reply request.message edns code) replies is (error_fits request.message edns code (refusal_small request.message code fault))
+request_fits server forwarded codes request now replies zones (comes_to.asks fault query a) = query_fits server forwarded codes request (reply_edns server.identifier request.message.edns) now replies a.are_replies
+request_fits server forwarded codes request now replies zones (comes_to.updates fault is a) =
+    let edns = reply_edns server.identifier request.message.edns in
+    let op_code : request.message.metadata.op_code ≡ 5 = grind (arith, nat_tests) in
+    fits_alone request.message edns a.reply replies a.only (update_fits server request edns now a.reply zones op_code a.is_reply)

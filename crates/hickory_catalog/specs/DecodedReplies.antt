@@ -1,14 +1,14 @@
 -- What the bytes of a catalog's reply are read as.
-use Rattle.std.specs.Prelude.{◌≡◌, ℕ, ◌+◌, ◌<◌, ◌≤◌, ◌^◌, false, List, [], length, take, slice_range, Option, IfSome}
+use Rattle.std.specs.Prelude.{◌≡◌, ℕ, ◌+◌, ◌<◌, ◌≤◌, ◌^◌, false, List, [], length, Option, IfSome}
 use Rattle.std.specs.List.{AllByRecursion}
 use Rattle.wire_messages.specs.op.EdnsFields.{EdnsFields}
 use Rattle.wire_names.specs.rr.domain.DomainName.{DomainName}
-use Rattle.wire_messages.specs.serialize.layout.MessageLayout.{ItemsAt}
-use Rattle.wire_messages.specs.serialize.layout.QuestionLayout.{QuestionAt, IsFormedQuestion}
+use Rattle.wire_messages.specs.serialize.layout.MessageLayout.{IsPlainRecord}
 use Rattle.wire_reading.specs.serialize.reading.MessageReading.{Reads}
-use Rattle.hickory_wire.specs.serialize.writing.Decoding.{IsFormedEdns, IsReadable, IsReadableSignature, decoded_message, without_proof}
+use Rattle.hickory_wire.specs.serialize.writing.Decoding.{decoded_message, without_proof}
 use Rattle.hickory_wire.specs.serialize.writing.ReadingBack.{ReadsBack}
 use Rattle.wire_messages.specs.serialize.writing.Reply.{Reply, reply_lists, size_limit}
+use Rattle.wire_messages.specs.serialize.writing.ReplyRanges.{IsEdnsInRange}
 use Rattle.hickory_wire.specs.serialize.writing.ReplyParts.{ReplyEncoded}
 use Rattle.wire_writing.specs.serialize.writing.Writing.{Fronts, Written, written_header}
 use Rattle.wire_messages.specs.declared.op.header.Header.{Header}
@@ -16,12 +16,14 @@ use Rattle.wire_messages.specs.declared.op.header.Metadata.{Metadata}
 use Rattle.wire_messages.specs.declared.op.query.Query.{Query}
 use Rattle.wire_messages.specs.declared.protocol.Protocol.{Protocol}
 use Rattle.wire_messages.specs.declared.rr.tsig.TSigResponseContext.{TSigResponseContext}
+use Rattle.hickory_base.specs.requests.RepeatableQuestions.{HasRepeatableQuestions}
 use Rattle.hickory_base.specs.requests.Requests.{ReceivedRequest}
 use Rattle.hickory_base.specs.declared.requests.message_request.MessageRequest.{MessageRequest}
 use Rattle.hickory_base.specs.declared.zone_store.handler.ZoneHandler.{Ghosts}
 use Rattle.hickory_catalog.specs.Queries.{QueryReplies}
 use Rattle.hickory_catalog.specs.Replies.{Contents, error_reply}
 use Rattle.hickory_catalog.specs.ReplyEdns.{reply_edns, with_high_code}
+use Rattle.hickory_catalog.specs.Requests.{RequestAnswered}
 use Rattle.hickory_catalog.specs.Server.{server_of}
 use Rattle.hickory_catalog.specs.Signing.{Signer, SignedReply}
 use Rattle.hickory_catalog.specs.Updates.{UpdateReply}
@@ -54,6 +56,12 @@ UpdateRepliesFit {S} {H} handler signature_for = (catalog : Catalog S H) (reques
     → request.message.metadata.op_code ≡ 5
     → UpdateReply (server_of handler signature_for catalog) request edns now reply zones → RepliesTo request.message edns reply
 
+-- so is each reply to a request, whatever it comes to,
+abbrev pub RequestRepliesFit : {S H : Type 0} → Ghosts H → (S → Signer) → Type 0
+RequestRepliesFit {S} {H} handler signature_for = (catalog : Catalog S H) (request : ReceivedRequest) (now : ℕ) (replies : List Reply) (zones : List (DomainName × List H))
+    → RequestAnswered (server_of handler signature_for catalog) request now replies zones
+    → AllByRecursion (RepliesTo request.message (reply_edns catalog.nsid request.message.edns)) replies
+
 -- each error reply,
 abbrev pub ErrorRepliesFit : Type 0
 ErrorRepliesFit = (request : MessageRequest) (edns : Option EdnsFields) (code : ℕ) → code < 2 ^ 12 → RepliesTo request edns (error_reply request edns code)
@@ -67,25 +75,15 @@ SignedRepliesFit = (signer : Signer) (request : MessageRequest) (edns : Option E
 -- 6.2.3).
 abbrev pub ReplyEdnsFits : Type 0
 ReplyEdnsFits = (identifier : Option (List ℕ)) (asked : Option EdnsFields)
-    → IfSome (reply_edns identifier asked) IsFormedEdns
+    → IfSome (reply_edns identifier asked) IsEdnsInRange
     × ((protocol : Protocol) (code : ℕ) → 512 ≤ size_limit protocol (with_high_code code (reply_edns identifier asked)))
-
--- The questions of the request stand one behind the other behind its header, and the bytes that are repeated of them are those from there to the
--- end of the last (RFC 1035 section 4.1.2). No name in them leads into the header or runs on behind the last question.
-pub record HasRepeatableQuestions (request : ReceivedRequest) : Type 0 where
-  pub stop : ℕ
-  pub within : stop ≤ length request.bytes
-  pub stand : ItemsAt (QuestionAt 12 (take stop request.bytes)) 12 request.message.queries.queries stop
-  pub formed : AllByRecursion IsFormedQuestion request.message.queries.queries
-  pub bytes_are : request.message.queries.bytes ≡ slice_range request.bytes 12 stop
 
 -- Each record of the reply, OPT and TSIG among them, reads back as itself but for its proof, and no OPT, TSIG or SIG stands among the others.
 pub record HasReadableRecords (reply : Reply) : Type 0 where
-  pub answers : AllByRecursion IsReadable reply.answers
-  pub authorities : AllByRecursion IsReadable reply.authorities
-  pub additionals : AllByRecursion IsReadable reply.additionals
-  pub signature : IfSome reply.signature IsReadableSignature
   pub records : AllByRecursion (AllByRecursion (λ r. ReadsBack (without_proof r))) (reply_lists reply)
+  pub plain_answers : AllByRecursion IsPlainRecord reply.answers
+  pub plain_authorities : AllByRecursion IsPlainRecord reply.authorities
+  pub plain_additionals : AllByRecursion IsPlainRecord reply.additionals
 
 -- The bytes are the reply, of whose lists so much was written; the header is the one that tells this; and the bytes are read as that header,
 -- the questions and what was written.
@@ -99,8 +97,6 @@ pub record ReplyDecodes (limit : ℕ) (reply : Reply) (queries : List Query) (by
 -- limit has room for header and questions, the questions are such as can be repeated, and the records read back.
 abbrev pub CatalogReplyDecodes : Type 0
 CatalogReplyDecodes = (request : ReceivedRequest) (edns : Option EdnsFields) (reply : Reply) (limit : ℕ) (bytes : List ℕ) (header : Header)
-    → RepliesTo request.message edns reply
-    → request.message.metadata.id < 2 ^ 16 → request.message.metadata.op_code < 2 ^ 4
-    → HasRepeatableQuestions request → IfSome edns IsFormedEdns → HasReadableRecords reply
-    → 12 + length request.message.queries.bytes ≤ limit → limit < 2 ^ 16
+    → RepliesTo request.message edns reply → HasRepeatableQuestions request → HasReadableRecords reply
+    → 12 + length request.message.queries.bytes ≤ limit
     → ReplyEncoded limit reply bytes header → ReplyDecodes limit reply request.message.queries.queries bytes header

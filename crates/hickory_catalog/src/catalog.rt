@@ -91,6 +91,13 @@ impl<S: ReplySigner, H: ZoneHandler> Catalog<S, H> {
         self.zones.find(name)
     }
 
+    /// The zones stand in the order of their names, each name once, as those of any catalog do. It does nothing: laws of zones ask for this.
+    pub fn zones_in_order(&self)
+        ensures { AreInOrder self.now.zones }
+    {
+        self.zones.in_order();
+    }
+
     /// Sets what identifies the server (RFC 5001), or that nothing does. It takes no memory.
     pub fn set_nsid(&mut self, payload: Option<NSIDPayload>)
         ensures { self.new ≡ record self.old { nsid = payload } }

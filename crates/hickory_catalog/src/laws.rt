@@ -6,7 +6,7 @@ ghost use Rattle.wire_messages.specs.declared.op.header.Header.{Header};
 ghost use Rattle.wire_messages.specs.declared.op.header.Metadata.{Metadata};
 ghost use Rattle.hickory_catalog.specs.Alone.{ApexesStay, OfZoneIsDecided, OneChain, OthersStay, ServedAlone};
 ghost use Rattle.hickory_catalog.specs.AuthoritativeLaws.{AuthoritativeCodes, AuthoritativeHeaders, NegativeReplies, ReferralsAreNoAnswers};
-ghost use Rattle.hickory_catalog.specs.DecodedReplies.{CatalogReplyDecodes, ErrorRepliesFit, QueryRepliesFit, ReplyEdnsFits, SignedRepliesFit, UpdateRepliesFit};
+ghost use Rattle.hickory_catalog.specs.DecodedReplies.{CatalogReplyDecodes, ErrorRepliesFit, QueryRepliesFit, ReplyEdnsFits, RequestRepliesFit, SignedRepliesFit, UpdateRepliesFit};
 ghost use Rattle.hickory_catalog.specs.ForwardedLaws.{AuthenticWhereProved, DnssecRecordsOnDemand, ForwardedCodes, ForwardedHeaders, NothingBogusPassedOn, RefusedWithoutRecursion, SoaOfNegativeAnswer};
 ghost use Rattle.hickory_catalog.specs.OneReply.{OneReply};
 ghost use Rattle.hickory_catalog.specs.Sending.{AreTaken, SendsInOrder};
@@ -16,7 +16,7 @@ use crate::signer::ReplySigner;
 use hickory_base::server::ResponseHandler;
 use hickory_base::zone_store::ZoneHandler;
 use hickory_wire::encoder_laws::what_reads_back_is_written;
-use hickory_wire::record_laws::questions_of_replies;
+use hickory_wire::record_laws::{questions_of_replies, reading_back};
 
 /// What a reply of a server that asked elsewhere may say: AA never, RA always, AD only where all is proved and it was asked for, no record
 /// with a wrong proof but to a client that checks for itself, no DNSSEC record that was not asked for, with a negative answer the SOA that
@@ -40,11 +40,12 @@ pub fn authoritative_replies<H: ZoneHandler>()
     ensures negative { NegativeReplies H.ZoneHandler }
 {}
 
-/// What the replies of a catalog, to a query, to an update or with an error, have of their requests: id, opcode, questions, and EDNS with the
+/// What the replies of a catalog, to a query, to an update, with an error, or to whatever the request is, have of their requests: id, opcode, questions, and EDNS with the
 /// high bits of their code. None has TC of its own (RFC 1035 section 4.1.1, RFC 6891 section 6.1.3).
 pub fn replies_of_requests<S: ReplySigner, H: ZoneHandler>()
     ensures queries { QueryRepliesFit H.ZoneHandler S.signature_for }
     ensures updates { UpdateRepliesFit H.ZoneHandler S.signature_for }
+    ensures requests { RequestRepliesFit H.ZoneHandler S.signature_for }
     ensures errors { ErrorRepliesFit }
     ensures signed { SignedRepliesFit }
     ensures edns { ReplyEdnsFits }
@@ -63,6 +64,7 @@ pub fn replies_decode()
 {
     what_reads_back_is_written();
     questions_of_replies();
+    reading_back();
 }
 
 /// What the replies of a transfer that is sent in as many as it takes have of it: their answers, one after the other, are its records; there is one

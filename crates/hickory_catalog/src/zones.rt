@@ -47,6 +47,13 @@ impl<H: Drop> Zones<H> {
         }
     }
 
+    /// The zones stand in the order of their names, each name once, as any `Zones` do. It does nothing.
+    pub fn in_order(&self)
+        ensures { AreInOrder self.now }
+    {
+        let _ = &self.chains;
+    }
+
     /// Puts a chain of handlers at a name, and hands back the chain that was there. Where memory is refused, nothing
     /// changes and both arguments are handed back.
     pub fn upsert(

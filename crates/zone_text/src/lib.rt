@@ -19,5 +19,5 @@ pub use data::read_data;
 pub use error::{TextError, TextFault, ZoneFileError, ZoneFileFault};
 pub use message::MessageText;
 pub use names::read_name;
-pub use record::{read_class, read_record, read_type};
+pub use record::read_record;
 pub use zone_file::read_zone_file;

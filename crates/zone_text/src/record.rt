@@ -26,24 +26,6 @@ pub(crate) fn class_of(word: &Word<'_>) -> Result<DNSClass, TextError> {
     text.parse::<DNSClass>().map_err(|_| unknown)
 }
 
-/// Reads a type: its mnemonic, in any letter case, or `TYPE` and a number of 16 bits (RFC 3597 section 5). Blanks may stand around it,
-/// and a comment behind it.
-pub fn read_type(text: &str) -> Result<RecordType, TextError> {
-    let mut words = Words::new(text);
-    let record_type = type_of(&words.field()?)?;
-    words.end()?;
-    Ok(record_type)
-}
-
-/// Reads a class: its mnemonic, in any letter case, or `CLASS` and a number of 16 bits (RFC 3597 section 5). Blanks may stand around it,
-/// and a comment behind it.
-pub fn read_class(text: &str) -> Result<DNSClass, TextError> {
-    let mut words = Words::new(text);
-    let class = class_of(&words.field()?)?;
-    words.end()?;
-    Ok(class)
-}
-
 /// Reads a record from a line of a zone's text (RFC 1035 section 5.1): owner name, TTL in seconds, class, type and data, with blanks
 /// between, as `www.example.com. 3600 IN A 192.0.2.1`. A comment may stand behind it, from `;` on.
 ///

@@ -3,8 +3,8 @@ use Rattle.hickory_catalog.proofs.DecodedReplies.{reads_back}
 use Rattle.hickory_catalog.proofs.laws.replies_decode.Goals as goal
 
 pub returns : goal.returns
-returns c = λ request edns reply limit bytes header to id op_code questions formed readable fits small made.
-    let back = reads_back c.questions_of_replies.ensures.several request edns reply to questions id op_code formed readable in
+returns c = λ request edns reply limit bytes header to questions readable fits made.
+    let back = reads_back c.questions_of_replies.ensures.several request edns reply to questions c.reading_back.ensures.records c.reading_back.ensures.parts readable in
     let room : 12 + length reply.question ≤ limit = subst (λ (q : List ℕ). 12 + length q ≤ limit) (sym to.question) fits in
-    let w = c.what_reads_back_is_written.ensures limit reply bytes header request.message.queries.queries small back room made.encoded in
+    let w = c.what_reads_back_is_written.ensures limit reply bytes header request.message.queries.queries back room made.encoded in
     record { fronts = w.0; written = w.1; header_is = w.2; reads = made.reads w.0 request.message.queries.queries w.1 back.decodable }
