@@ -1,2 +1,3 @@
 pub mod Isolation
+pub mod MadeReplies
 pub mod Runs

@@ -1,3 +1,4 @@
 pub mod Isolation
 pub mod Serving
 pub mod ZoneOfText
+pub mod ZoneReplies

@@ -14,3 +14,5 @@ pub use hickory_catalog::catalog::Catalog;
 pub use hickory_catalog::signer::{ReplySigner, SignError};
 pub use hickory_catalog::zones::find_laws;
 pub use hickory_catalog::{catalog, laws};
+
+pub mod zone_laws;

@@ -1,6 +1,7 @@
 -- How a chain ends, where it lies.
 use Rattle.std.specs.Prelude.{◌≡◌, ℕ, [], ◌∷◌, ◌++◌}
 use Rattle.wire_names.specs.rr.domain.DomainName.{DomainName}
+use Rattle.wire_names.specs.rr.domain.NameOrder.{lower_name}
 use Rattle.hickory_zone.specs.declared.chains.ChainEnd.{ChainEnd}
 use Rattle.hickory_zone.specs.declared.chains.ChainEnd.TheVariants as at
 use Rattle.hickory_zone.specs.declared.chains.Link.{Link}
@@ -36,7 +37,7 @@ pub record IsStep (gained : Step) (old new : Records) (link : Link) : Type 0 whe
 -- What was put there for one name.
 pub record Linked (zone : Zone) (t : ℕ) (name : DomainName) (old new : Records) (link : Link) : Type 0 where
   pub outcome : Outcome
-  pub says : Answers zone name t outcome
+  pub says : Answers zone (lower_name name) t outcome
   pub gained : IsStep (step t old name outcome) old new link
 
 -- how the chain ends where any type was asked for and these are the records of the name

@@ -1,5 +1,5 @@
 -- Answers with CNAMEs followed (RFC 1034 sections 3.6.2 and 4.3.2, step 3a), and with names that are redirected (RFC 6672 section 3.2).
-use Rattle.std.specs.Prelude.{◌≡◌, Bool, ℕ, zero, suc, true, false, cond, ◌==◌, ◌&&◌, [], ◌∷◌, ◌++◌, Option, Some, None}
+use Rattle.std.specs.Prelude.{◌≡◌, Bool, ℕ, zero, suc, true, false, cond, ◌==◌, ◌&&◌, [], ◌∷◌, ◌++◌, map, Option, Some, None}
 use Rattle.std.specs.List.{list_any}
 use Rattle.std.specs.Option.{IsSomeAnd}
 use Rattle.wire_names.specs.rr.domain.DomainName.{DomainName}
@@ -9,7 +9,7 @@ use Rattle.wire_messages.specs.declared.rr.rdata.RData.TheVariants as rdata
 use Rattle.wire_messages.specs.declared.rr.record.Record.{Record}
 use Rattle.hickory_base.specs.zone_store.ZoneRecords.{is_at}
 use Rattle.hickory_zone.specs.Redirections.{cname_for, is_too_long, substitute, target_in}
-use Rattle.hickory_zone.specs.Zones.{Answers, Outcome, Records, Zone, answer, alias, referral, no_data, no_name, redirection, type_cname, type_dname}
+use Rattle.hickory_zone.specs.Zones.{Answers, Outcome, Records, Zone, answer, alias, wild_answer, wild_alias, referral, no_data, no_name, redirection, type_cname, type_dname}
 
 -- the name that data of a CNAME give
 abbrev pub canonical_in : RData → Option DomainName
@@ -57,6 +57,10 @@ abbrev pub once : Records → Records → Records
 once before [] = []
 once before (r ∷ rs) = cond (owns_dname r.name before) [] (r ∷ rs)
 
+-- the records of a wildcard as those of a name, which is spelled as it was asked (RFC 4592 section 3.3.1)
+abbrev pub owned_by : DomainName → Records → Records
+owned_by name rs = map {A = Record RData} {B = Record RData} (λ r. record r { name = name }) rs
+
 -- What a chain gains at a name: records with which it ends, or records that lead on to a name, if they give one.
 pub data Step : Type 0 where
   ends : Records → Ending → Step
@@ -79,22 +83,25 @@ redirect t name k put (r ∷ rs) = redirect_to t name k put r (target_in r.rdata
 abbrev pub step : ℕ → Records → DomainName → Outcome → Step
 step t before name (answer rs) = ends rs answered
 step t before name (alias rs) = leads rs (canonical rs)
+step t before name (wild_answer rs) = ends (owned_by name rs) answered
+step t before name (wild_alias rs) = leads (owned_by name rs) (canonical rs)
 step t before name (referral servers) = ends [] (referred servers)
 step t before name no_data = ends [] without
 step t before name no_name = ends [] missing
 step t before name (redirection k dname) = redirect t name k (once before dname) dname
 
--- The records that the answer section gains for a name and a type, where it has some of a chain before, with at most so many CNAMEs followed, and how they end. A
+-- The records that the answer section gains for a name and a type, where it has some of a chain before, with at most so many CNAMEs followed, and how they end. The name is
+-- spelled as it was asked, and what is synthesized keeps that; it is looked for in lower case. A
 -- chain goes on to no name that owns a CNAME of it already (RFC 1034 section 3.6.2).
 pub data Chases (zone : Zone) (t : ℕ) : ℕ → Records → DomainName → Records → Ending → Type 0 where
-  finishes : {left : ℕ} {before : Records} {name : DomainName} {outcome : Outcome} {rs : Records} {ending : Ending} → Answers zone name t outcome → step t before name outcome ≡ ends rs ending → Chases zone t left before name rs ending
-  follows : {left : ℕ} {before : Records} {name target : DomainName} {outcome : Outcome} {rs rest : Records} {ending : Ending} → Answers zone name t outcome → step t before name outcome ≡ leads rs (Some target) → IsIn zone target
-      → owns_cname target (before ++ rs) ≡ false → Chases zone t left (before ++ rs) (lower_name target) rest ending → Chases zone t (suc left) before name (rs ++ rest) ending
-  comes_back : {left : ℕ} {before : Records} {name target : DomainName} {outcome : Outcome} {rs : Records} → Answers zone name t outcome → step t before name outcome ≡ leads rs (Some target)
+  finishes : {left : ℕ} {before : Records} {name : DomainName} {outcome : Outcome} {rs : Records} {ending : Ending} → Answers zone (lower_name name) t outcome → step t before name outcome ≡ ends rs ending → Chases zone t left before name rs ending
+  follows : {left : ℕ} {before : Records} {name target : DomainName} {outcome : Outcome} {rs rest : Records} {ending : Ending} → Answers zone (lower_name name) t outcome → step t before name outcome ≡ leads rs (Some target) → IsIn zone target
+      → owns_cname target (before ++ rs) ≡ false → Chases zone t left (before ++ rs) target rest ending → Chases zone t (suc left) before name (rs ++ rest) ending
+  comes_back : {left : ℕ} {before : Records} {name target : DomainName} {outcome : Outcome} {rs : Records} → Answers zone (lower_name name) t outcome → step t before name outcome ≡ leads rs (Some target)
       → owns_cname target (before ++ rs) ≡ true → Chases zone t left before name rs left_open
-  leaves : {left : ℕ} {before : Records} {name : DomainName} {outcome : Outcome} {rs : Records} {to : Option DomainName} → Answers zone name t outcome → step t before name outcome ≡ leads rs to
+  leaves : {left : ℕ} {before : Records} {name : DomainName} {outcome : Outcome} {rs : Records} {to : Option DomainName} → Answers zone (lower_name name) t outcome → step t before name outcome ≡ leads rs to
       → ¬ (IsSomeAnd to (IsIn zone)) → Chases zone t left before name rs left_open
-  stops : {before : Records} {name : DomainName} {outcome : Outcome} {rs : Records} {to : Option DomainName} → Answers zone name t outcome → step t before name outcome ≡ leads rs to → Chases zone t zero before name rs left_open
+  stops : {before : Records} {name : DomainName} {outcome : Outcome} {rs : Records} {to : Option DomainName} → Answers zone (lower_name name) t outcome → step t before name outcome ≡ leads rs to → Chases zone t zero before name rs left_open
 
 -- A chain has one answer section and one ending.
 abbrev pub OneChain : Type 0

@@ -6,7 +6,7 @@ use Rattle.wire_names.specs.rr.domain.DomainName.{DomainName}
 use Rattle.wire_names.specs.rr.domain.NameOrder.{Encloses}
 use Rattle.wire_messages.specs.declared.rr.rr_key.RrKey.{RrKey}
 use Rattle.hickory_base.specs.zone_store.ZoneAnswers.{records_at}
-use Rattle.hickory_zone.specs.Zones.{Records, Sets, Zone, any_of, at_node, type_dname, type_ns, Delegates, Exists, HasClosestEncloser, HasDname, IsAuthoritativeAt, IsCut, Outcome, Redirects, answer, alias, referral, no_data, no_name, redirection, ancestor, owned_by, rrset, synthesized, wildcard}
+use Rattle.hickory_zone.specs.Zones.{Records, Sets, Zone, any_of, at_node, type_dname, type_ns, Delegates, Exists, HasClosestEncloser, HasDname, IsAuthoritativeAt, IsCut, Outcome, Redirects, answer, alias, referral, no_data, no_name, redirection, ancestor, by_wildcard, rrset, wild_alias, wild_answer, wildcard}
 use Rattle.hickory_zone.specs.declared.find.Found.{Found}
 use Rattle.hickory_zone.specs.declared.find.Found.TheVariants as found
 use Rattle.hickory_zone.specs.declared.find.Neighbours.{Neighbours}
@@ -58,7 +58,7 @@ higher labels false (Some dname) below = Some (record { dname = dname; labels = 
 -- From the name up these DNAME records are the highest, and the zone is cut neither there nor above.
 pub record IsTopDname (zone : Zone) (name : DomainName) (by : Redirection) : Type 0 where
   pub off : ℕ
-  pub real : off ≤ length name.labels
+  pub is_ancestor : off ≤ length name.labels
   pub owner : HasDname zone (ancestor name off)
   pub highest : (j : ℕ) → off < j → j ≤ length name.labels → ¬ (HasDname zone (ancestor name j))
   pub uncut : (j : ℕ) → off ≤ j → ¬ (IsCut zone (ancestor name j))
@@ -76,16 +76,16 @@ outcome_of sets name (found.Answer rs) = answer rs.now
 outcome_of sets name found.Every = any_of (records_at name sets)
 outcome_of sets name (found.Alias rs) = alias rs.now
 outcome_of sets name (found.Referral rs) = referral rs.now
-outcome_of sets name (found.WildAnswer rs) = answer (owned_by name rs.now)
-outcome_of sets name (found.WildEvery key) = synthesized name (any_of (records_at key.now.name sets))
-outcome_of sets name (found.WildAlias rs) = alias (owned_by name rs.now)
+outcome_of sets name (found.WildAnswer rs) = wild_answer rs.now
+outcome_of sets name (found.WildEvery key) = by_wildcard (any_of (records_at key.now.name sets))
+outcome_of sets name (found.WildAlias rs) = wild_alias rs.now
 outcome_of sets name found.NoData = no_data
 outcome_of sets name found.NoName = no_name
 outcome_of sets name (found.Redirected by) = redirection (length name.labels - by.labels) by.dname.now
 
 -- The wildcard below the encloser stands for what does not exist there, if there is one.
 abbrev pub WildFound : Sets → DomainName → ℕ → Found → Type 0
-WildFound sets encloser t found = (Exists sets (wildcard encloser) × ((name : DomainName) → outcome_of sets name found ≡ synthesized name (at_node sets (wildcard encloser) t)))
+WildFound sets encloser t found = (Exists sets (wildcard encloser) × ((name : DomainName) → outcome_of sets name found ≡ by_wildcard (at_node sets (wildcard encloser) t)))
     ⊎ ((¬ (Exists sets (wildcard encloser))) × ((name : DomainName) → outcome_of sets name found ≡ no_name))
 
 -- the first of two RRsets that there is

@@ -3,9 +3,12 @@ pub mod ChainEnds
 pub mod Chains
 pub mod Features
 pub mod FoundRecords
+pub mod Grown
+pub mod Handled
 pub mod KeysBeside
 pub mod Redirections
 pub mod Replies
 pub mod WorkedRedirections
+pub mod WorkedReplies
 pub mod WorkedZones
 pub mod Zones

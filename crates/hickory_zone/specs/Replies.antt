@@ -1,60 +1,102 @@
--- What a zone answers as a handler of the catalog.
-use Rattle.std.specs.Prelude.{◌≡◌, ◌⊎◌, ℕ, [], ◌∷◌, Result, Ok, Err}
+-- What a zone replies to a query, as one whole reply.
+use Rattle.std.specs.Prelude.{◌≡◌, ◌==◌, ◌||◌, ℕ, Bool, true, false, not, min, [], length}
+use Rattle.std.specs.Option.{option_map, option_to_list}
 use Rattle.wire_names.specs.rr.domain.DomainName.{DomainName}
 use Rattle.wire_names.specs.rr.domain.NameOrder.{lower_name}
 use Rattle.wire_messages.specs.declared.op.query.Query.{Query}
-use Rattle.hickory_base.specs.requests.Questions.{one_query}
-use Rattle.hickory_base.specs.requests.Requests.{ReceivedRequest}
-use Rattle.hickory_base.specs.zone_store.Lookups.{Flow}
-use Rattle.hickory_base.specs.zone_store.ZoneAnswers.{MemoryZone, no_data, no_name}
-use Rattle.hickory_base.specs.declared.errors.LookupError.{LookupError}
-use Rattle.hickory_base.specs.declared.errors.LookupError.TheVariants.{Memory, ResponseCode}
-use Rattle.hickory_base.specs.declared.zone_store.lookup.AuthLookup.{AuthLookup}
-use Rattle.hickory_base.specs.declared.zone_store.lookup.AuthLookup.TheVariants as lookup
-use Rattle.hickory_base.specs.declared.zone_store.lookup.LookupControlFlow.TheVariants.{Break, Continue}
-use Rattle.hickory_zone.specs.Additionals.{additionals}
+use Rattle.wire_messages.specs.declared.rr.rdata.RData.{RData}
+use Rattle.wire_messages.specs.declared.rr.rdata.RData.TheVariants as rdata
+use Rattle.wire_messages.specs.declared.rr.record.Record.{Record}
+use Rattle.hickory_base.specs.zone_store.ZoneAnswers.{MemoryZone, first_record}
+use Rattle.hickory_base.specs.declared.zone_store.lookup.WholeReply.{WholeReply}
+use Rattle.hickory_zone.specs.declared.additionals.Source.TheVariants as source
+use Rattle.hickory_zone.specs.Additionals.{AreAdditionals, hosts_of}
 use Rattle.hickory_zone.specs.Chains.{Chases, Ending, IsIn, answered, left_open, missing, referred, too_long, without}
-use Rattle.hickory_zone.specs.Zones.{Records, Sets, Zone}
+use Rattle.hickory_zone.specs.Zones.{Records, Zone, rrset, type_soa}
 
 -- its apex and its RRsets
 abbrev pub zone_of : MemoryZone → Zone
 zone_of zone = record { origin = zone.origin; sets = zone.sets }
 
--- The records of the answer section, or the servers of a zone below (which the catalog moves to the authority section), with additionals; behind a CNAME nothing but the chain
--- tells how it ended. YXDOMAIN is 6.
-abbrev pub reply_of : Sets → Records → Ending → Result AuthLookup LookupError
-reply_of sets rs answered = Ok (lookup.Records rs (additionals sets rs))
-reply_of sets [] (referred servers) = Ok (lookup.Records servers (additionals sets servers))
-reply_of sets [] without = no_data
-reply_of sets [] missing = no_name
-reply_of sets rs too_long = Err (ResponseCode 6)
-reply_of sets [] left_open = Ok (lookup.Records [] [])
-reply_of sets (r ∷ rs) (referred servers) = Ok (lookup.Records (r ∷ rs) [])
-reply_of sets (r ∷ rs) without = Ok (lookup.Records (r ∷ rs) [])
-reply_of sets (r ∷ rs) missing = Ok (lookup.Records (r ∷ rs) [])
-reply_of sets (r ∷ rs) left_open = Ok (lookup.Records (r ∷ rs) [])
+-- Response codes by their names (RFC 1035 section 4.1.1, RFC 2136 section 2.2).
+abbrev pub code_no_error : ℕ
+code_no_error = 0
+
+abbrev pub code_nx_domain : ℕ
+code_nx_domain = 3
+
+abbrev pub code_refused : ℕ
+code_refused = 5
+
+abbrev pub code_yx_domain : ℕ
+code_yx_domain = 6
+
+-- a reply by its code, AA, and the answer, authority and additional sections
+abbrev pub whole : ℕ → Bool → Records → Records → Records → WholeReply
+whole code authoritative answers authorities additionals = record { response_code = code; authoritative = authoritative; answers = answers; authorities = authorities; additionals = additionals }
+
+-- how long a denial may be kept: the lesser of the TTL of the SOA and its field MINIMUM (RFC 2308 section 3)
+abbrev pub denial_ttl : ℕ → RData → ℕ
+denial_ttl ttl (rdata.SOA soa) = min ttl soa.minimum
+denial_ttl ttl other = ttl
+
+abbrev pub for_denial : Record RData → Record RData
+for_denial r = record r { ttl = denial_ttl r.ttl r.rdata }
+
+-- the SOA record of the zone, as it stands in the authority section of a denial
+abbrev pub denial_soa : Zone → Records
+denial_soa zone = option_to_list (option_map for_denial (first_record (rrset zone.sets zone.origin type_soa)))
+
+-- What is replied where the answer section has these records of a chain, which ends so. The code is that of the last name of the chain (RFC 6604 section 3), YXDOMAIN where a
+-- DNAME makes it too long (RFC 6672 section 2.2). AA is that of the first name of the answer section (RFC 1035 section 4.1.1), so a referral has it behind an alias alone
+-- (RFC 1034 section 6.2.6). Servers of a zone below stand in the authority section (RFC 1034 section 4.3.2, step 3b), and so does the SOA of a denial (RFC 2308 section 3).
+abbrev pub reply_of : Zone → Records → Ending → Records → WholeReply
+reply_of zone chain answered additionals = whole code_no_error true chain [] additionals
+reply_of zone chain (referred servers) additionals = whole code_no_error (not (length chain == 0)) chain servers additionals
+reply_of zone chain without additionals = whole code_no_error true chain (denial_soa zone) additionals
+reply_of zone chain missing additionals = whole code_nx_domain true chain (denial_soa zone) additionals
+reply_of zone chain too_long additionals = whole code_yx_domain true chain [] additionals
+reply_of zone chain left_open additionals = whole code_no_error true chain [] additionals
+
+-- The additional section: the addresses of the hosts that the answers name, or of the servers of a zone below.
+abbrev pub IsCompleted : Zone → Records → Ending → Records → Type 0
+IsCompleted zone chain answered additionals = AreAdditionals source.Answer zone chain (hosts_of chain) additionals
+IsCompleted zone chain (referred servers) additionals = AreAdditionals source.Glue zone chain (hosts_of servers) additionals
+IsCompleted zone chain other additionals = additionals ≡ []
+
+pub record EndsIn (zone : Zone) (chain : Records) (ending : Ending) (reply : WholeReply) : Type 0 where
+  pub additionals : Records
+  pub completed : IsCompleted zone chain ending additionals
+  pub is : reply ≡ reply_of zone chain ending additionals
 
 -- how many CNAMEs are followed
 abbrev pub most_aliases : ℕ
 most_aliases = 8
 
--- What is answered for a name and a type, but for want of memory: outside of the zone it is Refused, which is 5.
-pub data StandardAnswer (zone : Zone) (name : DomainName) (t : ℕ) : Result AuthLookup LookupError → Type 0 where
-  elsewhere : ¬ (IsIn zone name) → StandardAnswer zone name t (Err (ResponseCode 5))
-  inside : {rs : Records} {ending : Ending} → IsIn zone name → Chases zone t most_aliases [] name rs ending → StandardAnswer zone name t (reply_of zone.sets rs ending)
+-- class IN, or any class (RFC 1035 sections 3.2.4 and 3.2.5)
+abbrev pub class_in : ℕ
+class_in = 1
 
--- the same or want of memory
-abbrev pub IsStandard : Zone → DomainName → ℕ → Result AuthLookup LookupError → Type 0
-IsStandard zone name t result = StandardAnswer zone name t result ⊎ (result ≡ Err Memory)
+abbrev pub is_class : ℕ → Bool
+is_class class = class == class_in || class == 255
 
--- a lookup
-abbrev pub StandardLookedUp : MemoryZone → DomainName → ℕ → Flow → Type 0
-StandardLookedUp zone name t answer = (result : _) × IsStandard (zone_of zone) name t result × (answer ≡ Continue result)
+-- The question is of a name in the zone and of its class, which is IN.
+pub record IsOfZone (zone : Zone) (query : Query) : Type 0 where
+  pub within : IsIn zone (lower_name query.name)
+  pub class : is_class query.query_class ≡ true
 
-abbrev pub StandardSearchedFor : MemoryZone → Result Query LookupError → Flow → Type 0
-StandardSearchedFor zone (Ok query) answer = StandardLookedUp zone (lower_name query.name) query.query_type answer
-StandardSearchedFor zone (Err e) answer = answer ≡ Break (Err e)
+-- What the zone replies where a name in it and a type are asked for.
+pub record IsReplied (zone : Zone) (name : DomainName) (t : ℕ) (reply : WholeReply) : Type 0 where
+  pub chain : Records
+  pub ending : Ending
+  pub chases : Chases zone t most_aliases [] name chain ending
+  pub ends_in : EndsIn zone chain ending reply
 
--- a request: its one question is looked up
-abbrev pub StandardSearched : MemoryZone → ReceivedRequest → Flow → Type 0
-StandardSearched zone request answer = StandardSearchedFor zone (one_query request.message.queries.queries) answer
+-- What the zone replies to a question. One that is not of it is refused, and not as authority (RFC 1035 section 4.1.1).
+pub data RepliesTo (zone : Zone) (query : Query) : WholeReply → Type 0 where
+  refuses : ¬ (IsOfZone zone query) → RepliesTo zone query (whole code_refused false [] [] [])
+  replies : {reply : WholeReply} → IsOfZone zone query → IsReplied zone query.name query.query_type reply → RepliesTo zone query reply
+
+-- A zone has at most one reply to a question.
+abbrev pub OneReply : Type 0
+OneReply = (zone : Zone) (query : Query) (one other : WholeReply) → RepliesTo zone query one → RepliesTo zone query other → one ≡ other

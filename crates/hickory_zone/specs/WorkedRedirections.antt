@@ -6,8 +6,8 @@ use Rattle.wire_messages.specs.declared.rr.rdata.RData.{RData}
 use Rattle.wire_messages.specs.declared.rr.rdata.RData.TheVariants as rdata
 use Rattle.wire_messages.specs.declared.rr.record.Record.{Record}
 use Rattle.hickory_zone.specs.Redirections.{substitute}
-use Rattle.hickory_zone.specs.WorkedZones.{address, example, owned, server}
-use Rattle.hickory_zone.specs.Zones.{Redirects, Zone, type_a, type_cname, type_dname, type_ns}
+use Rattle.hickory_zone.specs.WorkedZones.{address, example, owned, server, soa}
+use Rattle.hickory_zone.specs.Zones.{Redirects, Zone, type_a, type_cname, type_dname, type_ns, type_soa}
 
 -- d.example.
 abbrev pub old_home : DomainName
@@ -108,6 +108,7 @@ redirecting = record {
   origin = example;
   sets =
       (record { name = example; record_type = type_ns }, owned example (rdata.NS server) ∷ [])
+      ∷ (record { name = example; record_type = type_soa }, owned example soa ∷ [])
       ∷ (record { name = old_home; record_type = type_a }, owned old_home (address 1) ∷ [])
       ∷ (record { name = old_home; record_type = type_dname }, moved ∷ [])
       ∷ (record { name = cut_old; record_type = type_ns }, owned cut_old (rdata.NS server) ∷ [])

@@ -6,15 +6,9 @@ use Rattle.wire_messages.specs.declared.rr.rdata.RData.{RData}
 use Rattle.wire_messages.specs.declared.rr.rdata.RData.TheVariants as rdata
 use Rattle.wire_messages.specs.declared.rr.record.Record.{Record}
 use Rattle.hickory_zone.specs.Additionals.{type_srv}
-use Rattle.hickory_zone.specs.Zones.{Zone, type_a, type_cname, type_ns}
+use Rattle.hickory_zone.specs.Zones.{Zone, type_a, type_cname, type_mx, type_ns, type_soa}
 
--- more types by their names (RFC 1035 section 3.2.2)
-abbrev pub type_soa : ℕ
-type_soa = 6
-
-abbrev pub type_mx : ℕ
-type_mx = 15
-
+-- a type more by its name (RFC 1035 section 3.2.2)
 abbrev pub type_txt : ℕ
 type_txt = 16
 
@@ -82,8 +76,9 @@ ghost_any = named (codes "ghost" ∷ codes "*" ∷ codes "example" ∷ [])
 abbrev pub server : DomainName
 server = named (codes "ns" ∷ codes "example" ∷ codes "com" ∷ [])
 
-abbrev pub start : RData
-start = rdata.SOA (record { mname = server; rname = server; serial = 7; refresh = 3600; retry = 1800; expire = 604800; minimum = 86400 })
+-- an SOA by which denials may be kept for five minutes
+abbrev pub soa : RData
+soa = rdata.SOA (record { mname = server; rname = server; serial = 7; refresh = 3600; retry = 1800; expire = 604800; minimum = 300 })
 
 -- "this is a wildcard", and "this is not a wildcard"
 abbrev pub text : RData
@@ -106,7 +101,7 @@ wildcards = record {
   origin = example;
   sets =
       (record { name = example; record_type = type_ns }, owned example (rdata.NS server) ∷ [])
-      ∷ (record { name = example; record_type = type_soa }, owned example start ∷ [])
+      ∷ (record { name = example; record_type = type_soa }, owned example soa ∷ [])
       ∷ (record { name = any_name; record_type = type_mx }, owned any_name mail ∷ [])
       ∷ (record { name = any_name; record_type = type_txt }, owned any_name text ∷ [])
       ∷ (record { name = sub_any; record_type = type_txt }, owned sub_any other_text ∷ [])
@@ -183,6 +178,7 @@ cuts = record {
   origin = example;
   sets =
       (record { name = example; record_type = type_ns }, owned example (rdata.NS server) ∷ [])
+      ∷ (record { name = example; record_type = type_soa }, owned example soa ∷ [])
       ∷ (record { name = away; record_type = type_cname }, owned away (rdata.CNAME server) ∷ [])
       ∷ (record { name = child; record_type = type_ns }, owned child (rdata.NS ns_child) ∷ [])
       ∷ (record { name = ns_child; record_type = type_a }, owned ns_child (address 53) ∷ [])

@@ -1,15 +1,19 @@
 //! Records that help to use others.
 
-ghost use Rattle.std.specs.Prelude.{◌≡◌, ◌↔◌, ◌++◌, [], cond, IfOk, IsTrue, OnOk};
+ghost use Rattle.std.specs.Prelude.{◌≡◌, ◌↔◌, ◌++◌, IfOk, IsTrue, OnOk};
 ghost use Rattle.std.specs.List.{list_any};
+ghost use Rattle.hickory_base.specs.zone_store.ZoneRecords.{is_of};
 ghost use Rattle.hickory_base.specs.zone_store.ZoneSets.{sets_of};
-ghost use Rattle.wire_names.specs.rr.domain.NameOrder.{name_eq};
 ghost use Rattle.wire_names.specs.declared.error.DecodeError.TheVariants as decode_error;
-ghost use Rattle.hickory_zone.specs.Zones.{rrset};
-ghost use Rattle.hickory_zone.specs.Additionals.{additionals, addresses, addresses_after, at_most_one, first_name, host_in, hosts_of, is_hostless, name_from, some_records, target_start};
+ghost use Rattle.hickory_zone.specs.Zones.{AreOwners, rrset};
+ghost use Rattle.hickory_zone.specs.Features.{AreFeatures};
+ghost use Rattle.hickory_zone.specs.declared.additionals.Source.TheVariants as source;
+ghost use Rattle.hickory_zone.specs.Additionals.{AreAdditionals, Gains, IsHad, at_most_one, first_name, host_in, hosts_of, is_hostless, is_of_hosts, name_from, some_records, target_start};
+ghost use Rattle.hickory_zone.specs.Grown.{AreGained, IsGrown};
 
-use crate::chains::append_copies;
-use crate::find::set_under;
+use crate::chains::{append_copies, append_name, append_name_owned, append_owned, is_in};
+use crate::features::Features;
+use crate::find::{Found, look_up, set_under};
 use hickory_base::zone_store::RecordSet;
 use hickory_wire::{BinDecoder, DecodeError, LowerName, Name, RData, Record, RecordType, RrKey};
 use std::alloc::{AllocError, Global};
@@ -90,15 +94,20 @@ fn host(alloc: Global, q: &Record) -> Result<Option<Name>, AllocError>
     }
 }
 
-/// Whether a record is of a form that names no host.
+/// Whether data of the type may name a host.
+fn is_of_hosts(record_type: RecordType) -> bool
+    ensures { result ≡ is_of_hosts record_type }
+{
+    record_type.value() == RecordType::NS.value()
+        || record_type.value() == RecordType::MX.value()
+        || target_start(record_type).is_some()
+}
+
+/// Whether a record is of a type that names no host.
 pub(crate) fn is_hostless(q: &Record) -> bool
     ensures { result ≡ is_hostless q.now.rdata }
 {
-    match &q.rdata {
-        RData::NS(_) | RData::MX(_) => false,
-        RData::Unknown { code, .. } => target_start(*code).is_none(),
-        _ => true,
-    }
+    !is_of_hosts(q.rdata.record_type())
 }
 
 /// Puts the host that a record names last, if it names one.
@@ -122,90 +131,204 @@ fn hosts_of(alloc: Global, records: &[Record]) -> Result<Vec<Name>, AllocError>
     Ok(hosts)
 }
 
-/// Whether two names are the same.
-fn is_same(name: &Name, other: &Name) -> bool
-    ensures { result ≡ name_eq name.now other.now }
-{
-    name == other
+/// Where the addresses of a host are taken from.
+#[derive(Clone, Copy)]
+pub enum Source {
+    /// From what the zone answers for it.
+    Answer,
+    /// From what stands in the zone, glue too.
+    Glue,
 }
 
-/// Whether a name is one of these.
-fn is_among(name: &Name, names: &[Name]) -> bool
-    ensures { result ≡ list_any (name_eq name.now) names.now }
+/// Whether a record is of the key's name and of a type.
+fn is_of(key: &RrKey, record_type: RecordType, q: &Record) -> bool
+    ensures { result ≡ is_of key.now.name record_type q.now }
 {
-    names.iter().any(|other| is_same(name, other))
+    key.name.as_name() == &q.name && record_type.value() == q.rdata.record_type().value()
 }
 
-/// Puts copies of the RRset under a key last, if there is one.
-fn append_set(
+/// Whether one of the records is.
+fn has_of(key: &RrKey, record_type: RecordType, records: &[Record]) -> bool
+    ensures { result ≡ list_any (is_of key.now.name record_type) records.now }
+{
+    records.iter().any(|q| is_of(key, record_type, q))
+}
+
+/// Puts copies of the RRset of the key's name and a type last, if the zone has it.
+fn append_glue(
+    alloc: Global,
     sets: &BTreeMap<RrKey, Rc<RecordSet>>,
-    key: &RrKey,
+    host: &RrKey,
+    record_type: RecordType,
     all: &mut Vec<Record>,
 ) -> Result<(), AllocError>
-    ensures { OnOk result (all.new.items ≡ all.old.items ++ some_records (rrset (sets_of sets.now) key.now.name key.now.record_type)) }
+    ensures { OnOk result (all.new.items ≡ all.old.items ++ some_records (rrset (sets_of sets.now) host.now.name record_type)) }
 {
-    match set_under(sets, key) {
+    let key = RrKey::new(host.name.clone()?, record_type);
+    match set_under(sets, &key) {
         Some(records) => append_copies(all, records),
         None => Ok(()),
     }
 }
 
-/// Puts copies of a host's addresses last.
-fn append_addresses(
+/// Puts copies of what the zone answers for the key's name and a type last. No type is below that of the key.
+fn append_answer(
     alloc: Global,
+    origin: &LowerName,
     sets: &BTreeMap<RrKey, Rc<RecordSet>>,
-    host: &Name,
+    host: &RrKey,
+    record_type: RecordType,
+    has: Features,
     all: &mut Vec<Record>,
 ) -> Result<(), AllocError>
-    ensures { OnOk result (all.new.items ≡ all.old.items ++ addresses (sets_of sets.now) host.now) }
+    requires least { host.now.record_type ≡ 0 }
+    requires owners { AreOwners origin.now (sets_of sets.now) }
+    requires features { AreFeatures (record { origin = origin.now; sets = sets_of sets.now }) has }
+    ensures { OnOk result (IsGrown (IsHad source.Answer (record { origin = origin.now; sets = sets_of sets.now }) host.now.name record_type) all.old.items all.new.items) }
 {
-    let mut key = RrKey::new(LowerName::new(alloc, host)?, RecordType::A);
-    append_set(sets, &key, all)?;
-    key.record_type = RecordType::AAAA;
-    append_set(sets, &key, all)
-}
-
-/// Puts copies of a host's addresses last, unless it is one of those before.
-fn append_once(
-    alloc: Global,
-    sets: &BTreeMap<RrKey, Rc<RecordSet>>,
-    before: &[Name],
-    host: &Name,
-    all: &mut Vec<Record>,
-) -> Result<(), AllocError>
-    ensures { OnOk result (all.new.items ≡ all.old.items ++ cond (list_any (name_eq host.now) before.now) [] (addresses (sets_of sets.now) host.now)) }
-{
-    if is_among(host, before) {
-        Ok(())
-    } else {
-        append_addresses(alloc, sets, host, all)
+    if !is_in(origin, &host.name) {
+        return Ok(());
+    }
+    match look_up(alloc, origin, sets, host, record_type, has)? {
+        Found::Answer(records) => append_copies(all, records),
+        Found::WildAnswer(records) => append_owned(all, host.name.as_name(), records),
+        Found::Every => append_name(sets, host, all),
+        Found::WildEvery(key) => append_name_owned(alloc, sets, key, host.name.as_name(), all),
+        _ => Ok(()),
     }
 }
 
-/// Puts copies of the addresses of hosts last, of each host once.
-fn append_each(
+/// Puts copies of the records last that are to be had for the key's name and a type. No type is below that of the key.
+fn append_from(
     alloc: Global,
+    origin: &LowerName,
     sets: &BTreeMap<RrKey, Rc<RecordSet>>,
-    hosts: &[Name],
+    source: Source,
+    host: &RrKey,
+    record_type: RecordType,
+    has: Features,
     all: &mut Vec<Record>,
 ) -> Result<(), AllocError>
-    ensures { OnOk result (all.new.items ≡ all.old.items ++ addresses_after (sets_of sets.now) [] hosts.now) }
+    requires least { host.now.record_type ≡ 0 }
+    requires owners { AreOwners origin.now (sets_of sets.now) }
+    requires features { AreFeatures (record { origin = origin.now; sets = sets_of sets.now }) has }
+    ensures { OnOk result (IsGrown (IsHad source (record { origin = origin.now; sets = sets_of sets.now }) host.now.name record_type) all.old.items all.new.items) }
 {
-    for (i, host) in hosts.iter().enumerate() {
-        append_once(alloc, sets, &hosts[..i], host, all)?;
+    match source {
+        Source::Answer => append_answer(alloc, origin, sets, host, record_type, has, all),
+        Source::Glue => append_glue(alloc, sets, host, record_type, all),
+    }
+}
+
+/// The same where the reply has no such records yet, whose answers these are and whose additionals stand there.
+fn append_once(
+    alloc: Global,
+    origin: &LowerName,
+    sets: &BTreeMap<RrKey, Rc<RecordSet>>,
+    source: Source,
+    answers: &[Record],
+    host: &RrKey,
+    record_type: RecordType,
+    has: Features,
+    all: &mut Vec<Record>,
+) -> Result<(), AllocError>
+    requires least { host.now.record_type ≡ 0 }
+    requires owners { AreOwners origin.now (sets_of sets.now) }
+    requires features { AreFeatures (record { origin = origin.now; sets = sets_of sets.now }) has }
+    ensures { OnOk result (IsGrown (Gains source (record { origin = origin.now; sets = sets_of sets.now }) (answers.now ++ all.old.items) host.now.name record_type) all.old.items all.new.items) }
+{
+    if has_of(host, record_type, answers) || has_of(host, record_type, all.as_slice()) {
+        return Ok(());
+    }
+    append_from(alloc, origin, sets, source, host, record_type, has, all)
+}
+
+/// Puts copies of a host's addresses last that the reply does not have yet.
+fn append_addresses(
+    alloc: Global,
+    origin: &LowerName,
+    sets: &BTreeMap<RrKey, Rc<RecordSet>>,
+    source: Source,
+    answers: &[Record],
+    name: &Name,
+    has: Features,
+    all: &mut Vec<Record>,
+) -> Result<(), AllocError>
+    requires owners { AreOwners origin.now (sets_of sets.now) }
+    requires features { AreFeatures (record { origin = origin.now; sets = sets_of sets.now }) has }
+    ensures { OnOk result (AreGained source (record { origin = origin.now; sets = sets_of sets.now }) answers.now name.now all.old.items all.new.items) }
+{
+    let host = RrKey::new(LowerName::new(alloc, name)?, RecordType::new(0));
+    append_once(
+        alloc,
+        origin,
+        sets,
+        source,
+        answers,
+        &host,
+        RecordType::A,
+        has,
+        all,
+    )?;
+    append_once(
+        alloc,
+        origin,
+        sets,
+        source,
+        answers,
+        &host,
+        RecordType::AAAA,
+        has,
+        all,
+    )
+}
+
+/// Puts copies of the addresses of hosts last that the reply does not have yet.
+fn append_each(
+    alloc: Global,
+    origin: &LowerName,
+    sets: &BTreeMap<RrKey, Rc<RecordSet>>,
+    source: Source,
+    answers: &[Record],
+    hosts: &[Name],
+    has: Features,
+    all: &mut Vec<Record>,
+) -> Result<(), AllocError>
+    requires owners { AreOwners origin.now (sets_of sets.now) }
+    requires features { AreFeatures (record { origin = origin.now; sets = sets_of sets.now }) has }
+    ensures { OnOk result (IsGrown (AreAdditionals source (record { origin = origin.now; sets = sets_of sets.now }) (answers.now ++ all.old.items) hosts.now) all.old.items all.new.items) }
+{
+    for host in hosts {
+        append_addresses(alloc, origin, sets, source, answers, host, has, all)?;
     }
     Ok(())
 }
 
-/// Puts copies of the addresses last that the sets have for the hosts that these records name, once for each host.
-pub fn append_additionals(
+/// The additional section of a reply with these answers: the addresses of the hosts that the records name.
+pub(crate) fn additionals(
     alloc: Global,
+    origin: &LowerName,
     sets: &BTreeMap<RrKey, Rc<RecordSet>>,
-    records: &[Record],
-    all: &mut Vec<Record>,
-) -> Result<(), AllocError>
-    ensures { OnOk result (all.new.items ≡ all.old.items ++ additionals (sets_of sets.now) records.now) }
+    source: Source,
+    answers: &[Record],
+    naming: &[Record],
+    has: Features,
+) -> Result<Vec<Record>, AllocError>
+    requires owners { AreOwners origin.now (sets_of sets.now) }
+    requires features { AreFeatures (record { origin = origin.now; sets = sets_of sets.now }) has }
+    ensures { IfOk result (λ found. AreAdditionals source (record { origin = origin.now; sets = sets_of sets.now }) answers.now (hosts_of naming.now) found.items) }
 {
-    let hosts = hosts_of(alloc, records)?;
-    append_each(alloc, sets, hosts.as_slice(), all)
+    let hosts = hosts_of(alloc, naming)?;
+    let mut all = Vec::new(alloc);
+    append_each(
+        alloc,
+        origin,
+        sets,
+        source,
+        answers,
+        hosts.as_slice(),
+        has,
+        &mut all,
+    )?;
+    Ok(all)
 }

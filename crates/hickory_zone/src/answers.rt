@@ -1,28 +1,29 @@
-//! The zone as a handler of the catalog.
+//! What the zone replies to a question, whole or where it lies.
 
-ghost use Rattle.std.specs.Prelude.{◌≡◌, ◌↔◌, IfOk, IfSome, Err, IsTrue, true};
-ghost use Rattle.std.specs.List.{All};
+ghost use Rattle.std.specs.Prelude.{◌≡◌, ◌↔◌, ◌==◌, [], IfOk, IfSome, IsTrue, false, true};
+ghost use Rattle.std.specs.List.{All, AllByRecursion};
 ghost use Rattle.std.specs.BTreeMap.{keys};
-ghost use Rattle.hickory_base.specs.zone_store.ZoneAnswers.{OrMemory, no_data};
 ghost use Rattle.hickory_base.specs.zone_store.ZoneSets.{sets_of};
-ghost use Rattle.hickory_zone.specs.Zones.{AreOwners, IsOwner, Sets};
-ghost use Rattle.std.specs.List.{AllByRecursion};
 ghost use Rattle.hickory_base.specs.zone_store.Lookups.{stored_result};
-ghost use Rattle.hickory_zone.specs.Additionals.{additionals, is_hostless};
+ghost use Rattle.wire_names.specs.rr.domain.NameOrder.{lower_name};
+ghost use Rattle.hickory_zone.specs.Additionals.{is_hostless};
 ghost use Rattle.hickory_zone.specs.Chains.{IsIn};
 ghost use Rattle.hickory_zone.specs.Features.{AreFeatures};
-ghost use Rattle.hickory_zone.specs.ChainEnds.{ending_of};
-ghost use Rattle.hickory_zone.specs.Replies.{IsStandard, StandardAnswer, reply_of, zone_of};
+ghost use Rattle.hickory_zone.specs.Handled.{StandsFor, is_held, question};
+ghost use Rattle.hickory_zone.specs.Replies.{IsOfZone, IsReplied, RepliesTo, denial_soa, is_class, whole, zone_of};
+ghost use Rattle.hickory_zone.specs.Zones.{AreOwners, IsOwner, type_soa};
 
-use crate::additionals::{append_additionals, is_hostless};
-use crate::chains::{ChainEnd, append_copies, follow};
+use crate::additionals::is_hostless;
+use crate::chains::{follow, is_in};
 use crate::features::Features;
 use crate::find::{Found, look_up};
-use hickory_base::errors::{DnsError, LookupError};
+use crate::replies::{bare, reply_of};
 use hickory_base::zone_store::{
-    AuthLookup, InMemoryZoneHandler, RecordSet, StoredAnswer, ZoneHandler,
+    InMemoryZoneHandler, RecordSet, StoredAnswer, WholeReply, ZoneHandler, ZoneType,
 };
-use hickory_wire::{Items, LowerName, Record, RecordType, ResponseCode, RrKey};
+use hickory_wire::{
+    DNSClass, LowerName, LowerQuery, Name, Record, RecordType, ResponseCode, RrKey,
+};
 use std::alloc::{AllocError, Global};
 use std::collections::BTreeMap;
 use std::rc::Rc;
@@ -54,121 +55,101 @@ pub fn are_owners(origin: &LowerName, sets: &BTreeMap<RrKey, Rc<RecordSet>>) -> 
     are_all_owners(origin, sets)
 }
 
-/// No records.
-fn no_data(alloc: Global) -> LookupError
-    ensures { Err result ≡ no_data }
-{
-    LookupError::Net(DnsError::NoRecords {
-        response_code: ResponseCode::NO_ERROR,
-        authorities: Items::new(alloc),
-        soa: None,
-    })
-}
-
-/// Records with the addresses of the hosts that they name.
-fn with_additionals(
-    alloc: Global,
-    sets: &BTreeMap<RrKey, Rc<RecordSet>>,
-    answers: Vec<Record>,
-) -> Result<AuthLookup, AllocError>
-    ensures { IfOk result (λ found. found ≡ AuthLookup.Records answers.items (additionals (sets_of sets.now) answers.items)) }
-{
-    let mut additionals = Vec::new(alloc);
-    append_additionals(alloc, sets, answers.as_slice(), &mut additionals)?;
-    Ok(AuthLookup::Records {
-        answers: Items::from_vec(answers),
-        additionals: Items::from_vec(additionals),
-    })
-}
-
-/// What a chain that ends so is answered with.
-fn reply_of(
-    alloc: Global,
-    sets: &BTreeMap<RrKey, Rc<RecordSet>>,
-    answers: Vec<Record>,
-    end: ChainEnd<'_>,
-) -> Result<AuthLookup, LookupError>
-    ensures { OrMemory (reply_of (sets_of sets.now) answers.items (ending_of end.entry)) result }
-{
-    if let ChainEnd::Answered = end {
-        return Ok(with_additionals(alloc, sets, answers)?);
-    }
-    if let ChainEnd::TooLong = end {
-        return Err(LookupError::ResponseCode(ResponseCode::YX_DOMAIN));
-    }
-    if !answers.is_empty() {
-        return Ok(AuthLookup::Records {
-            answers: Items::from_vec(answers),
-            additionals: Items::new(alloc),
-        });
-    }
-    match end {
-        ChainEnd::Referred(servers) => {
-            let mut answers = Vec::new(alloc);
-            append_copies(&mut answers, servers)?;
-            Ok(with_additionals(alloc, sets, answers)?)
-        }
-        ChainEnd::Without => Err(no_data(alloc)),
-        ChainEnd::Missing => Err(LookupError::ResponseCode(ResponseCode::NX_DOMAIN)),
-        _ => Ok(AuthLookup::Records {
-            answers: Items::from_vec(answers),
-            additionals: Items::new(alloc),
-        }),
-    }
-}
-
-/// Whether a name is in the zone of this origin.
-fn is_in(origin: &LowerName, name: &LowerName) -> bool
-    ensures { (sets : Sets) → IsTrue result ↔ IsIn (record { origin = origin.now; sets = sets }) name.now }
-{
-    name.as_name().is_fqdn() && origin.zone_of(name)
-}
-
-/// What the zone answers for a name in it and a type.
-fn answer_within(
+/// What the zone replies where a name in it is asked for, which is the key's in some letter case. No type is below that of the key.
+fn reply_within(
     alloc: Global,
     zone: &InMemoryZoneHandler,
-    name: &LowerName,
+    name: &Name,
+    first: &RrKey,
     record_type: RecordType,
     has: Features,
-) -> Result<AuthLookup, LookupError>
+    soa: &[Record],
+) -> Result<WholeReply, AllocError>
+    requires least { first.now.record_type ≡ 0 }
     requires owners { AreOwners zone.now.origin zone.now.sets }
     requires features { AreFeatures (zone_of zone.now) has }
-    requires within { IsIn (zone_of zone.now) name.now }
-    ensures { IsStandard (zone_of zone.now) name.now record_type result }
+    requires soa { soa.now ≡ denial_soa (zone_of zone.now) }
+    requires spelled { first.now.name ≡ lower_name name.now }
+    requires within { IsIn (zone_of zone.now) first.now.name }
+    ensures { IfOk result (IsReplied (zone_of zone.now) name.now record_type) }
 {
+    let origin = zone.origin();
     let sets = zone.records();
-    let first = RrKey::new(name.clone()?, RecordType::new(0));
     let mut answers = Vec::new(alloc);
     let end = follow(
         alloc,
-        zone.origin(),
+        origin,
         sets,
-        &first,
+        name,
+        first,
         record_type,
         MAX_ALIASES,
         has,
         &mut answers,
     )?;
-    reply_of(alloc, sets, answers, end)
+    reply_of(alloc, origin, sets, has, soa, answers, end)
 }
 
-/// What the zone answers for a name and a type.
-pub fn answer(
+/// Whether the class is IN or any.
+pub(crate) fn is_class(class: DNSClass) -> bool
+    ensures { result ≡ is_class class }
+{
+    class == DNSClass::IN || class == DNSClass::ANY
+}
+
+/// The reply to a question that is not of the zone.
+fn refused(alloc: Global) -> WholeReply
+    ensures { result ≡ whole 5 false [] [] [] }
+{
+    bare(alloc, ResponseCode::REFUSED, false, Vec::new(alloc))
+}
+
+/// What the zone replies to a question. `soa` is its SOA record as it stands in denials.
+pub fn reply(
+    alloc: Global,
+    zone: &InMemoryZoneHandler,
+    query: &LowerQuery,
+    has: Features,
+    soa: &[Record],
+) -> Result<WholeReply, AllocError>
+    requires owners { AreOwners zone.now.origin zone.now.sets }
+    requires features { AreFeatures (zone_of zone.now) has }
+    requires soa { soa.now ≡ denial_soa (zone_of zone.now) }
+    ensures { IfOk result (RepliesTo (zone_of zone.now) query.now) }
+{
+    if !is_class(query.query_class()) || !is_in(zone.origin(), query.name()) {
+        return Ok(refused(alloc));
+    }
+    reply_within(
+        alloc,
+        zone,
+        &query.original().name,
+        query.first_key(),
+        query.query_type(),
+        has,
+        soa,
+    )
+}
+
+/// The same of a name, a type and the class IN.
+pub fn reply_to(
     alloc: Global,
     zone: &InMemoryZoneHandler,
     name: &LowerName,
     record_type: RecordType,
     has: Features,
-) -> Result<AuthLookup, LookupError>
+    soa: &[Record],
+) -> Result<WholeReply, AllocError>
     requires owners { AreOwners zone.now.origin zone.now.sets }
     requires features { AreFeatures (zone_of zone.now) has }
-    ensures { IsStandard (zone_of zone.now) name.now record_type result }
+    requires soa { soa.now ≡ denial_soa (zone_of zone.now) }
+    ensures { IfOk result (RepliesTo (zone_of zone.now) (question name.now record_type)) }
 {
     if !is_in(zone.origin(), name) {
-        return Err(LookupError::ResponseCode(ResponseCode::REFUSED));
+        return Ok(refused(alloc));
     }
-    answer_within(alloc, zone, name, record_type, has)
+    let first = RrKey::new(name.clone()?, RecordType::new(0));
+    reply_within(alloc, zone, name.as_name(), &first, record_type, has, soa)
 }
 
 /// Whether none of the records names a host.
@@ -178,50 +159,65 @@ fn are_hostless(records: &[Record]) -> bool
     records.iter().all(|q| is_hostless(q))
 }
 
-/// What the zone answers for the key's name and a type, where it lies, if nothing is synthesized, followed or added. No type is below
-/// that of the key.
+/// Whether records of this type are the whole reply: none names a host, and they are not the SOA.
+fn may_be_lent(record_type: RecordType, records: &[Record]) -> bool
+    ensures other { IsTrue result → (record_type == type_soa) ≡ false }
+    ensures hostless { IsTrue result → AllByRecursion (λ q. is_hostless q.rdata ≡ true) records.now }
+{
+    record_type.value() != RecordType::SOA.value() && are_hostless(records)
+}
+
+/// Whether the server holds the zone or a copy of it.
+fn is_held(zone_type: ZoneType) -> bool
+    ensures { result ≡ is_held zone_type }
+{
+    !matches!(zone_type, ZoneType::External)
+}
+
+/// What stands for the zone's reply where it lies, if nothing is synthesized, followed or added.
 pub fn stored<'z>(
     alloc: Global,
     zone: &'z InMemoryZoneHandler,
-    first: &RrKey,
-    record_type: RecordType,
+    query: &LowerQuery,
     has: Features,
 ) -> Option<StoredAnswer<'z>>
-    requires least { first.now.record_type ≡ 0 }
     requires owners { AreOwners zone.now.origin zone.now.sets }
     requires features { AreFeatures (zone_of zone.now) has }
-    ensures { IfSome result (λ answer. StandardAnswer (zone_of zone.now) first.now.name record_type (stored_result answer)) }
+    ensures { IfSome result (λ answer. StandsFor zone.now query.now (stored_result answer)) }
 {
-    if !is_in(zone.origin(), &first.name) {
+    if !is_held(zone.zone_type())
+        || !is_class(query.query_class())
+        || !is_in(zone.origin(), query.name())
+    {
         return None;
     }
-    stored_within(alloc, zone, first, record_type, has)
+    stored_within(alloc, zone, query, has)
 }
 
-/// The same of a name in the zone.
+/// The same of a question of the zone, which the server holds.
 fn stored_within<'z>(
     alloc: Global,
     zone: &'z InMemoryZoneHandler,
-    first: &RrKey,
-    record_type: RecordType,
+    query: &LowerQuery,
     has: Features,
 ) -> Option<StoredAnswer<'z>>
-    requires least { first.now.record_type ≡ 0 }
+    requires held { is_held zone.now.zone_type ≡ true }
     requires owners { AreOwners zone.now.origin zone.now.sets }
     requires features { AreFeatures (zone_of zone.now) has }
-    requires within { IsIn (zone_of zone.now) first.now.name }
-    ensures { IfSome result (λ answer. StandardAnswer (zone_of zone.now) first.now.name record_type (stored_result answer)) }
+    requires of { IsOfZone (zone_of zone.now) query.now }
+    ensures { IfSome result (λ answer. StandsFor zone.now query.now (stored_result answer)) }
 {
+    let record_type = query.query_type();
     match look_up(
         alloc,
         zone.origin(),
         zone.records(),
-        first,
+        query.first_key(),
         record_type,
         has,
     ) {
         Ok(Found::Answer(records)) => {
-            if are_hostless(records) {
+            if may_be_lent(record_type, records) {
                 Some(StoredAnswer::Records(records))
             } else {
                 None

@@ -1,45 +1,49 @@
 //! A zone that answers standard queries, as a handler of the catalog.
 
-ghost use Rattle.std.specs.Prelude.{◌≡◌, ◌↔◌, Err, None, Some, false, IsTrue};
+ghost use Rattle.std.specs.Prelude.{◌≡◌, ◌↔◌, Err, None, false, IfOk, IsTrue};
 ghost use Rattle.hickory_base.specs.declared.errors.UpdateFault.TheVariants.{Code};
 ghost use Rattle.hickory_base.specs.declared.zone_store.lookup.LookupControlFlow.TheVariants.{Skip};
-ghost use Rattle.hickory_base.specs.zone_store.ZoneAnswers.{Transferred};
+ghost use Rattle.hickory_zone.specs.Handled.{LookedUp, Searched, TransferAnswered};
 ghost use Rattle.hickory_zone.specs.Zones.{AreOwners};
-ghost use Rattle.hickory_zone.specs.Replies.{StandardLookedUp, StandardSearched};
 
-use crate::answers::{answer, are_owners, stored};
+use crate::answers::{are_owners, stored};
+use crate::denials::denial_soa;
 use crate::features::{Features, features_of};
+use crate::handled::{records, transfer, whole};
 use hickory_base::errors::{LookupError, UpdateFault};
 use hickory_base::server::{Request, RequestInfo};
 use hickory_base::zone_store::{
     AuthLookup, AxfrPolicy, InMemoryZoneHandler, LookupControlFlow, LookupOptions, Nsec3QueryInfo,
     NxProofKind, StoredAnswer, ZoneHandler, ZoneTransfer, ZoneType,
 };
-use hickory_wire::{LowerName, RecordType, TSigResponseContext};
-use std::alloc::Global;
+use hickory_wire::{LowerName, Record, RecordType, ResponseCode, TSigResponseContext};
+use std::alloc::{AllocError, Global};
 use std::marker::Model;
 
-/// A zone that answers standard queries as RFC 1034 section 4.3.2 says.
+/// A zone that answers standard queries as RFC 1034 section 4.3.2 says, each with one whole reply.
 #[derive(Drop)]
 pub struct AuthoritativeZone {
     alloc: Global,
     zone: InMemoryZoneHandler,
     // What the zone has at all.
     has: Features,
+    // Its SOA record, as it stands in denials.
+    soa: Vec<Record>,
 }
 
 impl Model for AuthoritativeZone {
+    ghost use Rattle.std.specs.Prelude.{◌≡◌};
     ghost use Rattle.hickory_base.specs.zone_store.ZoneAnswers.{MemoryZone};
 
     ghost Value = { MemoryZone };
 
     ghost use Rattle.hickory_zone.specs.Features.{AreFeatures};
-    ghost use Rattle.hickory_zone.specs.Replies.{zone_of};
+    ghost use Rattle.hickory_zone.specs.Replies.{denial_soa, zone_of};
     ghost use Rattle.hickory_zone.specs.Zones.{AreOwners};
 
     ghost view = { λ z. z.zone };
 
-    ghost invariant = { λ z. AreOwners z.zone.origin z.zone.sets × AreFeatures (zone_of z.zone) z.has };
+    ghost invariant = { λ z. AreOwners z.zone.origin z.zone.sets × AreFeatures (zone_of z.zone) z.has × (z.soa.items ≡ denial_soa (zone_of z.zone)) };
 }
 
 impl AuthoritativeZone {
@@ -50,13 +54,19 @@ impl AuthoritativeZone {
         are_owners(zone.origin(), zone.records())
     }
 
-    /// The zone of these records, which `accepts` takes. It needs no memory.
-    pub fn new(alloc: Global, zone: InMemoryZoneHandler) -> AuthoritativeZone
+    /// The zone of these records, which `accepts` takes.
+    pub fn new(alloc: Global, zone: InMemoryZoneHandler) -> Result<AuthoritativeZone, AllocError>
         requires { AreOwners zone.origin zone.sets }
-        ensures { result ≡ zone }
+        ensures { IfOk result (λ own. own ≡ zone) }
     {
         let has = features_of(zone.origin(), zone.records());
-        AuthoritativeZone { alloc, zone, has }
+        let soa = denial_soa(alloc, &zone)?;
+        Ok(AuthoritativeZone {
+            alloc,
+            zone,
+            has,
+            soa,
+        })
     }
 }
 
@@ -71,19 +81,19 @@ impl ZoneHandler for AuthoritativeZone {
 
     ghost nx_proof_kind_of = { λ _. None };
 
-    ghost lookup_gives = { λ zone name record_type _ _ answer. StandardLookedUp zone name record_type answer };
+    ghost lookup_gives = { λ zone name record_type _ _ answer. LookedUp zone name record_type answer };
 
-    ghost search_gives = { λ zone request _ answer context. StandardSearched zone request answer × (context ≡ None) };
+    ghost search_gives = { λ zone request _ answer context. Searched zone request answer × (context ≡ None) };
 
     ghost consult_gives = { λ _ _ _ _ _ last answer context. (answer ≡ last) × (context ≡ None) };
 
-    ghost transfer_gives = { λ zone _ _ _ answer. Transferred zone answer };
+    ghost transfer_gives = { λ zone request _ _ answer. TransferAnswered zone request answer };
 
     ghost nsec_gives = { λ _ _ _ answer. answer ≡ Skip };
 
     ghost nsec3_gives = { λ _ _ _ answer. answer ≡ Skip };
 
-    ghost update_gives = { λ zone _ _ answer context new. (answer ≡ Err (Code 4)) × (context ≡ None) × (new ≡ zone) };
+    ghost update_gives = { λ zone _ _ answer context new. (answer ≡ Err (Code 5)) × (context ≡ None) × (new ≡ zone) };
 
     fn zone_type(&self) -> ZoneType {
         self.zone.zone_type()
@@ -113,7 +123,14 @@ impl ZoneHandler for AuthoritativeZone {
         _info: Option<&RequestInfo<'_>>,
         _options: LookupOptions,
     ) -> LookupControlFlow<AuthLookup> {
-        LookupControlFlow::Continue(answer(alloc, &self.zone, name, record_type, self.has))
+        LookupControlFlow::Continue(records(
+            alloc,
+            &self.zone,
+            name,
+            record_type,
+            self.has,
+            self.soa.as_slice(),
+        ))
     }
 
     fn search(
@@ -127,12 +144,12 @@ impl ZoneHandler for AuthoritativeZone {
             Err(e) => return (LookupControlFlow::Break(Err(e)), None),
         };
         (
-            LookupControlFlow::Continue(answer(
+            LookupControlFlow::Continue(whole(
                 alloc,
                 &self.zone,
-                query.name(),
-                query.query_type(),
+                query,
                 self.has,
+                self.soa.as_slice(),
             )),
             None,
         )
@@ -144,15 +161,13 @@ impl ZoneHandler for AuthoritativeZone {
         _options: LookupOptions,
     ) -> Option<StoredAnswer<'_>> {
         match request.request_info() {
-            Ok(info) => stored(
-                self.alloc,
-                &self.zone,
-                info.query.first_key(),
-                info.query.query_type(),
-                self.has,
-            ),
+            Ok(info) => stored(self.alloc, &self.zone, info.query, self.has),
             Err(_) => None,
         }
+    }
+
+    fn stored_soa(&self, _options: LookupOptions) -> Option<&[Record]> {
+        Some(self.soa.as_slice())
     }
 
     fn consult(
@@ -179,7 +194,7 @@ impl ZoneHandler for AuthoritativeZone {
             Option<TSigResponseContext>,
         ),
     > {
-        self.zone.zone_transfer(alloc, request, options, now)
+        transfer(alloc, &self.zone, request, options, now)
     }
 
     fn nsec_records(
@@ -202,10 +217,10 @@ impl ZoneHandler for AuthoritativeZone {
 
     fn update(
         &mut self,
-        alloc: Global,
-        request: &Request,
-        now: u64,
+        _alloc: Global,
+        _request: &Request,
+        _now: u64,
     ) -> (Result<bool, UpdateFault>, Option<TSigResponseContext>) {
-        self.zone.update(alloc, request, now)
+        (Err(UpdateFault::Code(ResponseCode::REFUSED)), None)
     }
 }

@@ -1,14 +1,12 @@
 //! CNAMEs that are followed, those too that a DNAME makes.
 
-ghost use Rattle.std.specs.Prelude.{◌≡◌, ◌++◌, ◌&&◌, OnOk, IfOk, MatchOption, Some, true, cond};
-ghost use Rattle.std.specs.Option.{IsSomeAnd};
+ghost use Rattle.std.specs.Prelude.{◌≡◌, ◌↔◌, ◌++◌, ◌&&◌, IsTrue, OnOk, IfOk, MatchOption, true, cond};
 ghost use Rattle.hickory_base.specs.zone_store.ZoneAnswers.{records_at};
 ghost use Rattle.hickory_base.specs.zone_store.ZoneRecords.{is_at};
 ghost use Rattle.hickory_base.specs.zone_store.ZoneSets.{sets_of};
 ghost use Rattle.wire_names.specs.rr.domain.NameOrder.{Encloses, lower_name};
-ghost use Rattle.hickory_zone.specs.Zones.{AreOwners, Sets, owned_by};
-ghost use Rattle.wire_names.specs.rr.domain.DomainName.{DomainName};
-ghost use Rattle.hickory_zone.specs.Chains.{IsIn, canonical, is_cname, owns_cname};
+ghost use Rattle.hickory_zone.specs.Zones.{AreOwners, Sets};
+ghost use Rattle.hickory_zone.specs.Chains.{IsIn, canonical, is_cname, owned_by, owns_cname};
 ghost use Rattle.hickory_zone.specs.Features.{AreFeatures};
 ghost use Rattle.hickory_zone.specs.ChainEnds.{Chased, IsAllPut, Linked, ending_of};
 ghost use Rattle.hickory_zone.specs.declared.chains.ChainEnd.TheVariants.{Answered, Without};
@@ -43,7 +41,11 @@ fn owned_copy(q: &Record, owner: &Name) -> Result<Record, AllocError>
 }
 
 /// Puts copies of the records last, owned by another name. Where memory is refused, those of a front of them may have been put.
-fn append_owned(all: &mut Vec<Record>, owner: &Name, records: &[Record]) -> Result<(), AllocError>
+pub(crate) fn append_owned(
+    all: &mut Vec<Record>,
+    owner: &Name,
+    records: &[Record],
+) -> Result<(), AllocError>
     ensures { OnOk result (all.new.items ≡ all.old.items ++ owned_by owner.now records.now) }
 {
     for q in records {
@@ -80,7 +82,7 @@ pub(crate) enum Link<'z> {
 
 /// Puts copies of all records of the key's name last. No type is below that of the key. Where memory is refused, those of a front of
 /// them may have been put.
-fn append_name(
+pub(crate) fn append_name(
     sets: &BTreeMap<RrKey, Rc<RecordSet>>,
     first: &RrKey,
     all: &mut Vec<Record>,
@@ -122,6 +124,23 @@ fn append_all<'z>(
     Ok(end_at_all(before < answers.len()))
 }
 
+/// Puts copies of all records of the key's name last, owned by another name. Where memory is refused, those of a front of them may
+/// have been put.
+pub(crate) fn append_name_owned(
+    alloc: Global,
+    sets: &BTreeMap<RrKey, Rc<RecordSet>>,
+    key: &RrKey,
+    owner: &Name,
+    all: &mut Vec<Record>,
+) -> Result<(), AllocError>
+    ensures { OnOk result (all.new.items ≡ all.old.items ++ owned_by owner.now (records_at key.now.name (sets_of sets.now))) }
+{
+    let first = RrKey::new(key.name.clone()?, RecordType::new(0));
+    let mut own = Vec::new(alloc);
+    append_name(sets, &first, &mut own)?;
+    append_owned(all, owner, own.as_slice())
+}
+
 /// Puts copies of all records of the key's name last, owned by another name.
 fn append_all_owned<'z>(
     alloc: Global,
@@ -132,11 +151,8 @@ fn append_all_owned<'z>(
 ) -> Result<Link<'z>, AllocError>
     ensures { IfOk result (IsAllPut (owned_by owner.now (records_at key.now.name (sets_of sets.now))) answers.old.items answers.new.items) }
 {
-    let first = RrKey::new(key.name.clone()?, RecordType::new(0));
-    let mut all = Vec::new(alloc);
-    append_name(sets, &first, &mut all)?;
     let before = answers.len();
-    append_owned(answers, owner, all.as_slice())?;
+    append_name_owned(alloc, sets, key, owner, answers)?;
     Ok(end_at_all(before < answers.len()))
 }
 
@@ -155,22 +171,24 @@ fn canonical(cname: &[Record]) -> Result<Option<Name>, AllocError>
     }
 }
 
-/// Puts what the zone has for one name last.
+/// Puts what the zone has for one name last, which is the key's in the letter case in which it was asked.
 fn append_link<'z>(
     alloc: Global,
     origin: &LowerName,
     sets: &'z BTreeMap<RrKey, Rc<RecordSet>>,
+    name: &Name,
     first: &RrKey,
     record_type: RecordType,
     has: Features,
     answers: &mut Vec<Record>,
 ) -> Result<Link<'z>, AllocError>
     requires least { first.now.record_type ≡ 0 }
+    requires spelled { first.now.name ≡ lower_name name.now }
     requires qualified { first.now.name.is_fqdn ≡ true }
     requires owners { AreOwners origin.now (sets_of sets.now) }
     requires within { Encloses origin.now.labels first.now.name.labels }
     requires features { AreFeatures (record { origin = origin.now; sets = sets_of sets.now }) has }
-    ensures { IfOk result (Linked (record { origin = origin.now; sets = sets_of sets.now }) record_type first.now.name answers.old.items answers.new.items) }
+    ensures { IfOk result (Linked (record { origin = origin.now; sets = sets_of sets.now }) record_type name.now answers.old.items answers.new.items) }
 {
     match look_up(alloc, origin, sets, first, record_type, has)? {
         Found::Answer(records) => {
@@ -178,44 +196,46 @@ fn append_link<'z>(
             Ok(Link::End(ChainEnd::Answered))
         }
         Found::WildAnswer(records) => {
-            append_owned(answers, first.name.as_name(), records)?;
+            append_owned(answers, name, records)?;
             Ok(Link::End(ChainEnd::Answered))
         }
         Found::Every => append_all(sets, first, answers),
-        Found::WildEvery(key) => append_all_owned(alloc, sets, key, first.name.as_name(), answers),
+        Found::WildEvery(key) => append_all_owned(alloc, sets, key, name, answers),
         Found::Alias(records) => {
             append_copies(answers, records)?;
             Ok(Link::Leads(canonical(records)?))
         }
         Found::WildAlias(records) => {
-            append_owned(answers, first.name.as_name(), records)?;
+            append_owned(answers, name, records)?;
             Ok(Link::Leads(canonical(records)?))
         }
         Found::Referral(servers) => Ok(Link::End(ChainEnd::Referred(servers))),
         Found::NoData => Ok(Link::End(ChainEnd::Without)),
         Found::NoName => Ok(Link::End(ChainEnd::Missing)),
-        Found::Redirected(by) => {
-            append_redirection(alloc, first.name.as_name(), record_type, by, answers)
-        }
+        Found::Redirected(by) => append_redirection(alloc, name, record_type, by, answers),
     }
 }
 
-/// The name that a chain leads to, if the zone of this origin has it.
-fn next_within(
+/// Whether a name is in the zone of this origin.
+pub(crate) fn is_in(origin: &LowerName, name: &LowerName) -> bool
+    ensures { (sets : Sets) → IsTrue result ↔ IsIn (record { origin = origin.now; sets = sets }) name.now }
+{
+    name.as_name().is_fqdn() && origin.zone_of(name)
+}
+
+/// The first key of a name, in lower case, if the zone of this origin has the name.
+fn first_key_within(
     alloc: Global,
     origin: &LowerName,
-    to: Option<Name>,
-) -> Result<Option<LowerName>, AllocError>
+    name: &Name,
+) -> Result<Option<RrKey>, AllocError>
     ensures { IfOk result (λ found. MatchOption found
-        ((sets : Sets) → ¬ (IsSomeAnd to (IsIn (record { origin = origin.now; sets = sets }))))
-        (λ name. (target : DomainName) × (to ≡ Some target) × (name ≡ lower_name target) × (target.is_fqdn ≡ true) × Encloses origin.now.labels name.labels)) }
+        ((sets : Sets) → ¬ (IsIn (record { origin = origin.now; sets = sets }) name.now))
+        (λ key. (key ≡ record { name = lower_name name.now; record_type = 0 }) × (name.now.is_fqdn ≡ true) × Encloses origin.now.labels key.name.labels)) }
 {
-    let Some(target) = to else {
-        return Ok(None);
-    };
-    let name = LowerName::new(alloc, &target)?;
-    if target.is_fqdn() && origin.zone_of(&name) {
-        Ok(Some(name))
+    let key = RrKey::new(LowerName::new(alloc, name)?, RecordType::new(0));
+    if name.is_fqdn() && origin.zone_of(&key.name) {
+        Ok(Some(key))
     } else {
         Ok(None)
     }
@@ -235,12 +255,13 @@ fn owns_cname(name: &LowerName, records: &[Record]) -> bool
     records.iter().any(|q| is_cname_of(name, q))
 }
 
-/// Puts the records of the answer section for a name in the zone last, with at most so many CNAMEs followed. The records of a chain
-/// that led here stand there.
+/// Puts the records of the answer section for a name in the zone last, with at most so many CNAMEs followed. The name is the key's, in
+/// the letter case in which it was asked. The records of a chain that led here stand there.
 pub fn follow<'z>(
     alloc: Global,
     origin: &LowerName,
     sets: &'z BTreeMap<RrKey, Rc<RecordSet>>,
+    name: &Name,
     first: &RrKey,
     record_type: RecordType,
     left: u8,
@@ -248,30 +269,34 @@ pub fn follow<'z>(
     answers: &mut Vec<Record>,
 ) -> Result<ChainEnd<'z>, AllocError>
     requires least { first.now.record_type ≡ 0 }
+    requires spelled { first.now.name ≡ lower_name name.now }
     requires qualified { first.now.name.is_fqdn ≡ true }
     requires owners { AreOwners origin.now (sets_of sets.now) }
     requires within { Encloses origin.now.labels first.now.name.labels }
     requires features { AreFeatures (record { origin = origin.now; sets = sets_of sets.now }) has }
-    ensures { IfOk result (λ end. Chased (record { origin = origin.now; sets = sets_of sets.now }) record_type left first.now.name answers.old.items answers.new.items (ending_of end)) }
+    ensures { IfOk result (λ end. Chased (record { origin = origin.now; sets = sets_of sets.now }) record_type left name.now answers.old.items answers.new.items (ending_of end)) }
 {
-    let to = match append_link(alloc, origin, sets, first, record_type, has, answers)? {
+    let to = match append_link(alloc, origin, sets, name, first, record_type, has, answers)? {
         Link::End(end) => return Ok(end),
         Link::Leads(to) => to,
     };
     if left == 0 {
         return Ok(ChainEnd::LeftOpen);
     }
-    let Some(name) = next_within(alloc, origin, to)? else {
+    let Some(target) = to else {
         return Ok(ChainEnd::LeftOpen);
     };
-    if owns_cname(&name, answers.as_slice()) {
+    let Some(next) = first_key_within(alloc, origin, &target)? else {
+        return Ok(ChainEnd::LeftOpen);
+    };
+    if owns_cname(&next.name, answers.as_slice()) {
         return Ok(ChainEnd::LeftOpen);
     }
-    let next = RrKey::new(name, RecordType::new(0));
     follow(
         alloc,
         origin,
         sets,
+        &target,
         &next,
         record_type,
         left - 1,

@@ -5,7 +5,7 @@ ghost use Rattle.std.specs.Bool.{OnTrue};
 ghost use Rattle.std.specs.Option.{option_copied};
 ghost use Rattle.hickory_base.specs.zone_store.ZoneAnswers.{records_at};
 ghost use Rattle.hickory_base.specs.zone_store.ZoneSets.{has_name, sets_of};
-ghost use Rattle.hickory_zone.specs.Zones.{AreOwners, Answers, AnswersDirectly, Exists, Sets, any_of, ancestor, at_node, Zone, of_sets, rrset, synthesized, type_any, type_cname, type_ds, type_ns, wildcard};
+ghost use Rattle.hickory_zone.specs.Zones.{AreOwners, Answers, AnswersDirectly, Exists, Sets, any_of, ancestor, at_node, by_wildcard, Zone, of_sets, rrset, type_any, type_cname, type_ds, type_ns, wildcard};
 ghost use Rattle.hickory_zone.specs.Features.{AreFeatures};
 ghost use Rattle.hickory_zone.specs.FoundRecords.{first_or};
 ghost use Rattle.hickory_zone.specs.KeysBeside.{SharedMap, StandsBehind};
@@ -295,7 +295,7 @@ fn found_at(node: Node<'_>) -> Found<'_>
 
 /// What is found at a name for which a wildcard stands that owns this.
 fn found_wild(node: Node<'_>) -> Found<'_>
-    ensures { (sets : Sets) (name : DomainName) → outcome_of sets name result ≡ synthesized name (of_sets (option_copied node.entry.wanted) (option_copied node.entry.alias)) }
+    ensures { (sets : Sets) (name : DomainName) → outcome_of sets name result ≡ by_wildcard (of_sets (option_copied node.entry.wanted) (option_copied node.entry.alias)) }
 {
     match node.wanted {
         Some(records) => Found::WildAnswer(records),
@@ -324,7 +324,7 @@ fn is_of(name: &LowerName, key: &RrKey) -> bool
 fn find_wild_any<'z>(first: &RrKey, behind: Option<&'z RrKey>) -> Found<'z>
     requires { first.now.record_type ≡ 0 }
     ensures { (sets : SharedMap) → StandsBehind sets first.now (option_copied behind.entry)
-        → (name : DomainName) → outcome_of (sets_of sets) name result ≡ synthesized name (any_of (records_at first.now.name (sets_of sets))) }
+        → (name : DomainName) → outcome_of (sets_of sets) name result ≡ by_wildcard (any_of (records_at first.now.name (sets_of sets))) }
 {
     match behind {
         None => Found::NoData,
@@ -343,7 +343,7 @@ fn find_at_wildcard<'z>(first: &RrKey, node: Node<'z>, record_type: RecordType) 
     requires { first.now.record_type ≡ 0 }
     ensures { (sets : SharedMap) → StandsBehind sets first.now (option_copied node.entry.behind)
         → option_copied node.entry.wanted ≡ rrset (sets_of sets) first.now.name record_type → option_copied node.entry.alias ≡ rrset (sets_of sets) first.now.name type_cname
-        → (name : DomainName) → outcome_of (sets_of sets) name result ≡ synthesized name (at_node (sets_of sets) first.now.name record_type) }
+        → (name : DomainName) → outcome_of (sets_of sets) name result ≡ by_wildcard (at_node (sets_of sets) first.now.name record_type) }
 {
     if is_any(record_type) {
         find_wild_any(first, node.behind)

@@ -2,7 +2,8 @@
 
 ghost use Rattle.std.specs.Prelude.{◌≡◌, ◌∷◌, []};
 ghost use Rattle.hickory_zone.specs.Chains.{OneChain};
-ghost use Rattle.hickory_zone.specs.Zones.{OneAnswer, type_a, type_aaaa, type_any, type_cname, type_dname, type_ds, type_ns};
+ghost use Rattle.hickory_zone.specs.Replies.{OneReply};
+ghost use Rattle.hickory_zone.specs.Zones.{OneAnswer, type_a, type_aaaa, type_any, type_cname, type_dname, type_ds, type_mx, type_ns, type_soa};
 
 use hickory_wire::RecordType;
 
@@ -16,14 +17,21 @@ pub fn chains_once()
     ensures { OneChain }
 {}
 
+/// A zone has at most one reply to a question.
+pub fn replies_once()
+    ensures { OneReply }
+{}
+
 /// The types that the definitions name.
-pub fn named_types() -> [RecordType; 7]
-    ensures { result ≡ type_a ∷ type_ns ∷ type_cname ∷ type_aaaa ∷ type_dname ∷ type_ds ∷ type_any ∷ [] }
+pub fn named_types() -> [RecordType; 9]
+    ensures { result ≡ type_a ∷ type_ns ∷ type_cname ∷ type_soa ∷ type_mx ∷ type_aaaa ∷ type_dname ∷ type_ds ∷ type_any ∷ [] }
 {
     [
         RecordType::A,
         RecordType::NS,
         RecordType::CNAME,
+        RecordType::SOA,
+        RecordType::MX,
         RecordType::AAAA,
         RecordType::new(39),
         RecordType::DS,

@@ -7,17 +7,20 @@ ghost use Rattle.hickory_wire.specs.worked.Worked.{named, root};
 ghost use Rattle.wire_messages.specs.declared.rr.rdata.RData.TheVariants as rdata;
 ghost use Rattle.hickory_zone.specs.Chains.{Chases, answered, left_open, missing, referred, too_long, without};
 ghost use Rattle.hickory_zone.specs.Additionals.{host_in, type_srv};
-ghost use Rattle.hickory_zone.specs.WorkedZones.{address, any_name, away, child, cuts, deep, example, first_alias, foo_bar, ghost_any, grandchild, host1, host3, host_subdel, into_child, itself_alias, mail, nobody, ns_child, owned, ping, pong, second_alias, server, service, sub_any, subdel, tcp_host1, telnet_host1, text, to_child, to_nobody, to_text, type_mx, type_txt, wildcards};
+ghost use Rattle.hickory_zone.specs.WorkedZones.{address, any_name, away, child, cuts, deep, example, first_alias, foo_bar, ghost_any, grandchild, host1, host3, host_subdel, into_child, itself_alias, mail, nobody, ns_child, owned, ping, pong, second_alias, server, service, sub_any, subdel, tcp_host1, telnet_host1, text, to_child, to_nobody, to_text, type_txt, wildcards};
+ghost use Rattle.hickory_zone.specs.Handled.{question};
+ghost use Rattle.hickory_zone.specs.Replies.{RepliesTo, whole};
+ghost use Rattle.hickory_zone.specs.WorkedReplies.{chaos, denying_soa, loud_host3, loud_new, loud_old};
 ghost use Rattle.hickory_zone.specs.Redirections.{is_too_long, substitute, target_in};
 ghost use Rattle.hickory_zone.specs.WorkedRedirections.{Makes, MakesNothing, a_self, back_new, back_old, below_long, cut_old, far, home_sub, long, low, made, moved, new_home, nobody_new, nobody_old, old_home, redirecting, redirecting_apex, self, sub, to_far, to_new_home, to_self, www_low, www_new, www_old, www_sub};
-ghost use Rattle.hickory_zone.specs.Zones.{Answers, answer, no_data, no_name, redirection, referral, type_a, type_any, type_cname, type_dname, type_ds, type_ns};
+ghost use Rattle.hickory_zone.specs.Zones.{Answers, answer, no_data, no_name, redirection, referral, type_a, type_any, type_cname, type_dname, type_ds, type_mx, type_ns, wild_answer};
 
 /// What is synthesized in the zone of RFC 4592 section 2.2.1, as it says there.
 pub fn worked_syntheses()
-    ensures host3_mx { Answers wildcards host3 type_mx (answer (owned host3 mail ∷ [])) }
+    ensures host3_mx { Answers wildcards host3 type_mx (wild_answer (owned any_name mail ∷ [])) }
     ensures host3_a { Answers wildcards host3 type_a no_data }
-    ensures foo_bar_txt { Answers wildcards foo_bar type_txt (answer (owned foo_bar text ∷ [])) }
-    ensures host3_any { Answers wildcards host3 type_any (answer (owned host3 mail ∷ owned host3 text ∷ [])) }
+    ensures foo_bar_txt { Answers wildcards foo_bar type_txt (wild_answer (owned any_name text ∷ [])) }
+    ensures host3_any { Answers wildcards host3 type_any (wild_answer (owned any_name mail ∷ owned any_name text ∷ [])) }
 {}
 
 /// What is not synthesized there, since a name exists, without records of its own too, or the zone is cut.
@@ -43,7 +46,7 @@ pub fn worked_cuts()
     ensures ds_at_lower_cut { Answers cuts grandchild type_ds (referral (owned child (rdata.NS ns_child) ∷ [])) }
     ensures below_both { Answers cuts deep type_a (referral (owned child (rdata.NS ns_child) ∷ [])) }
     ensures servers_at_apex { Answers cuts example type_ns (answer (owned example (rdata.NS server) ∷ [])) }
-    ensures ds_above_cut { Answers cuts example type_ds no_data }
+    ensures ds_at_apex { Answers cuts example type_ds no_data }
 {}
 
 /// Which hosts data name, read from the octets of an SRV record.
@@ -113,5 +116,21 @@ pub fn worked_redirected_chains()
     ensures twice { Chases redirecting type_a 8 [] back_old (moved ∷ made back_old back_new ∷ owned back_new (rdata.CNAME www_old) ∷ made www_old www_new ∷ owned www_new (address 2) ∷ []) answered }
     ensures at_nobody { Chases redirecting type_a 8 [] nobody_old (moved ∷ made nobody_old nobody_new ∷ []) missing }
     ensures at_itself { Chases redirecting type_a 8 [] a_self (owned self to_self ∷ owned a_self (rdata.CNAME a_self) ∷ []) left_open }
-    ensures at_length { Chases redirecting type_a 8 [] below_long (owned long to_far ∷ []) too_long }
+    ensures name_too_long { Chases redirecting type_a 8 [] below_long (owned long to_far ∷ []) too_long }
+{}
+
+/// Whole replies: of a referral the servers and their glue, and AA behind an alias alone; of a denial the code of the chain's last name and
+/// the SOA, to be kept as long as its MINIMUM says; to a question that is not of the zone neither AA nor records.
+pub fn worked_replies()
+    ensures answer_with_address { RepliesTo wildcards (question host3 type_mx) (whole 0 true (owned host3 mail ∷ []) [] (owned host1 (address 1) ∷ [])) }
+    ensures servers_at_cut { RepliesTo cuts (question child type_ns) (whole 0 false [] (owned child (rdata.NS ns_child) ∷ []) (owned ns_child (address 53) ∷ [])) }
+    ensures cut_behind_alias { RepliesTo cuts (question into_child type_a) (whole 0 true (owned into_child (rdata.CNAME to_child) ∷ []) (owned child (rdata.NS ns_child) ∷ []) (owned ns_child (address 53) ∷ [])) }
+    ensures spelled_as_asked { RepliesTo wildcards (question loud_host3 type_txt) (whole 0 true (owned loud_host3 text ∷ []) [] []) }
+    ensures made_as_asked { RepliesTo redirecting (question loud_old type_cname) (whole 0 true (moved ∷ made loud_old loud_new ∷ []) [] []) }
+    ensures no_data { RepliesTo cuts (question to_text type_a) (whole 0 true [] (denying_soa ∷ []) []) }
+    ensures nobody { RepliesTo cuts (question nobody type_a) (whole 3 true [] (denying_soa ∷ []) []) }
+    ensures nobody_behind_alias { RepliesTo cuts (question to_nobody type_a) (whole 3 true (owned to_nobody (rdata.CNAME nobody) ∷ []) (denying_soa ∷ []) []) }
+    ensures name_too_long { RepliesTo redirecting (question below_long type_a) (whole 6 true (owned long to_far ∷ []) [] []) }
+    ensures outside { RepliesTo cuts (question server type_a) (whole 5 false [] [] []) }
+    ensures other_class { RepliesTo cuts chaos (whole 5 false [] [] []) }
 {}

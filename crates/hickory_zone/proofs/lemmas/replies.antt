@@ -2,4 +2,7 @@
 pub mod AllPut
 pub mod Finished
 pub mod Follows
+pub mod Handling
+pub mod Hosts
 pub mod OneChain
+pub mod OneReply

@@ -1,8 +1,8 @@
--- What was put and what the hosts from here on add is what all of them add.
-use Rattle.std.proofs.Common.{◌≡◌, [], ◌++◌, take, drop}
+-- What was put goes before whatever the hosts from here on add.
+use Rattle.std.proofs.Common.{drop}
 use Rattle.hickory_base.specs.zone_store.ZoneSets.{sets_of}
-use Rattle.hickory_zone.specs.Additionals.{addresses_after}
+use Rattle.hickory_zone.proofs.lemmas.replies.Hosts.{GrownSoFar}
 use Rattle.hickory_zone.proofs.additionals.append_each.Given as goal
 
-abbrev pub invariant-loop-i : goal.invariant-loop-i
-invariant-loop-i l = l.all.items ++ addresses_after (sets_of l.sets) (take l.i l.hosts) (drop l.i l.hosts) ≡ l.fn.all.items ++ addresses_after (sets_of l.sets) [] l.hosts
+abbrev pub invariant-loop-host : goal.invariant-loop-host
+invariant-loop-host l = GrownSoFar l.source (record { origin = l.origin; sets = sets_of l.sets }) l.answers l.fn.all.items l.hosts (drop l.host-index l.hosts) l.all.items

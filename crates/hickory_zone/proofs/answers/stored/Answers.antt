@@ -1,10 +1,15 @@
-use Rattle.std.proofs.Common.{◌≡◌, refl, subst, true}
-use Rattle.hickory_zone.specs.Chains.{IsIn}
-use Rattle.hickory_zone.proofs.lemmas.replies.Finished.{zone_is}
+use Rattle.std.proofs.Common.{◌≡◌, true, sym, ap, ◌∙◌}
+use Rattle.wire_names.specs.rr.domain.NameOrder.{lower_name}
+use Rattle.hickory_zone.proofs.lemmas.replies.Handling.{into_zone}
+use Rattle.hickory_zone.specs.Replies.{is_class}
 use Rattle.hickory_zone.proofs.answers.stored.Goals as goal
 
-pub stored_within-requires-clause-within : goal.stored_within-requires-clause-within
-stored_within-requires-clause-within c =
+pub stored_within-requires-clause-of : goal.stored_within-requires-clause-of
+stored_within-requires-clause-of c =
     let zone = c.args.zone.now in
     let e : c.is_in.result ≡ true = c.if-not-is_in.false in
-    subst (λ z. IsIn z c.args.first.now.name) (zone_is zone c.origin.result.now zone.sets c.origin.ensures refl) ((c.is_in.ensures zone.sets).0 e)
+    let f : c.is_class.result ≡ true = c.if-not-is_class.false in
+    record {
+      within = into_zone zone c.origin.result.now c.name.result.now (lower_name c.args.query.now.name) c.origin.ensures c.name.ensures ((c.is_in.ensures zone.sets).0 e);
+      class = ap is_class (sym c.query_class.ensures) ∙ sym c.is_class.ensures ∙ f;
+    }

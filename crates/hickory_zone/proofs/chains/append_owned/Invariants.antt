@@ -1,6 +1,6 @@
 -- Copies of the records so far stand behind what was there.
 use Rattle.std.proofs.Common.{◌≡◌, ◌++◌, take}
-use Rattle.hickory_zone.specs.Zones.{owned_by}
+use Rattle.hickory_zone.specs.Chains.{owned_by}
 use Rattle.hickory_zone.proofs.chains.append_owned.Given as goal
 
 abbrev pub invariant-loop-q : goal.invariant-loop-q

@@ -1,5 +1,5 @@
 -- Links of a chain put together.
-use Rattle.std.proofs.Common.{◌≡◌, ℕ, Bool, List, ◌-◌, ◌||◌, ◌&&◌, suc, true, false, [], ◌∷◌, ◌++◌, Option, Some, refl, sym, ap, subst, ◌∙◌, arith, append_assoc}
+use Rattle.std.proofs.Common.{◌≡◌, ℕ, Bool, List, ◌-◌, ◌||◌, ◌&&◌, suc, true, false, [], ◌∷◌, ◌++◌, Option, None, Some, refl, sym, ap, subst, ◌∙◌, arith, append_assoc}
 use Rattle.std.specs.Option.{IsSomeAnd}
 use Rattle.std.specs.Ordering.{is_eq}
 use Rattle.wire_names.specs.rr.domain.DomainName.{DomainName}
@@ -32,9 +32,11 @@ lowered name = record { labels = lower_labels-twice name.labels; marks = refl }
 pub ends_so : (zone : Zone) (t : ℕ) (name : DomainName) (old new : Records) (end : ChainEnd) → Linked zone t name old new (link.End end) → (left : ℕ) → Chased zone t left name old new (ending_of end)
 ends_so zone t name old new end h left = record { added = h.gained.added; put = h.gained.put; chases = finishes h.says h.gained.is }
 
--- where a chain leads, in lower case
-abbrev pub LeadsTo : Zone → Option DomainName → DomainName → Type 0
-LeadsTo zone to next = (target : DomainName) × (to ≡ Some target) × (next ≡ lower_name target) × (target.is_fqdn ≡ true) × Encloses zone.origin.labels next.labels
+-- where a chain leads that goes on in the zone
+pub record LeadsTo (zone : Zone) (target next : DomainName) : Type 0 where
+  pub lower : next ≡ lower_name target
+  pub qualified : target.is_fqdn ≡ true
+  pub within : Encloses zone.origin.labels next.labels
 
 module _ (zone : Zone) (t : ℕ) (name : DomainName) (old new : Records) (to : Option DomainName) (h : Linked zone t name old new (link.Leads to)) where
   abbrev added : Records
@@ -46,24 +48,29 @@ module _ (zone : Zone) (t : ℕ) (name : DomainName) (old new : Records) (to : O
   pub leads_out : (left : ℕ) → ¬ (IsSomeAnd to (IsIn zone)) → Chased zone t left name old new left_open
   leads_out left out = record { added = added; put = h.gained.put; chases = leaves h.says h.gained.is out }
 
-  -- whether the chain was at the next name
-  been : (next : DomainName) (b : Bool) (way : LeadsTo zone to next) → owns_cname next new ≡ b → owns_cname way.0 (old ++ added) ≡ b
-  been next b way e =
-      sym (own_alike (lower_name way.0) way.0 (old ++ added) (lowered way.0)) ∙ sym (ap (λ (n : DomainName). owns_cname n (old ++ added)) way.2) ∙ sym (ap (owns_cname next) h.gained.put) ∙ e
+  pub leads_nowhere : (left : ℕ) → to ≡ None → Chased zone t left name old new left_open
+  leads_nowhere left none = leads_out left (subst (λ o. ¬ (IsSomeAnd o (IsIn zone))) (sym none) (λ x. x))
 
-  pub leads_back : (left : ℕ) (next : DomainName) (way : LeadsTo zone to next) → owns_cname next new ≡ true → Chased zone t left name old new left_open
-  leads_back left next way e = record { added = added; put = h.gained.put; chases = comes_back h.says (h.gained.is ∙ ap (leads added) way.1) (been next true way e) }
+  module _ (target : DomainName) (is : to ≡ Some target) where
+    pub leads_outside : (left : ℕ) → ¬ (IsIn zone target) → Chased zone t left name old new left_open
+    leads_outside left out = leads_out left (subst (λ o. ¬ (IsSomeAnd o (IsIn zone))) (sym is) out)
 
-  pub leads_on : (left : ℕ) (next : DomainName) (last : Records) (ending : Ending) → ¬ (left ≡ 0) → (way : LeadsTo zone to next) → owns_cname next new ≡ false
-      → Chased zone t (left - 1) next new last ending → Chased zone t left name old last ending
-  leads_on left next last ending some way apart rest =
-      let more : suc (left - 1) ≡ left = omega arith in
-      let on : Chases zone t (left - 1) (old ++ added) (lower_name way.0) rest.added ending =
-      subst (λ (rs : Records). Chases zone t (left - 1) rs (lower_name way.0) rest.added ending) h.gained.put (subst (λ (n : DomainName). Chases zone t (left - 1) new n rest.added ending) way.2 rest.chases) in
-      record {
-        added = added ++ rest.added;
-        put = rest.put ∙ ap (λ rs. rs ++ rest.added) h.gained.put ∙ append_assoc old added rest.added;
-        chases = subst (λ n. Chases zone t n old name (added ++ rest.added) ending) more
-            (follows h.says (h.gained.is ∙ ap (leads added) way.1) (record { qualified = way.3; within = lower_enclosed zone.origin.labels way.0.labels (subst (λ (n : DomainName). Encloses zone.origin.labels n.labels) way.2 way.4) })
-            (been next false way apart) on);
-      }
+    module _ (next : DomainName) (way : LeadsTo zone target next) where
+      -- whether the chain was at the next name
+      been : (b : Bool) → owns_cname next new ≡ b → owns_cname target (old ++ added) ≡ b
+      been b e = sym (own_alike (lower_name target) target (old ++ added) (lowered target)) ∙ sym (ap (λ (n : DomainName). owns_cname n (old ++ added)) way.lower) ∙ sym (ap (owns_cname next) h.gained.put) ∙ e
+
+      pub leads_back : (left : ℕ) → owns_cname next new ≡ true → Chased zone t left name old new left_open
+      leads_back left e = record { added = added; put = h.gained.put; chases = comes_back h.says (h.gained.is ∙ ap (leads added) is) (been true e) }
+
+      pub leads_on : (left : ℕ) (last : Records) (ending : Ending) → ¬ (left ≡ 0) → owns_cname next new ≡ false → Chased zone t (left - 1) target new last ending → Chased zone t left name old last ending
+      leads_on left last ending some apart rest =
+          let more : suc (left - 1) ≡ left = omega arith in
+          let on : Chases zone t (left - 1) (old ++ added) target rest.added ending = subst (λ (rs : Records). Chases zone t (left - 1) rs target rest.added ending) h.gained.put rest.chases in
+          record {
+            added = added ++ rest.added;
+            put = rest.put ∙ ap (λ rs. rs ++ rest.added) h.gained.put ∙ append_assoc old added rest.added;
+            chases = subst (λ n. Chases zone t n old name (added ++ rest.added) ending) more
+                (follows h.says (h.gained.is ∙ ap (leads added) is) (record { qualified = way.qualified; within = lower_enclosed zone.origin.labels target.labels (subst (λ (n : DomainName). Encloses zone.origin.labels n.labels) way.lower way.within) })
+                (been false apart) on);
+          }

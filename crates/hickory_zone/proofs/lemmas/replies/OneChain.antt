@@ -24,8 +24,8 @@ apart : (rs qs : Records) (end : Ending) (to : Option DomainName) → ends rs en
 apart rs qs end to e = absurd cc
 
 module _ (zone : Zone) (t : ℕ) where
-  same_step : (before : Records) (name : DomainName) (o p : Outcome) (one other : Step) → Answers zone name t o → Answers zone name t p → step t before name o ≡ one → step t before name p ≡ other → one ≡ other
-  same_step before name o p one other a b e f = sym e ∙ ap (step t before name) (once zone name t o p a b) ∙ f
+  same_step : (before : Records) (name : DomainName) (o p : Outcome) (one other : Step) → Answers zone (lower_name name) t o → Answers zone (lower_name name) t p → step t before name o ≡ one → step t before name p ≡ other → one ≡ other
+  same_step before name o p one other a b e f = sym e ∙ ap (step t before name) (once zone (lower_name name) t o p a b) ∙ f
 
   pub chain_once : (left : ℕ) (before : Records) (name : DomainName) (one other : Records) (end last : Ending) → Chases zone t left before name one end → Chases zone t left before name other last → (one ≡ other) × (end ≡ last)
   chain_once left before name one other end last (finishes {outcome = po} {rs = prs} pa ps) (finishes {outcome = qo} {rs = qrs} qa qs) =
@@ -44,8 +44,8 @@ module _ (zone : Zone) (t : ℕ) where
       let e : leads prs (Some ptarget) ≡ leads qrs (Some qtarget) = same_step before name po qo (leads prs (Some ptarget)) (leads qrs (Some qtarget)) pa qa ps qs in
       let same : prs ≡ qrs = same_records prs qrs (Some ptarget) (Some qtarget) e in
       let to : ptarget ≡ qtarget = same_target ptarget qtarget (same_way prs qrs (Some ptarget) (Some qtarget) e) in
-      let rest = chain_once pleft (before ++ prs) (lower_name ptarget) prest qrest end last pon
-      (subst (λ (n : DomainName). Chases zone t pleft (before ++ prs) (lower_name n) qrest last) (sym to) (subst (λ (rs : Records). Chases zone t pleft (before ++ rs) (lower_name qtarget) qrest last) (sym same) qon)) in
+      let rest = chain_once pleft (before ++ prs) ptarget prest qrest end last pon
+      (subst (λ (n : DomainName). Chases zone t pleft (before ++ prs) n qrest last) (sym to) (subst (λ (rs : Records). Chases zone t pleft (before ++ rs) qtarget qrest last) (sym same) qon)) in
       (ap (λ rs. rs ++ prest) same ∙ ap (λ rs. qrs ++ rs) rest.0, rest.1)
   chain_once left before name one other end last (follows {left = pleft} {target = ptarget} {outcome = po} {rs = prs} {rest = prest} pa ps pi pf pon) (comes_back {target = qtarget} {outcome = qo} {rs = qrs} qa qs qf) =
       let e : leads prs (Some ptarget) ≡ leads qrs (Some qtarget) = same_step before name po qo (leads prs (Some ptarget)) (leads qrs (Some qtarget)) pa qa ps qs in

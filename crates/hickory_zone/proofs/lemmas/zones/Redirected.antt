@@ -79,7 +79,7 @@ module _ (zone : Zone) (name : DomainName) where
   ]
   in_the_end seen (Some by) real apex h = record {
     off = h.off;
-    real = omega (arith, h.below);
+    is_ancestor = omega (arith, h.below);
     owner = h.owner;
     highest = λ j above least x. elim (cases_lt j (seen + 1)) [ inl below ↦ h.highest j above below x | inr over ↦ none_above seen apex j (omega arith) least x ];
     uncut = λ j above c. elim (cases_lt j (seen + 1)) [ inl below ↦ h.uncut j above below c | inr over ↦ no_cut_above zone name seen apex j (omega arith) c ];
@@ -120,7 +120,7 @@ module _ (zone : Zone) (name : DomainName) where
     from_above None top = λ j r. elim (cases_lt j k) [
       | inl below ↦ apart j r.above below r.owner
       | inr over ↦
-          let found = top (j - k) (omega (arith, r.real, length-drop k name.labels)) (subst (HasDname zone) (sym (further j over)) r.owner) in
+          let found = top (j - k) (omega (arith, r.is_ancestor, length-drop k name.labels)) (subst (HasDname zone) (sym (further j over)) r.owner) in
           r.uncut (k + found.0) (omega (arith, found.1)) (subst (IsCut zone) (ancestor-ancestor name found.0 k) found.2)
     ]
     from_above (Some by) top =
@@ -129,7 +129,7 @@ module _ (zone : Zone) (name : DomainName) where
           off = k + top.off;
           redirects = record {
             above = omega arith;
-            real = omega (arith, top.real, length-drop k name.labels);
+            is_ancestor = omega (arith, top.is_ancestor, length-drop k name.labels);
             owner = subst (HasDname zone) same top.owner;
             highest = λ j h least x. top.highest (j - k) (omega arith) (omega (arith, length-drop k name.labels)) (subst (HasDname zone) (sym (further j (omega arith))) x);
             uncut = λ j h c. top.uncut (j - k) (omega arith) (subst (IsCut zone) (sym (further j (omega arith))) c);
@@ -140,7 +140,7 @@ module _ (zone : Zone) (name : DomainName) where
 
   -- nothing is above the apex
   pub apex_direct : Encloses name.labels zone.origin.labels → (k : ℕ) → ¬ (Redirects zone name k)
-  apex_direct apex k r = none_above 0 apex k r.above r.real r.owner
+  apex_direct apex k r = none_above 0 apex k r.above r.is_ancestor r.owner
 
   dname_exists : (n : DomainName) → HasDname zone n → Exists zone.sets n
   dname_exists n x = owns zone.sets n 39 x.dname
@@ -176,7 +176,7 @@ module _ (zone : Zone) (name : DomainName) where
   pub as_redirected : (t : ℕ) (at : Option Redirection) (by : Redirection) → at ≡ Some by → RedirectedAt zone name at → Answers zone name t (redirection (length name.labels - by.labels) by.dname.now)
   as_redirected t at by is h =
       let x : RedirectedBy zone name by = subst (RedirectedAt zone name) is h in
-      let e : length name.labels - by.labels ≡ x.off = omega (arith, x.labels, length-drop x.off name.labels, x.redirects.real) in
+      let e : length name.labels - by.labels ≡ x.off = omega (arith, x.labels, length-drop x.off name.labels, x.redirects.is_ancestor) in
       subst (λ (k : ℕ). Answers zone name t (redirection k by.dname.now)) (sym e) (redirected x.redirects x.dname)
 
   pub as_direct : (at : Option Redirection) → at ≡ None → RedirectedAt zone name at → (k : ℕ) → ¬ (Redirects zone name k)

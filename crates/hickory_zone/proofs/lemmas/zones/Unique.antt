@@ -3,7 +3,7 @@ use Rattle.std.proofs.Common.{◌≡◌, ℕ, suc, Some, inl, inr, refl, sym, ap
 use Rattle.std.proofs.lemmas.Bool.{cases_lt}
 use Rattle.wire_names.specs.rr.domain.DomainName.{DomainName}
 use Rattle.hickory_zone.proofs.lemmas.zones.Outcomes.{closest_once}
-use Rattle.hickory_zone.specs.Zones.{Answers, AnswersDirectly, Delegates, Outcome, Records, Redirects, Zone, ancestor, at_cut, at_node, delegated, denied, direct, matched, redirected, redirection, referral, rrset, synthesized, wild, wildcard}
+use Rattle.hickory_zone.specs.Zones.{Answers, AnswersDirectly, Delegates, Outcome, Records, Redirects, Zone, ancestor, at_cut, at_node, delegated, denied, direct, matched, redirected, redirection, referral, rrset, by_wildcard, wild, wildcard}
 
 module _ (zone : Zone) (name : DomainName) (t : ℕ) where
   cut_once : (j k : ℕ) → Delegates zone name j → Delegates zone name k → j ≡ k
@@ -15,8 +15,8 @@ module _ (zone : Zone) (name : DomainName) (t : ℕ) where
   same_servers : (j k : ℕ) (rs qs : Records) → j ≡ k → rrset zone.sets (ancestor name j) 2 ≡ Some rs → rrset zone.sets (ancestor name k) 2 ≡ Some qs → rs ≡ qs
   same_servers j k rs qs e a b = let f : Some rs ≡ Some qs = sym a ∙ ap (λ n. rrset zone.sets (ancestor name n) 2) e ∙ b in cc
 
-  same_source : (j k : ℕ) → suc j ≡ suc k → synthesized name (at_node zone.sets (wildcard (ancestor name (suc j))) t) ≡ synthesized name (at_node zone.sets (wildcard (ancestor name (suc k))) t)
-  same_source j k e = ap (λ n. synthesized name (at_node zone.sets (wildcard (ancestor name n)) t)) e
+  same_source : (j k : ℕ) → suc j ≡ suc k → by_wildcard (at_node zone.sets (wildcard (ancestor name (suc j))) t) ≡ by_wildcard (at_node zone.sets (wildcard (ancestor name (suc k))) t)
+  same_source j k e = ap (λ n. by_wildcard (at_node zone.sets (wildcard (ancestor name n)) t)) e
 
   direct_once : (one other : Outcome) → AnswersDirectly zone name t one → AnswersDirectly zone name t other → one ≡ other
   direct_once one other (delegated {k = j} {servers = rs} d p s) (delegated {k = k} {servers = qs} e q r) = ap referral (same_servers j k rs qs (cut_once j k d e) s r)
@@ -47,8 +47,8 @@ module _ (zone : Zone) (name : DomainName) (t : ℕ) where
 
   redirect_once : (j k : ℕ) → Redirects zone name j → Redirects zone name k → j ≡ k
   redirect_once j k a b = elim (cases_lt j k) [
-    | inl less ↦ absurd (a.highest k less b.real b.owner)
-    | inr more ↦ elim (cases_lt k j) [ inl greater ↦ absurd (b.highest j greater a.real a.owner) | inr same ↦ omega arith ]
+    | inl less ↦ absurd (a.highest k less b.is_ancestor b.owner)
+    | inr more ↦ elim (cases_lt k j) [ inl greater ↦ absurd (b.highest j greater a.is_ancestor a.owner) | inr same ↦ omega arith ]
   ]
 
   same_dname : (j k : ℕ) (rs qs : Records) → j ≡ k → rrset zone.sets (ancestor name j) 39 ≡ Some rs → rrset zone.sets (ancestor name k) 39 ≡ Some qs → redirection j rs ≡ redirection k qs

@@ -17,7 +17,7 @@ use Rattle.hickory_zone.proofs.lemmas.names.Enclosers.{ancestor-ancestor}
 use Rattle.hickory_zone.proofs.lemmas.zones.Beside.{encloses_drop}
 use Rattle.hickory_zone.proofs.lemmas.zones.Cuts.{encloses_length, ends_within}
 use Rattle.hickory_zone.proofs.lemmas.zones.Outcomes.{closest_once}
-use Rattle.hickory_zone.specs.Zones.{Answers, Delegates, Exists, HasClosestEncloser, HasDname, IsAuthoritativeAt, IsCut, Records, Redirects, Sets, Zone, ancestor, at_cut, at_node, delegated, denied, direct, matched, no_name, redirected, redirection, referral, rrset, synthesized, type_dname, type_ds, type_ns, wild, wildcard}
+use Rattle.hickory_zone.specs.Zones.{Answers, Delegates, Exists, HasClosestEncloser, HasDname, IsAuthoritativeAt, IsCut, Records, Redirects, Sets, Zone, ancestor, at_cut, at_node, delegated, denied, direct, matched, no_name, redirected, redirection, referral, rrset, by_wildcard, type_dname, type_ds, type_ns, wild, wildcard}
 
 and_both : (a b : Bool) → (a && b) ≡ true → (a ≡ true) × (b ≡ true)
 and_both true b h = (refl, h)
@@ -180,12 +180,12 @@ free_by zone name k (suc n) h j above below x =
 module _ (zone : Zone) (name : DomainName) where
   -- nothing above the name owns a DNAME
   pub direct_by : is_free zone name 0 (length name.labels) ≡ true → (k : ℕ) → ¬ (Redirects zone name k)
-  direct_by free k r = free_by zone name 0 (length name.labels) free k r.above (omega (arith, r.real)) r.owner
+  direct_by free k r = free_by zone name 0 (length name.labels) free k r.above (omega (arith, r.is_ancestor)) r.owner
 
   -- the zone is cut at or above all that own one
   direct_below_cut : (k : ℕ) → IsCut zone (ancestor name k) → is_free zone name k (length name.labels - k) ≡ true → (j : ℕ) → ¬ (Redirects zone name j)
   direct_below_cut k cut free j r = elim (cases_lt k j) [
-    | inl above ↦ free_by zone name k (length name.labels - k) free j above (omega (arith, r.real)) r.owner
+    | inl above ↦ free_by zone name k (length name.labels - k) free j above (omega (arith, r.is_ancestor)) r.owner
     | inr below ↦ r.uncut k below cut
   ]
 
@@ -193,7 +193,7 @@ module _ (zone : Zone) (name : DomainName) where
       → is_uncut zone (ancestor name k) (length (drop k name.labels)) ≡ true → Redirects zone name k
   redirects_by k above real inside owns free whole = record {
     above = above;
-    real = real;
+    is_ancestor = real;
     owner = record { within = encloses_by zone.origin (ancestor name k) inside; dname = owns };
     highest = λ j over least. free_by zone name k (length name.labels - k) free j over (omega arith);
     uncut = λ j over c.
@@ -226,7 +226,7 @@ module _ (zone : Zone) (name : DomainName) (t : ℕ) (free : is_free zone name 0
     closest : HasClosestEncloser zone.sets name (suc k)
     closest = closest_by zone.sets name (suc k) q mark here below
 
-    pub as_wild : is_in zone.sets (wildcard (ancestor name (suc k))) ≡ true → Answers zone name t (synthesized name (at_node zone.sets (wildcard (ancestor name (suc k))) t))
+    pub as_wild : is_in zone.sets (wildcard (ancestor name (suc k))) ≡ true → Answers zone name t (by_wildcard (at_node zone.sets (wildcard (ancestor name (suc k))) t))
     as_wild some = direct (direct_by zone name free) (wild (uncut_by zone name own) closest (exists_by zone.sets (wildcard (ancestor name (suc k))) some))
 
     pub as_denied : is_in zone.sets (wildcard (ancestor name (suc k))) ≡ false → Answers zone name t no_name

@@ -33,5 +33,5 @@ returns-clause-below_both c = as_referred cuts deep type_a refl 2 (owned child (
 pub returns-clause-servers_at_apex : goal.returns-clause-servers_at_apex
 returns-clause-servers_at_apex c = as_matched cuts example type_ns refl refl refl
 
-pub returns-clause-ds_above_cut : goal.returns-clause-ds_above_cut
-returns-clause-ds_above_cut c = as_matched cuts example type_ds refl refl refl
+pub returns-clause-ds_at_apex : goal.returns-clause-ds_at_apex
+returns-clause-ds_at_apex c = as_matched cuts example type_ds refl refl refl

@@ -50,6 +50,6 @@ pub returns-clause-at_itself : goal.returns-clause-at_itself
 unfolding name labels_from labels_within
 returns-clause-at_itself c = comes_back {target = a_self} (as_redirected redirecting a_self type_a 1 (owned self to_self ∷ []) (redirects_by redirecting a_self 1 (omega arith) (omega arith) refl refl refl refl) refl) refl refl
 
-pub returns-clause-at_length : goal.returns-clause-at_length
+pub returns-clause-name_too_long : goal.returns-clause-name_too_long
 unfolding name labels_from labels_within
-returns-clause-at_length c = finishes (as_redirected redirecting below_long type_a 3 (owned long to_far ∷ []) (redirects_by redirecting below_long 3 (omega arith) (omega arith) refl refl refl refl) refl) refl
+returns-clause-name_too_long c = finishes (as_redirected redirecting below_long type_a 3 (owned long to_far ∷ []) (redirects_by redirecting below_long 3 (omega arith) (omega arith) refl refl refl refl) refl) refl
