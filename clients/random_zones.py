@@ -9,6 +9,9 @@ import replies
 
 LABELS = ["a", "b", "c", "d", "www", "mail", "ns", "host", "web", "x1", "x-2", "_tcp", "_sip"]
 
+# Labels of octets that text has escapes for, that are like others in more than ASCII letters, or that are no wildcards.
+ODD_LABELS = ["a.b", "*x", "x*", "\u00c9", "\u00e9", " ", "@", "\0", '"', "**"]
+
 # A type that has no meaning anywhere.
 UNKNOWN = 65280
 
@@ -22,11 +25,12 @@ NAME_BYTES = 255
 
 
 def lower(name):
-    return tuple(it.lower() for it in name)
+    """A name in lower case: ASCII letters alone (RFC 4343 section 3)."""
+    return tuple(it.lower() if it.isascii() else it for it in name)
 
 
 def text_of(name):
-    return "".join(it + "." for it in name) or "."
+    return "".join(replies.escaped(it) + "." for it in name) or "."
 
 
 def size_of(name):
@@ -135,7 +139,7 @@ class Zone:
         """A name in mixed case, now and then."""
         if not self.chance(0.2):
             return name
-        return tuple("".join(self.draw.choice([it.lower(), it.upper()]) for it in label) for label in name)
+        return tuple("".join(self.draw.choice([it.lower(), it.upper()]) if it.isascii() else it for it in label) for label in name)
 
     def takes(self, name, rdtype):
         """Whether servers take a record of this type there."""
@@ -163,10 +167,13 @@ class Zone:
             of_type.append(data)
         return True
 
+    def some_label(self):
+        return self.draw.choice(ODD_LABELS if self.chance(0.05) else LABELS)
+
     def some_name(self, above=None, depth=None):
         """A name below one of the zone, or below the apex."""
         above = self.apex if above is None else above
-        return tuple(self.draw.choice(LABELS) for _ in range(depth or self.draw.choice([1, 1, 1, 2, 2, 3]))) + above
+        return tuple(self.some_label() for _ in range(depth or self.draw.choice([1, 1, 1, 2, 2, 3]))) + above
 
     def some_owner(self):
         return self.draw.choice(sorted(self.spelled))
@@ -195,11 +202,11 @@ class Zone:
         """A host that records may name: inside or outside, with addresses or without, at a wildcard or an alias or below a cut."""
         kind = self.draw.randrange(10)
         if kind == 0:
-            return (self.draw.choice(LABELS), *OUTSIDE)
+            return (self.some_label(), *OUTSIDE)
         if kind == 1:
             return self.some_name()
         if kind == 2:
-            return (self.draw.choice(LABELS), *self.some_owner())[-100:]
+            return (self.some_label(), *self.some_owner())[-100:]
         hosts = [it for it in sorted(self.sets) if replies.A in self.sets[it] or replies.AAAA in self.sets[it]]
         return self.draw.choice(hosts) if hosts else self.some_name()
 
@@ -271,7 +278,7 @@ class Zone:
             if kind == 0:
                 self.add_data(("*", *name))
             elif kind == 1:
-                self.add_data((self.draw.choice(LABELS), *name))
+                self.add_data((self.some_label(), *name))
             elif kind == 2:
                 self.add(name, replies.CNAME, self.target_text())
             else:
@@ -326,7 +333,7 @@ class Zone:
             elif kind == 1:
                 target = tuple("l" * 60 for _ in range(3)) + self.apex
             elif kind == 2:
-                target = name if self.chance(0.5) else (self.draw.choice(LABELS), *name)
+                target = name if self.chance(0.5) else (self.some_label(), *name)
             elif kind == 3:
                 target = self.apex
             else:
@@ -344,7 +351,7 @@ class Zone:
         kind = self.draw.randrange(10)
         owner = self.some_owner()
         if kind == 0:
-            return (self.draw.choice(LABELS), *OUTSIDE)
+            return (self.some_label(), *OUTSIDE)
         if kind == 1:
             return ("nothing", *self.some_name())
         if kind == 2:
@@ -353,9 +360,9 @@ class Zone:
             return self.draw.choice([cut, ("www", *cut), ("deep", "down", *cut)])
         if kind == 3:
             redirections = [it for it in sorted(self.sets) if replies.DNAME in self.sets[it]]
-            return (self.draw.choice(LABELS), *(self.draw.choice(redirections) if redirections else owner))
+            return (self.some_label(), *(self.draw.choice(redirections) if redirections else owner))
         if kind == 4:
-            return (self.draw.choice(LABELS), *owner)
+            return (self.some_label(), *owner)
         if kind == 5:
             return owner[1:] if len(owner) > len(self.apex) else owner
         return owner
@@ -424,11 +431,11 @@ class Zone:
             if name[0].startswith("server"):
                 # (the many hosts of a large set are alike)
                 continue
-            found += [name, ("below", *name), (draw.choice(LABELS), *name), (draw.choice(LABELS), "two", *name), ("beside", *name[1:]), name[1:]]
+            found += [name, ("below", *name), (self.some_label(), *name), (self.some_label(), "two", *name), ("beside", *name[1:]), name[1:]]
             if self.has(name, replies.DNAME):
-                found += [("a", "b", "c", *name), self.longest("w" * 40, name), ("w" * 60, *name), (draw.choice(LABELS), *name), ("*", *name)]
+                found += [("a", "b", "c", *name), self.longest("w" * 40, name), ("w" * 60, *name), (self.some_label(), *name), ("*", *name)]
             if name[0] == "*":
-                found += [("new", *name[1:]), ("one", "two", *name[1:]), (draw.choice(LABELS), *name[1:]), ("*", "new", *name[1:]), ("*", *name)]
+                found += [("new", *name[1:]), ("one", "two", *name[1:]), (self.some_label(), *name[1:]), ("*", "new", *name[1:]), ("*", *name)]
             if self.has(name, replies.NS):
                 found += [("*", *name), ("ns", *name), self.longest("a", name)]
         found += [("z", *OUTSIDE), self.apex[1:], (self.apex[0] + "z", *self.apex[1:]), self.longest("a", self.apex), self.longest("n" * 63, self.apex)]
@@ -437,7 +444,7 @@ class Zone:
 
     def asked_types(self, name):
         """Types that it has, and some that it has not."""
-        common = ["A", "AAAA", "NS", "SOA", "MX", "TXT", "CNAME", "DNAME", "DS", "SRV", "ANY", "HTTPS", "SVCB"]
+        common = ["A", "AAAA", "NS", "SOA", "MX", "TXT", "CNAME", "DNAME", "DS", "SRV", "ANY", "HTTPS", "SVCB", "DNSKEY", "RRSIG", "NSEC"]
         at = set(self.types_at(name)) | {UNKNOWN if self.chance(0.3) else replies.A}
         if is_below(name, self.apex) and not self.exists(name):
             at |= set(self.types_at(self.wildcard_of(name)))

@@ -7,7 +7,7 @@ A, NS, CNAME, SOA, PTR, MX, TXT, AAAA, SRV, DNAME, OPT, DS, SVCB, HTTPS, ANY = 1
 
 TYPES = {
     "A": A, "NS": NS, "CNAME": CNAME, "SOA": SOA, "PTR": PTR, "MX": MX, "TXT": TXT, "AAAA": AAAA, "SRV": SRV, "DNAME": DNAME, "DS": DS, "SVCB": SVCB,
-    "HTTPS": HTTPS, "ANY": ANY,
+    "HTTPS": HTTPS, "ANY": ANY, "RRSIG": 46, "NSEC": 47, "DNSKEY": 48,
 }
 MNEMONICS = {number: text for text, number in TYPES.items()}
 CODES = {0: "NOERROR", 1: "FORMERR", 2: "SERVFAIL", 3: "NXDOMAIN", 4: "NOTIMP", 5: "REFUSED", 6: "YXDOMAIN", 9: "NOTAUTH", 16: "BADVERS"}
@@ -18,8 +18,8 @@ NAMES_IN_DATA = {NS: (0, 1), CNAME: (0, 1), PTR: (0, 1), DNAME: (0, 1), MX: (2, 
 # The types whose data name a host, whose addresses are added (RFC 1035 section 3.3, RFC 2782, RFC 9460 section 4.1).
 HOST_IN_DATA = NS, MX, SRV, SVCB, HTTPS
 
-# How many bytes a client takes by its OPT record.
-PAYLOAD = 1232
+# What a reply over UDP has at most where the query has no OPT record (RFC 1035 section 4.2.1), and what servers send at most in any case.
+LEAST, MOST = 512, 1232
 
 
 def type_text(number):
@@ -35,21 +35,27 @@ def name_bytes(labels):
     return b"".join(bytes([len(it)]) + it.encode("latin-1") for it in labels) + b"\0"
 
 
+def escaped(label):
+    """The text of a label (RFC 1035 section 5.1)."""
+    return "".join(it if it.isascii() and it.isalnum() or it in "-_*" else f"\\{ord(it):03}" for it in label)
+
+
 def name_text(octets):
     """The text of a name that stands in full."""
     place, labels = 0, []
     while octets[place]:
         labels.append(octets[place + 1 : place + 1 + octets[place]].decode("latin-1"))
         place += 1 + octets[place]
-    return "".join(it + "." for it in labels) or "."
+    return "".join(escaped(it) + "." for it in labels) or "."
 
 
-def query_bytes(number, labels, rdtype, recursion_desired=False, has_edns=False):
-    """A standard query of class IN, DO clear."""
-    counts = (1).to_bytes(2, "big") + bytes(4) + int(has_edns).to_bytes(2, "big")
+def query_bytes(number, labels, rdtype, recursion_desired=False, payload=None):
+    """A standard query of class IN, with an OPT record where the client has a payload, DO clear."""
+    counts = (1).to_bytes(2, "big") + bytes(4) + (0 if payload is None else 1).to_bytes(2, "big")
     flags = 0x0100 if recursion_desired else 0
-    opt = b"\0" + OPT.to_bytes(2, "big") + PAYLOAD.to_bytes(2, "big") + bytes(6) if has_edns else b""
-    return number.to_bytes(2, "big") + flags.to_bytes(2, "big") + counts + name_bytes(labels) + rdtype.to_bytes(2, "big") + b"\0\1" + opt
+    question = name_bytes(labels) + rdtype.to_bytes(2, "big") + b"\0\1"
+    opt = b"" if payload is None else b"\0" + OPT.to_bytes(2, "big") + payload.to_bytes(2, "big") + bytes(6)
+    return number.to_bytes(2, "big") + flags.to_bytes(2, "big") + counts + question + opt
 
 
 class Fault(Exception):
@@ -161,6 +167,7 @@ class Reply:
             "code": self.code,
             "flags": tuple(name for name, bit in FLAGS if flags & bit),
             "edns": self.opt,
+            "cut": False,
             "answer": chain_of(answers),
             "authority": set_of(authorities),
             "additional": set_of(additionals),
@@ -179,6 +186,11 @@ class Reply:
     def is_cut(self):
         return "TC" in self.parts["flags"]
 
+    def after_cut(self, reply):
+        """This reply, as the one that a client gets in the place of one that was cut."""
+        self.parts["cut"] = reply.is_cut
+        return self
+
     def repeated(self):
         """Records that stand twice in a section."""
         return [it for records in self.sections for it, count in collections.Counter(it[:5] for it in records).items() if count > 1]
@@ -196,9 +208,9 @@ class Reply:
 
 FLAGS = [("QR", 0x8000), ("AA", 0x0400), ("TC", 0x0200), ("RD", 0x0100), ("RA", 0x0080), ("Z", 0x0040), ("AD", 0x0020), ("CD", 0x0010)]
 
-# What is compared of a reply; of one that was cut only its front.
-FRONT = ["code", "flags", "edns"]
-PARTS = FRONT + ["answer", "authority", "additional"]
+# What is compared of a reply, and what of it where servers agree on a part alone.
+PARTS = ["code", "flags", "edns", "cut", "answer", "authority", "additional"]
+ALONE = ["code", "flags", "edns", "answer", "authority", "additional"]
 
 
 def data_text(rdtype, octets):

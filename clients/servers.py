@@ -18,6 +18,9 @@ REPLY_SECONDS = 3
 # So many datagrams are under way at a time, so that none is lost to a full socket.
 AT_A_TIME = 40
 
+# What zone_serve tells in its mode `lines` in the place of replies.
+WORDS = "denied", "response", "unreadable", "bad line"
+
 NSD = """\
 server:
     server-count: 1
