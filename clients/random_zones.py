@@ -199,7 +199,7 @@ class Zone:
         return all([it(name) for it in adders])
 
     def some_host(self):
-        """A host that records may name: inside or outside, with addresses or without, at a wildcard or an alias or below a cut."""
+        """A host that records may name: inside or outside, with addresses or without, behind a wildcard or an alias, below a cut."""
         kind = self.draw.randrange(10)
         if kind == 0:
             return (self.some_label(), *OUTSIDE)
@@ -208,7 +208,9 @@ class Zone:
         if kind == 2:
             return (self.some_label(), *self.some_owner())[-100:]
         hosts = [it for it in sorted(self.sets) if replies.A in self.sets[it] or replies.AAAA in self.sets[it]]
-        return self.draw.choice(hosts) if hosts else self.some_name()
+        host = self.draw.choice(hosts) if hosts else self.some_name()
+        # (no host is called an asterisk: one that the wildcard makes)
+        return ("host", *host[1:]) if host[0] == "*" else host
 
     def host_text(self):
         return text_of(self.spell(self.whole(self.some_host())))

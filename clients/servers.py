@@ -21,6 +21,8 @@ AT_A_TIME = 40
 # What zone_serve tells in its mode `lines` in the place of replies.
 WORDS = "denied", "response", "unreadable", "bad line"
 
+# What is set otherwise than by default, and not for places alone, is in docs/TESTED.md with its reason; `minimal-responses` and `refuse-any` of NSD and
+# `minimal-any` of BIND are as by default, and said because much hangs on them.
 NSD = """\
 server:
     server-count: 1
@@ -35,10 +37,8 @@ server:
     xfrdir: "{folder}"
     pidfile: "{folder}/nsd.pid"
     rrl-ratelimit: 0
-    rrl-whitelist-ratelimit: 0
     minimal-responses: no
     refuse-any: no
-    confine-to-zone: no
 
 remote-control:
     control-enable: no
