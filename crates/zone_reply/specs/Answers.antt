@@ -18,8 +18,8 @@ use Rattle.hickory_server.specs.declared.server.serve.Outcome.{Outcome}
 use Rattle.hickory_server.specs.declared.server.serve.Outcome.TheVariants.{Replies}
 use Rattle.hickory_server.specs.declared.server.serve.ServeError.{ServeError}
 use Rattle.hickory_server.specs.declared.server.serve.ServeError.TheVariants as serve_error
-use Rattle.zone_reply.specs.Command.{command_of, refusal_line, refusal_status, version_line}
-use Rattle.zone_reply.specs.declared.command.Command.TheVariants.{Answer, Version}
+use Rattle.zone_reply.specs.Command.{command_of, help_lines, refusal_line, refusal_status, version_line}
+use Rattle.zone_reply.specs.declared.command.Command.TheVariants.{Answer, Help, Version}
 use Rattle.zone_reply.specs.declared.command.Refusal.{Refusal}
 use Rattle.zone_reply.specs.declared.command.Refusal.TheVariants.{Usage, NotHex, Unreadable, Memory}
 
@@ -101,10 +101,14 @@ pub record AreReplyLines {H : Type 0} (server : Server H) (arguments : List (Lis
   pub becomes : Becomes server protocol message (Replies encoded) zones
   pub lines_are : lines ≡ hex_lines encoded
 
--- What is answered: the lines of the replies, or the program's name and version, or why there are none. A reader may fail at any time once the
+-- The lines are the program's name and version, or how it is started, as the arguments ask.
+abbrev pub AreOwnLines : List (List ℕ) → List ℕ → Type 0
+AreOwnLines arguments lines = ((command_of arguments ≡ Some Version) × (lines ≡ version_line)) ⊎ ((command_of arguments ≡ Some Help) × (lines ≡ help_lines))
+
+-- What is answered: the lines of the replies, or what the program tells of itself, or why there are none. A reader may fail at any time once the
 -- arguments name a transport, and memory may be refused at any time once they name a command. The zones are those after it.
 abbrev pub IsAnswer : {H : Type 0} → Server H → List (List ℕ) → Option (List ℕ) → Result (List ℕ) Refusal → List (DomainName × List H) → Type 0
-IsAnswer server arguments input (Ok lines) zones = AreReplyLines server arguments input lines zones ⊎ ((command_of arguments ≡ Some Version) × (lines ≡ version_line))
+IsAnswer server arguments input (Ok lines) zones = AreReplyLines server arguments input lines zones ⊎ AreOwnLines arguments lines
 IsAnswer server arguments input (Err Usage) zones = command_of arguments ≡ None
 IsAnswer server arguments input (Err NotHex) zones = (protocol : Protocol) × (command_of arguments ≡ Some (Answer protocol))
 IsAnswer server arguments input (Err Unreadable) zones = (protocol : Protocol) × (command_of arguments ≡ Some (Answer protocol)) × (message : List ℕ) × IsFirstMessage input message × (e : ProtoError) × IsFaultOf message e

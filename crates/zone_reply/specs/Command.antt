@@ -4,8 +4,9 @@ use Rattle.std.specs.Cmp.Lexicographic.{pointwise}
 use Rattle.std.specs.Io.KnownBytes.{Appends}
 use Rattle.wire_messages.specs.declared.protocol.Protocol.TheVariants.{Udp, Tcp}
 use Rattle.hickory_server.specs.declared.TheConstants.{VERSION}
+use Rattle.zone_reply.specs.declared.command.TheConstants.{HELP}
 use Rattle.zone_reply.specs.declared.command.Command.{Command}
-use Rattle.zone_reply.specs.declared.command.Command.TheVariants.{Answer, Version}
+use Rattle.zone_reply.specs.declared.command.Command.TheVariants.{Answer, Help, Version}
 use Rattle.zone_reply.specs.declared.command.Refusal.{Refusal}
 use Rattle.zone_reply.specs.declared.command.Refusal.TheVariants.{Usage, NotHex, Unreadable, Memory}
 
@@ -14,9 +15,11 @@ abbrev pub command_named : List ℕ → Option Command
 command_named name =
     cond (pointwise nat_eq name (codes "udp")) (Some (Answer Udp))
     (cond (pointwise nat_eq name (codes "tcp")) (Some (Answer Tcp))
-    (cond (pointwise nat_eq name (codes "--version")) (Some Version) None))
+    (cond (pointwise nat_eq name (codes "--version")) (Some Version)
+    (cond (pointwise nat_eq name (codes "--help")) (Some Help)
+    (cond (pointwise nat_eq name (codes "-h")) (Some Help) None))))
 
--- the command that the arguments name: there is just one, and it is `udp`, `tcp` or `--version`
+-- the command that the arguments name: there is just one, and it is `udp`, `tcp`, `--version`, `--help` or `-h`
 abbrev pub command_of : List (List ℕ) → Option Command
 command_of [] = None
 command_of (name ∷ []) = command_named name
@@ -26,9 +29,13 @@ command_of (name ∷ other ∷ others) = None
 abbrev pub version_line : List ℕ
 version_line = codes "zone_reply " ++ VERSION.now ++ codes "\n"
 
+-- the lines that tell how the program is started
+abbrev pub help_lines : List ℕ
+help_lines = HELP.now ++ codes "\n"
+
 -- the line that tells a refusal, with its newline
 abbrev pub refusal_line : Refusal → List ℕ
-refusal_line Usage = codes "usage: zone_reply udp|tcp|--version\n"
+refusal_line Usage = codes "usage: zone_reply udp|tcp|--version|--help\n"
 refusal_line NotHex = codes "not hex\n"
 refusal_line Unreadable = codes "unreadable\n"
 refusal_line Memory = codes "no memory\n"

@@ -1,7 +1,7 @@
 //! What the command is given and what it prints.
 
 ghost use Rattle.std.specs.Prelude.{◌≡◌, IfOk, map, string_bytes};
-ghost use Rattle.zone_reply.specs.Command.{IsPrinted, command_of, command_named, refusal_line, refusal_status, version_line};
+ghost use Rattle.zone_reply.specs.Command.{IsPrinted, command_of, command_named, help_lines, refusal_line, refusal_status, version_line};
 ghost use Rattle.zone_reply.specs.declared.command.Refusal.TheVariants as refusal;
 
 use hickory_server::VERSION;
@@ -17,12 +17,14 @@ pub enum Command {
     Answer(Protocol),
     /// The program's name and version.
     Version,
+    /// How the program is started.
+    Help,
 }
 
 /// Why there is no reply.
 #[derive(Clone, Copy, Debug, PartialEq, Eq, Error)]
 pub enum Refusal {
-    /// There is not exactly one argument, `udp`, `tcp` or `--version`.
+    /// There is not exactly one argument, `udp`, `tcp`, `--version`, `--help` or `-h`.
     #[error("usage")]
     Usage,
     /// The line cannot be read, or is not an even number of hex digits.
@@ -42,7 +44,7 @@ impl Refusal {
         ensures { result.now ≡ refusal_line self }
     {
         match self {
-            Refusal::Usage => b"usage: zone_reply udp|tcp|--version\n",
+            Refusal::Usage => b"usage: zone_reply udp|tcp|--version|--help\n",
             Refusal::NotHex => b"not hex\n",
             Refusal::Unreadable => b"unreadable\n",
             Refusal::Memory => b"no memory\n",
@@ -96,6 +98,8 @@ fn command_named(name: &str) -> Option<Command>
         Some(Command::Answer(Protocol::Tcp))
     } else if name == "--version" {
         Some(Command::Version)
+    } else if name == "--help" || name == "-h" {
+        Some(Command::Help)
     } else {
         None
     }
@@ -119,6 +123,23 @@ pub fn version_line(alloc: Global) -> Result<Vec<u8>, AllocError>
     line.extend_from_slice(VERSION.as_bytes())?;
     line.push(b'\n')?;
     Ok(line)
+}
+
+/// How the program is started.
+pub const HELP: &str = "\
+zone_reply udp|tcp|--version|--help
+  udp        answers a message that came over UDP, a line of hex digits, by a line of hex digits
+  tcp        the same over TCP, by a line for each reply
+  --version  name and version
+  --help     this";
+
+/// The lines that tell how the program is started.
+pub fn help_lines(alloc: Global) -> Result<Vec<u8>, AllocError>
+    ensures { IfOk result (λ lines. lines.items ≡ help_lines) }
+{
+    let mut lines = HELP.as_bytes().to_vec(alloc)?;
+    lines.push(b'\n')?;
+    Ok(lines)
 }
 
 /// Prints a line and answers the status, or 4 where printing fails.

@@ -9,7 +9,7 @@ ghost use Rattle.zone_reply.specs.Command.{IsPrinted};
 ghost use Rattle.zone_reply.specs.declared.command.Refusal.{Refusal};
 ghost use Rattle.zone_reply.specs.declared.command.Refusal.TheVariants.{Memory, Unreadable};
 
-use crate::command::{Command, Refusal, command_of, print, version_line};
+use crate::command::{Command, Refusal, command_of, help_lines, print, version_line};
 use crate::input::message;
 use hickory_server::access::AccessControl;
 use hickory_server::proto::{Octets, Protocol};
@@ -113,6 +113,7 @@ fn answer<S: ReplySigner, H: ZoneHandler, R: Read>(
     match command_of(arguments) {
         None => Err(Refusal::Usage),
         Some(Command::Version) => Ok(version_line(alloc)?),
+        Some(Command::Help) => Ok(help_lines(alloc)?),
         Some(Command::Answer(protocol)) => {
             let message = message(alloc, reader)?;
             reply_lines(alloc, catalog, protocol, message)
@@ -121,8 +122,8 @@ fn answer<S: ReplySigner, H: ZoneHandler, R: Read>(
 }
 
 /// Answers one message: prints a line for each reply, and gives the status. The arguments name the transport, `udp` or `tcp`; the
-/// first line of the input is the message in hex digits. Where the argument is `--version`, the program's name and version is printed, and
-/// nothing is read.
+/// first line of the input is the message in hex digits. Where the argument is `--version`, the program's name and version is printed, where it
+/// is `--help` or `-h`, how it is started, and nothing is read.
 ///
 /// Each line is a reply in lower-case hex digits, with status 0, and only a transfer may have several; or the one line is a refusal with its
 /// status: wrong usage 2, no hex 2, no DNS message 1, no memory 3. Where printing fails, the status is 4. Only an update

@@ -1,7 +1,9 @@
 //! Tries zones, lists of blocked names, access lists and queries from a script: `zone_script` reads commands from the
 //! standard input, one a line, and prints the answer of each.
 //!
-//! The status is 0 where all lines were obeyed, 1 where some was not, 2 where there are arguments, 3 where memory was
+//! `zone_script --version` prints its name and version, and `zone_script --help` the forms of all commands.
+//!
+//! The status is 0 where all lines were obeyed, 1 where some was not, 2 where there are other arguments, 3 where memory was
 //! refused, and 4 where reading or printing failed.
 #![tactic(auto)]
 
@@ -9,8 +11,11 @@ mod commands;
 mod forms;
 mod script;
 
+use crate::forms::put_forms;
 use crate::script::Script;
+use hickory_server::VERSION;
 use script_values::fault::Fault;
+use script_values::output::Output;
 use std::alloc::Global;
 use std::io::{BufRead, BufReader};
 use std::process::ExitCode;
@@ -50,9 +55,26 @@ fn obey_input<R: Files + Input + Print + Alloc<A = Global>>(rt: &R) -> Result<bo
     Ok(is_obeyed)
 }
 
-/// Whether the program was given arguments.
-fn has_arguments<R: Env + Alloc>(rt: &R) -> io::Result<bool> {
-    Ok(env::args(rt)?.len() > 1)
+/// The arguments behind the program's name.
+fn given_words<R: Env + Alloc<A = Global>>(rt: &R) -> Result<Vec<String>, Fault> {
+    match env::args(rt) {
+        Ok(arguments) => Ok(arguments.skip(1).collect(rt.alloc())?),
+        Err(e) => match e.kind() {
+            io::ErrorKind::OutOfMemory => Err(Fault::Memory),
+            _ => Err(Fault::NotText),
+        },
+    }
+}
+
+/// How the program is started.
+const USAGE: &str = "usage: zone_script < SCRIPT, or zone_script --version|--help";
+
+/// The status of a text that was to be printed.
+fn printed(ended: io::Result<()>) -> u8 {
+    match ended {
+        Ok(()) => 0,
+        Err(_) => 4,
+    }
 }
 
 /// Prints a line that tells why the script ends, and gives the status.
@@ -73,12 +95,36 @@ fn status<R: Print>(rt: &R, ended: &Result<bool, Fault>) -> u8 {
     }
 }
 
+/// Prints the forms of all commands, and gives the status.
+fn print_forms<R: Print + Alloc<A = Global>>(rt: &R) -> u8 {
+    let mut out = Output::new(rt.alloc());
+    put_forms(&mut out);
+    match out.into_text() {
+        Ok(text) => printed(print!(rt; "{text}")),
+        Err(_) => tell(rt, "no memory", 3),
+    }
+}
+
+/// Runs the program with these arguments, and gives its status.
+fn run_arguments<R: Files + Input + Print + Alloc<A = Global>>(rt: &R, arguments: &[String]) -> u8 {
+    let word = match arguments {
+        [] => return status(rt, &obey_input(rt)),
+        [word] => word.as_str(),
+        _ => "",
+    };
+    match word {
+        "--version" => printed(println!(rt; "zone_script {VERSION}")),
+        "--help" | "-h" => print_forms(rt),
+        _ => tell(rt, USAGE, 2),
+    }
+}
+
 /// Runs the program, and gives its status.
 fn run<R: Env + Files + Input + Print + Alloc<A = Global>>(rt: &R) -> u8 {
-    match has_arguments(rt) {
-        Ok(false) => status(rt, &obey_input(rt)),
-        Ok(true) => tell(rt, "usage: zone_script < SCRIPT", 2),
-        Err(_) => tell(rt, "no memory", 3),
+    match given_words(rt) {
+        Ok(words) => run_arguments(rt, &words),
+        Err(Fault::Memory) => tell(rt, "no memory", 3),
+        Err(_) => tell(rt, USAGE, 2),
     }
 }
 

@@ -15,36 +15,78 @@ pub enum Mode {
     Lines,
 }
 
-/// Why the arguments are not taken.
+/// Why the arguments are not taken. A `place` tells which argument it is; the first is 1.
 #[derive(Clone, Copy, Debug, PartialEq, Eq, Error)]
-pub enum ArgumentFault {
-    /// They are not written so.
-    #[error("usage: zone_serve [--zone NAME=FILE].. [--blocklist FILE].. [--allow NET].. [--deny NET].. [--nsid TEXT] [--max-udp N] udp|tcp|lines, or zone_serve --version")]
-    Usage,
+pub enum ArgumentFault<'a> {
+    /// A word stands where an option or the mode is wanted, and is neither.
+    #[error("argument {place}: '{word}' is no option and no mode")]
+    Unknown {
+        /// Which argument it is.
+        place: usize,
+        /// The word.
+        word: &'a str,
+    },
+    /// An option stands last.
+    #[error("argument {place}: {option} has no {wanted}")]
+    Alone {
+        /// Which argument it is.
+        place: usize,
+        /// The option.
+        option: &'a str,
+        /// What is wanted behind it.
+        wanted: &'static str,
+    },
+    /// An option that is taken once is there twice.
+    #[error("argument {place}: {option} is there already")]
+    Twice {
+        /// Which argument it is.
+        place: usize,
+        /// The option.
+        option: &'a str,
+    },
+    /// `--version` or `--help` is not the only argument.
+    #[error("argument {place}: {word} stands alone")]
+    NotAlone {
+        /// Which argument it is.
+        place: usize,
+        /// The word.
+        word: &'a str,
+    },
+    /// An option stands behind the mode.
+    #[error("argument {place}: options stand before the mode")]
+    OptionBehind {
+        /// Which argument it is.
+        place: usize,
+    },
+    /// A word that is no option stands behind the mode.
+    #[error("argument {place}: '{word}' stands behind the mode")]
+    WordBehind {
+        /// Which argument it is.
+        place: usize,
+        /// The word.
+        word: &'a str,
+    },
+    /// There is no mode.
+    #[error("no mode: udp, tcp or lines")]
+    NoMode,
+    /// What stands behind `--zone` has no `=`.
+    #[error("argument {place}: --zone wants NAME=FILE")]
+    NoFile {
+        /// Which argument it is.
+        place: usize,
+    },
     /// A network is wanted behind `--allow` and `--deny`.
     #[error("argument {place}: {fault}")]
     Network {
-        /// Which argument it is; the first is 1.
+        /// Which argument it is.
         place: usize,
         /// What is wrong with it.
         fault: IpNetTextError,
     },
-    /// What stands behind `--zone`, before the `=`, is no name.
-    #[error("argument {place}: not the name of a zone")]
-    ZoneName {
-        /// Which argument it is; the first is 1.
-        place: usize,
-    },
-    /// What stands behind `--nsid` has more bytes than an option holds (RFC 6891 section 6.1.2).
-    #[error("argument {place}: the identifier is too long")]
-    LongIdentifier {
-        /// Which argument it is; the first is 1.
-        place: usize,
-    },
     /// What stands behind `--max-udp` is no number of bytes that a reply over UDP may always have (RFC 1035 section 4.2.1).
     #[error("argument {place}: not a number from 512 to 65535")]
     MaxUdp {
-        /// Which argument it is; the first is 1.
+        /// Which argument it is.
         place: usize,
     },
     /// Memory was refused.
@@ -52,14 +94,14 @@ pub enum ArgumentFault {
     Memory,
 }
 
-impl From<AllocError> for ArgumentFault {
-    fn from(_e: AllocError) -> ArgumentFault {
+impl<'a> From<AllocError> for ArgumentFault<'a> {
+    fn from(_e: AllocError) -> ArgumentFault<'a> {
         ArgumentFault::Memory
     }
 }
 
-impl<T: Drop> From<AllocFailed<T>> for ArgumentFault {
-    fn from(_e: AllocFailed<T>) -> ArgumentFault {
+impl<'a, T: Drop> From<AllocFailed<T>> for ArgumentFault<'a> {
+    fn from(_e: AllocFailed<T>) -> ArgumentFault<'a> {
         ArgumentFault::Memory
     }
 }
@@ -104,14 +146,50 @@ fn mode_named(name: &str) -> Option<Mode> {
     }
 }
 
+/// What stands behind the option of this name.
+fn wanted_behind(option: &str) -> Option<&'static str> {
+    match option {
+        "--zone" => Some("NAME=FILE"),
+        "--blocklist" => Some("FILE"),
+        "--allow" | "--deny" => Some("NET"),
+        "--nsid" => Some("TEXT"),
+        "--max-udp" => Some("N"),
+        _ => None,
+    }
+}
+
+/// What is wrong with a word in the place of an option, where nothing that an option takes stands behind it.
+fn fault_of<'a>(word: &'a str, place: usize) -> ArgumentFault<'a> {
+    match word {
+        "--version" | "--help" | "-h" => ArgumentFault::NotAlone { place, word },
+        option => match wanted_behind(option) {
+            Some(wanted) => ArgumentFault::Alone {
+                place,
+                option,
+                wanted,
+            },
+            None => ArgumentFault::Unknown { place, word },
+        },
+    }
+}
+
+/// What is wrong with a word behind the mode.
+fn behind_mode<'a>(word: &'a str, place: usize) -> ArgumentFault<'a> {
+    if word.starts_with('-') {
+        ArgumentFault::OptionBehind { place }
+    } else {
+        ArgumentFault::WordBehind { place, word }
+    }
+}
+
 /// The network that an argument spells.
-fn network(text: &str, place: usize) -> Result<IpNet, ArgumentFault> {
+fn network<'a>(text: &str, place: usize) -> Result<IpNet, ArgumentFault<'a>> {
     text.parse::<IpNet>()
         .map_err(|fault| ArgumentFault::Network { place, fault })
 }
 
 /// The bound on replies over UDP that an argument spells.
-fn max_udp(text: &str, place: usize) -> Result<u16, ArgumentFault> {
+fn max_udp<'a>(text: &str, place: usize) -> Result<u16, ArgumentFault<'a>> {
     match text.parse::<u16>() {
         Ok(size) if size >= 512 => Ok(size),
         _ => Err(ArgumentFault::MaxUdp { place }),
@@ -133,40 +211,55 @@ impl<'a> Settings<'a> {
     }
 
     /// Puts a zone behind the others.
-    fn put_zone(&mut self, text: &'a str, place: usize) -> Result<(), ArgumentFault> {
-        let (name, file) = text.split_once('=').ok_or(ArgumentFault::Usage)?;
+    fn put_zone(&mut self, text: &'a str, place: usize) -> Result<(), ArgumentFault<'a>> {
+        let Some((name, file)) = text.split_once('=') else {
+            return Err(ArgumentFault::NoFile { place });
+        };
         self.zones.push(ZoneArgument { name, file, place })?;
         Ok(())
     }
 
-    /// Takes an option and what stands behind it.
-    fn put(&mut self, option: &str, text: &'a str, place: usize) -> Result<(), ArgumentFault> {
+    /// Takes the option at this place and what stands behind it.
+    fn put(
+        &mut self,
+        option: &'a str,
+        text: &'a str,
+        place: usize,
+    ) -> Result<(), ArgumentFault<'a>> {
+        let behind = place.saturating_add(1);
         match option {
-            "--zone" => self.put_zone(text, place)?,
+            "--zone" => self.put_zone(text, behind)?,
             "--blocklist" => self.blocklists.push(text)?,
-            "--allow" => self.allowed.push(network(text, place)?)?,
-            "--deny" => self.denied.push(network(text, place)?)?,
-            "--nsid" if self.identifier.is_none() => self.identifier = Some((text, place)),
-            "--max-udp" if self.max_udp.is_none() => self.max_udp = Some(max_udp(text, place)?),
-            _ => return Err(ArgumentFault::Usage),
+            "--allow" => self.allowed.push(network(text, behind)?)?,
+            "--deny" => self.denied.push(network(text, behind)?)?,
+            "--nsid" if self.identifier.is_none() => self.identifier = Some((text, behind)),
+            "--max-udp" if self.max_udp.is_none() => self.max_udp = Some(max_udp(text, behind)?),
+            "--nsid" | "--max-udp" => return Err(ArgumentFault::Twice { place, option }),
+            _ => return Err(fault_of(option, place)),
         }
         Ok(())
     }
 
     /// What arguments say: options, each with what stands behind it, and then the mode.
-    pub fn read(alloc: Global, arguments: &'a [String]) -> Result<Settings<'a>, ArgumentFault> {
+    pub fn read(alloc: Global, arguments: &'a [String]) -> Result<Settings<'a>, ArgumentFault<'a>> {
         let mut settings = Settings::new(alloc);
         let mut rest = arguments;
-        let mut place = 2usize;
+        let mut place = 1usize;
         while let [option, text, others @ ..] = rest {
+            if let Some(_) = mode_named(option.as_str()) {
+                return Err(behind_mode(text.as_str(), place.saturating_add(1)));
+            }
             settings.put(option.as_str(), text.as_str(), place)?;
             place = place.saturating_add(2);
             rest = others;
         }
         let [mode] = rest else {
-            return Err(ArgumentFault::Usage);
+            return Err(ArgumentFault::NoMode);
         };
-        settings.mode = mode_named(mode.as_str()).ok_or(ArgumentFault::Usage)?;
+        match mode_named(mode.as_str()) {
+            Some(mode) => settings.mode = mode,
+            None => return Err(fault_of(mode.as_str(), place)),
+        }
         Ok(settings)
     }
 }

@@ -1,10 +1,9 @@
 //! Why the program ends before its input does.
 
-use crate::arguments::ArgumentFault;
 use crate::frames::StreamFault;
+use crate::lists::ListFault;
 use crate::zones::ZoneFault;
 use hickory_server::server::serve::ServeError;
-use hickory_server::store::blocklist::AddError;
 use std::alloc::{AllocError, AllocFailed};
 use std::io;
 use thiserror::Error;
@@ -12,9 +11,21 @@ use thiserror::Error;
 /// Why the program ends before its input does. A file is told by its place among those of its option.
 #[derive(Clone, Copy, Debug, PartialEq, Eq, Error)]
 pub enum Fault {
-    /// The arguments are not those of the program.
-    #[error("{0}")]
-    Argument(ArgumentFault),
+    /// An argument is no text.
+    #[error("an argument is not UTF-8")]
+    NotUtf8,
+    /// What stands behind `--zone`, before the `=`, is no name.
+    #[error("argument {place}: not the name of a zone")]
+    ZoneName {
+        /// Which argument it is; the first is 1.
+        place: usize,
+    },
+    /// What stands behind `--nsid` has more bytes than an option holds (RFC 6891 section 6.1.2).
+    #[error("argument {place}: the identifier is too long")]
+    LongIdentifier {
+        /// Which argument it is; the first is 1.
+        place: usize,
+    },
     /// The environment tells an address of the peer that is none.
     #[error("the environment tells a peer's address that is none")]
     Peer,
@@ -38,7 +49,7 @@ pub enum Fault {
         /// Which list it is.
         place: usize,
         /// What is wrong with it.
-        fault: AddError,
+        fault: ListFault,
     },
     /// The peer's address may not use the server.
     #[error("denied")]
@@ -78,7 +89,8 @@ impl Fault {
         match self {
             Fault::Denied | Fault::Response | Fault::Unreadable | Fault::Line { .. } => 1,
             Fault::Stream(StreamFault::Partial | StreamFault::TooLong) => 1,
-            Fault::Argument(_) | Fault::Peer => 2,
+            Fault::NotUtf8 | Fault::ZoneName { .. } | Fault::LongIdentifier { .. } | Fault::Peer =>
+                2,
             Fault::Memory | Fault::Stream(StreamFault::Memory) => 3,
             Fault::Clock | Fault::Read | Fault::Write => 4,
             Fault::Stream(StreamFault::Read) => 4,
@@ -111,15 +123,6 @@ impl<T: Drop> From<AllocFailed<T>> for Fault {
 impl From<ServeError> for Fault {
     fn from(_e: ServeError) -> Fault {
         Fault::Memory
-    }
-}
-
-impl From<ArgumentFault> for Fault {
-    fn from(e: ArgumentFault) -> Fault {
-        match e {
-            ArgumentFault::Memory => Fault::Memory,
-            other => Fault::Argument(other),
-        }
     }
 }
 

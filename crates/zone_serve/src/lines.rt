@@ -22,6 +22,9 @@ pub struct LineMessage {
     pub bytes: Vec<u8>,
 }
 
+/// What is told of a line that tells no message.
+pub const BAD_LINE: &[u8] = b"bad line\n";
+
 /// The transport of this name.
 fn transport_named(name: &str) -> Option<Protocol> {
     match name {

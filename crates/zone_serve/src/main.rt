@@ -1,6 +1,6 @@
 //! A server of zones for whoever owns the sockets: `zone_serve [--zone NAME=FILE].. [--blocklist FILE].. [--allow NET].. [--deny NET]..
-//! [--nsid TEXT] [--max-udp N] udp|tcp|lines` answers what the standard input brings on the standard output, and tells on the standard error why it
-//! ends before its input does. `zone_serve --version` prints its name and version.
+//! [--nsid TEXT] [--max-udp N] udp|tcp|lines` answers what the standard input brings on the standard output, and tells on the standard error what
+//! of it was not answered. `zone_serve --version` prints its name and version, and `zone_serve --help` how it is started.
 //!
 //! `udp`: the input is one datagram. `tcp`: it is messages behind their lengths (RFC 1035 section 4.2.2), and each is answered as soon
 //! as it is whole. `lines`: it is lines `udp|tcp ADDRESS HEX`. The status is 0 where all of the input was answered, 1 where some of it
@@ -12,9 +12,11 @@ mod answer;
 mod arguments;
 mod datagrams;
 mod fault;
+mod files;
 mod frames;
 mod handler;
 mod lines;
+mod lists;
 mod peer;
 mod server;
 mod serving;
@@ -22,16 +24,16 @@ mod zones;
 
 use crate::arguments::{ArgumentFault, Mode, Settings, ZoneArgument};
 use crate::fault::Fault;
+use crate::files::bytes_of;
 use crate::handler::Handler;
+use crate::lists::blocklist;
 use crate::server::{Zones, apex, chain, identifier, put_chain, rules_of};
 use crate::serving::{serve_datagram, serve_lines, serve_stream};
 use crate::zones::{ZoneFault, zone_of_file};
 use hickory_server::VERSION;
 use hickory_server::proto::Name;
 use hickory_server::server::NoKeys;
-use hickory_server::store::blocklist::{
-    AddError, BlocklistConfig, BlocklistConsultAction, BlocklistZoneHandler, CountedReader,
-};
+use hickory_server::store::blocklist::BlocklistZoneHandler;
 use hickory_server::zone_handler::Catalog;
 use hickory_server::zone_store::Either;
 use std::alloc::Global;
@@ -40,7 +42,7 @@ use std::net::{IpAddr, Ipv4Addr};
 use std::process::ExitCode;
 use std::rc::Rc;
 use std::rt::{Clock, Env, Files};
-use std::{env, fs, io};
+use std::{env, io};
 
 /// The arguments behind the program's name. One that is not UTF-8 is wrong usage.
 fn given_words<R: Env + Alloc<A = Global>>(rt: &R) -> Result<Vec<String>, Fault> {
@@ -48,7 +50,7 @@ fn given_words<R: Env + Alloc<A = Global>>(rt: &R) -> Result<Vec<String>, Fault>
         Ok(arguments) => Ok(arguments.skip(1).collect(rt.alloc())?),
         Err(e) => match e.kind() {
             io::ErrorKind::OutOfMemory => Err(Fault::Memory),
-            _ => Err(Fault::Argument(ArgumentFault::Usage)),
+            _ => Err(Fault::NotUtf8),
         },
     }
 }
@@ -83,13 +85,8 @@ fn load_zone<R: Files + Alloc<A = Global>>(
     apex: &Name,
     file: &str,
 ) -> Result<Handler, ZoneFault> {
-    match fs::read(rt, file) {
-        Ok(bytes) => Ok(Either::Left(zone_of_file(rt.alloc(), apex, &bytes)?)),
-        Err(e) => match e.kind() {
-            io::ErrorKind::OutOfMemory => Err(ZoneFault::Memory),
-            _ => Err(ZoneFault::Unreadable),
-        },
-    }
+    let bytes = bytes_of(rt, file)?;
+    Ok(Either::Left(zone_of_file(rt.alloc(), apex, &bytes)?))
 }
 
 /// Puts the zone of an argument into the catalog, the one at this place among the zones, with the list of blocked names behind it.
@@ -127,47 +124,6 @@ fn load_zones<R: Files + Alloc<A = Global>>(
     Ok(())
 }
 
-/// Adds the names of a file to those that are blocked.
-fn add_list<R: Files + Alloc<A = Global>>(
-    rt: &R,
-    list: &mut BlocklistZoneHandler,
-    file: &str,
-) -> Result<(), AddError> {
-    match fs::read(rt, file) {
-        Ok(bytes) => list.add(&mut CountedReader::new(bytes.as_slice())),
-        Err(e) => match e.kind() {
-            io::ErrorKind::OutOfMemory => Err(AddError::Memory),
-            _ => Err(AddError::Io),
-        },
-    }
-}
-
-/// What is done with blocked names: their addresses are 0.0.0.0 and `::`, whatever their zone has.
-fn blocking() -> BlocklistConfig {
-    let mut config = BlocklistConfig::default();
-    config.consult_action = BlocklistConsultAction::Enforce;
-    config
-}
-
-/// The list with the names of these files, if there are files.
-fn blocklist<R: Files + Alloc<A = Global>>(
-    rt: &R,
-    files: &[&str],
-) -> Result<Option<Rc<BlocklistZoneHandler>>, Fault> {
-    if files.is_empty() {
-        return Ok(None);
-    }
-    let mut list = BlocklistZoneHandler::new(rt.alloc(), Name::root(), blocking())?;
-    for place in 0..files.len() {
-        match add_list(rt, &mut list, files[place]) {
-            Ok(()) => {}
-            Err(AddError::Memory) => return Err(Fault::Memory),
-            Err(fault) => return Err(Fault::List { place, fault }),
-        }
-    }
-    Ok(Some(Rc::new(rt.alloc(), list)?))
-}
-
 /// The catalog that the arguments ask for.
 fn catalog<R: Files + Alloc<A = Global>>(rt: &R, settings: &Settings<'_>) -> Result<Zones, Fault> {
     let alloc = rt.alloc();
@@ -193,7 +149,10 @@ fn serve<R: Files + Env + Clock + Input + Print + Alloc<A = Global>>(
     match settings.mode {
         Mode::Udp => { serve_datagram(alloc, rt, &rules, zones, address, &mut reader, &mut writer) }
         Mode::Tcp => serve_stream(alloc, rt, &rules, zones, address, &mut reader, &mut writer),
-        Mode::Lines => serve_lines(alloc, rt, &rules, zones, &mut reader, &mut writer),
+        Mode::Lines => match serve_lines(alloc, rt, &rules, zones, &mut reader, &mut writer)? {
+            Some(number) => Err(Fault::Line { number }),
+            None => Ok(()),
+        },
     }
 }
 
@@ -247,11 +206,43 @@ fn run_settings<R: Files + Env + Clock + Input + Print + Eprint + Alloc<A = Glob
     }
 }
 
-/// Prints the program's name and version, and gives the status.
-fn print_version<R: Print + Eprint>(rt: &R) -> u8 {
-    match println!(rt; "zone_serve {VERSION}") {
+/// Tells what is wrong with the arguments on the standard error, and gives its status.
+fn tell_of_arguments<R: Eprint>(rt: &R, fault: ArgumentFault<'_>) -> u8 {
+    let _ = eprintln!(rt; "zone_serve: {fault}");
+    match fault {
+        ArgumentFault::Memory => Fault::Memory.status(),
+        _ => 2,
+    }
+}
+
+/// How the program is started.
+const HELP: &str = "\
+zone_serve [--zone NAME=FILE].. [--blocklist FILE].. [--allow NET].. [--deny NET].. [--nsid TEXT] [--max-udp N] udp|tcp|lines
+  --zone NAME=FILE           the zone at NAME, from a zone file
+  --blocklist FILE           names that are blocked, a line each
+  --allow NET, --deny NET    who may ask
+  --nsid TEXT                what identifies this server
+  --max-udp N                bytes of a reply over UDP at most, 1232
+  udp|tcp|lines              one datagram, a stream, or lines 'udp|tcp ADDRESS HEX'
+  --version                  name and version
+  --help                     this";
+
+/// The status of a text that was to be printed.
+fn printed<R: Eprint>(rt: &R, ended: io::Result<()>) -> u8 {
+    match ended {
         Ok(()) => 0,
         Err(_) => tell(rt, Fault::Write),
+    }
+}
+
+/// Runs the program with these options, and gives its status.
+fn read_settings<R: Files + Env + Clock + Input + Print + Eprint + Alloc<A = Global>>(
+    rt: &R,
+    arguments: &[String],
+) -> u8 {
+    match Settings::read(rt.alloc(), arguments) {
+        Ok(settings) => run_settings(rt, &settings),
+        Err(fault) => tell_of_arguments(rt, fault),
     }
 }
 
@@ -260,14 +251,13 @@ fn run_arguments<R: Files + Env + Clock + Input + Print + Eprint + Alloc<A = Glo
     rt: &R,
     arguments: &[String],
 ) -> u8 {
-    if let [word] = arguments
-        && word.as_str() == "--version"
-    {
-        return print_version(rt);
-    }
-    match Settings::read(rt.alloc(), arguments) {
-        Ok(settings) => run_settings(rt, &settings),
-        Err(fault) => tell(rt, Fault::from(fault)),
+    let [word] = arguments else {
+        return read_settings(rt, arguments);
+    };
+    match word.as_str() {
+        "--version" => printed(rt, println!(rt; "zone_serve {VERSION}")),
+        "--help" | "-h" => printed(rt, println!(rt; "{HELP}")),
+        _ => read_settings(rt, arguments),
     }
 }
 

@@ -1,6 +1,6 @@
 //! The server: who may use it, and what it serves.
 
-use crate::arguments::{ArgumentFault, Settings};
+use crate::arguments::Settings;
 use crate::fault::Fault;
 use crate::handler::Handler;
 use hickory_server::access::AccessControl;
@@ -45,7 +45,7 @@ pub fn rules_of(alloc: Global, settings: &Settings<'_>) -> Result<Rules, AllocEr
 }
 
 /// The name of the apex of a zone, with or without a dot at its end; the root is a dot alone. `place` tells which argument it is.
-pub fn apex(alloc: Global, text: &str, place: usize) -> Result<Name, ArgumentFault> {
+pub fn apex(alloc: Global, text: &str, place: usize) -> Result<Name, Fault> {
     if text == "." {
         return Ok(Name::root());
     }
@@ -54,23 +54,20 @@ pub fn apex(alloc: Global, text: &str, place: usize) -> Result<Name, ArgumentFau
             name.set_fqdn(true);
             Ok(name)
         }
-        Err(NameError::Text) => Err(ArgumentFault::ZoneName { place }),
-        Err(_) => Err(ArgumentFault::Memory),
+        Err(NameError::Text) => Err(Fault::ZoneName { place }),
+        Err(_) => Err(Fault::Memory),
     }
 }
 
 /// The identifier that the arguments ask for.
-pub fn identifier(
-    alloc: Global,
-    settings: &Settings<'_>,
-) -> Result<Option<NSIDPayload>, ArgumentFault> {
+pub fn identifier(alloc: Global, settings: &Settings<'_>) -> Result<Option<NSIDPayload>, Fault> {
     let Some((text, place)) = settings.identifier else {
         return Ok(None);
     };
     let bytes = text.as_bytes().to_vec(alloc)?;
     match NSIDPayload::new(bytes) {
         Ok(payload) => Ok(Some(payload)),
-        Err(_) => Err(ArgumentFault::LongIdentifier { place }),
+        Err(_) => Err(Fault::LongIdentifier { place }),
     }
 }
 
