@@ -169,5 +169,9 @@ pub(crate) fn authoritative_zone(
         drop(origin);
         return None;
     }
-    Some((origin, AuthoritativeZone::new(alloc, zone)))
+    let Ok(zone) = AuthoritativeZone::new(alloc, zone) else {
+        drop(origin);
+        return None;
+    };
+    Some((origin, zone))
 }
