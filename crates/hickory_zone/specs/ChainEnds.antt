@@ -6,16 +6,18 @@ use Rattle.hickory_zone.specs.declared.chains.ChainEnd.{ChainEnd}
 use Rattle.hickory_zone.specs.declared.chains.ChainEnd.TheVariants as at
 use Rattle.hickory_zone.specs.declared.chains.Link.{Link}
 use Rattle.hickory_zone.specs.declared.chains.Link.TheVariants as link
-use Rattle.hickory_zone.specs.Chains.{Chases, Ending, Step, answered, ends, leads, left_open, missing, referred, step, too_long, without}
+use Rattle.hickory_zone.specs.Chains.{Chases, Step, ends, leads, step}
+use Rattle.hickory_zone.specs.Endings.{Ending}
+use Rattle.hickory_zone.specs.Endings as ended
 use Rattle.hickory_zone.specs.Zones.{Answers, Outcome, Records, Zone}
 
 abbrev pub ending_of : ChainEnd → Ending
-ending_of at.Answered = answered
-ending_of (at.Referred servers) = referred servers.now
-ending_of at.Without = without
-ending_of at.Missing = missing
-ending_of at.TooLong = too_long
-ending_of at.LeftOpen = left_open
+ending_of at.Answer = ended.answer
+ending_of (at.Referral servers) = ended.referral servers.now
+ending_of at.NoData = ended.no_data
+ending_of at.NoName = ended.no_name
+ending_of at.NameTooLong = ended.name_too_long
+ending_of at.LeftOpen = ended.left_open
 
 -- The records were put behind those that were there, and the chain ends so.
 pub record Chased (zone : Zone) (t left : ℕ) (name : DomainName) (old new : Records) (ending : Ending) : Type 0 where
@@ -42,8 +44,8 @@ pub record Linked (zone : Zone) (t : ℕ) (name : DomainName) (old new : Records
 
 -- how the chain ends where any type was asked for and these are the records of the name
 abbrev pub any_link : Records → Link
-any_link [] = link.End at.Without
-any_link (r ∷ rs) = link.End at.Answered
+any_link [] = link.End at.NoData
+any_link (r ∷ rs) = link.End at.Answer
 
 -- These records were put behind those that were there, as all that a name has.
 pub record IsAllPut (rs old new : Records) (link : Link) : Type 0 where

@@ -8,6 +8,8 @@ use Rattle.wire_messages.specs.declared.rr.rdata.RData.{RData}
 use Rattle.wire_messages.specs.declared.rr.rdata.RData.TheVariants as rdata
 use Rattle.wire_messages.specs.declared.rr.record.Record.{Record}
 use Rattle.hickory_base.specs.zone_store.ZoneRecords.{is_at}
+use Rattle.hickory_zone.specs.Endings.{Ending}
+use Rattle.hickory_zone.specs.Endings as ended
 use Rattle.hickory_zone.specs.Redirections.{cname_for, is_too_long, substitute, target_in}
 use Rattle.hickory_zone.specs.Zones.{Answers, Outcome, Records, Zone, answer, alias, wild_answer, wild_alias, referral, no_data, no_name, redirection, type_cname, type_dname}
 
@@ -25,16 +27,6 @@ canonical (r ∷ rs) = canonical_in r.rdata
 pub record IsIn (zone : Zone) (name : DomainName) : Type 0 where
   pub qualified : name.is_fqdn ≡ true
   pub within : Encloses zone.origin.labels name.labels
-
--- How the chain of a name ends: the records asked for stand last; at the servers of a zone below; at a name without such records; at one that does not exist; at one
--- that a DNAME makes too long (YXDOMAIN); outside of the zone, at a name that the chain has been at, where data give no name, or where no more is followed.
-pub data Ending : Type 0 where
-  answered : Ending
-  referred : Records → Ending
-  without : Ending
-  missing : Ending
-  too_long : Ending
-  left_open : Ending
 
 abbrev pub is_cname : RData → Bool
 is_cname (rdata.CNAME name) = true
@@ -68,11 +60,11 @@ pub data Step : Type 0 where
 
 -- The synthesized CNAME stands behind the DNAME. Where CNAME records are asked for it is the answer.
 abbrev pub by_cname : ℕ → Records → Record RData → DomainName → Step
-by_cname t dname cname target = cond (t == type_cname) (ends (dname ++ cname ∷ []) answered) (leads (dname ++ cname ∷ []) (Some target))
+by_cname t dname cname target = cond (t == type_cname) (ends (dname ++ cname ∷ []) ended.answer) (leads (dname ++ cname ∷ []) (Some target))
 
 abbrev pub redirect_to : ℕ → DomainName → ℕ → Records → Record RData → Option DomainName → Step
 redirect_to t name k put r None = leads put None
-redirect_to t name k put r (Some target) = cond (is_too_long (substitute name k target)) (ends put too_long) (by_cname t put (cname_for name (substitute name k target) r) (substitute name k target))
+redirect_to t name k put r (Some target) = cond (is_too_long (substitute name k target)) (ends put ended.name_too_long) (by_cname t put (cname_for name (substitute name k target) r) (substitute name k target))
 
 -- what a chain gains by the DNAME of the k-th ancestor of a name (RFC 6672 section 3.2, step 3C), where these of its records are put
 abbrev pub redirect : ℕ → DomainName → ℕ → Records → Records → Step
@@ -81,13 +73,13 @@ redirect t name k put (r ∷ rs) = redirect_to t name k put r (target_in r.rdata
 
 -- what a chain gains at a name, with these records before, where the zone answers so
 abbrev pub step : ℕ → Records → DomainName → Outcome → Step
-step t before name (answer rs) = ends rs answered
+step t before name (answer rs) = ends rs ended.answer
 step t before name (alias rs) = leads rs (canonical rs)
-step t before name (wild_answer rs) = ends (owned_by name rs) answered
+step t before name (wild_answer rs) = ends (owned_by name rs) ended.answer
 step t before name (wild_alias rs) = leads (owned_by name rs) (canonical rs)
-step t before name (referral servers) = ends [] (referred servers)
-step t before name no_data = ends [] without
-step t before name no_name = ends [] missing
+step t before name (referral servers) = ends [] (ended.referral servers)
+step t before name no_data = ends [] ended.no_data
+step t before name no_name = ends [] ended.no_name
 step t before name (redirection k dname) = redirect t name k (once before dname) dname
 
 -- The records that the answer section gains for a name and a type, where it has some of a chain before, with at most so many CNAMEs followed, and how they end. The name is
@@ -98,10 +90,10 @@ pub data Chases (zone : Zone) (t : ℕ) : ℕ → Records → DomainName → Rec
   follows : {left : ℕ} {before : Records} {name target : DomainName} {outcome : Outcome} {rs rest : Records} {ending : Ending} → Answers zone (lower_name name) t outcome → step t before name outcome ≡ leads rs (Some target) → IsIn zone target
       → owns_cname target (before ++ rs) ≡ false → Chases zone t left (before ++ rs) target rest ending → Chases zone t (suc left) before name (rs ++ rest) ending
   comes_back : {left : ℕ} {before : Records} {name target : DomainName} {outcome : Outcome} {rs : Records} → Answers zone (lower_name name) t outcome → step t before name outcome ≡ leads rs (Some target)
-      → owns_cname target (before ++ rs) ≡ true → Chases zone t left before name rs left_open
+      → owns_cname target (before ++ rs) ≡ true → Chases zone t left before name rs ended.left_open
   leaves : {left : ℕ} {before : Records} {name : DomainName} {outcome : Outcome} {rs : Records} {to : Option DomainName} → Answers zone (lower_name name) t outcome → step t before name outcome ≡ leads rs to
-      → ¬ (IsSomeAnd to (IsIn zone)) → Chases zone t left before name rs left_open
-  stops : {before : Records} {name : DomainName} {outcome : Outcome} {rs : Records} {to : Option DomainName} → Answers zone (lower_name name) t outcome → step t before name outcome ≡ leads rs to → Chases zone t zero before name rs left_open
+      → ¬ (IsSomeAnd to (IsIn zone)) → Chases zone t left before name rs ended.left_open
+  stops : {before : Records} {name : DomainName} {outcome : Outcome} {rs : Records} {to : Option DomainName} → Answers zone (lower_name name) t outcome → step t before name outcome ≡ leads rs to → Chases zone t zero before name rs ended.left_open
 
 -- A chain has one answer section and one ending.
 abbrev pub OneChain : Type 0

@@ -1,6 +1,7 @@
 pub mod Additionals
 pub mod ChainEnds
 pub mod Chains
+pub mod Endings
 pub mod Features
 pub mod FoundRecords
 pub mod Grown

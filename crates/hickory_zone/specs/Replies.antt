@@ -11,7 +11,9 @@ use Rattle.hickory_base.specs.zone_store.ZoneAnswers.{MemoryZone, first_record}
 use Rattle.hickory_base.specs.declared.zone_store.lookup.WholeReply.{WholeReply}
 use Rattle.hickory_zone.specs.declared.additionals.Source.TheVariants as source
 use Rattle.hickory_zone.specs.Additionals.{AreAdditionals, hosts_of}
-use Rattle.hickory_zone.specs.Chains.{Chases, Ending, IsIn, answered, left_open, missing, referred, too_long, without}
+use Rattle.hickory_zone.specs.Chains.{Chases, IsIn}
+use Rattle.hickory_zone.specs.Endings.{Ending}
+use Rattle.hickory_zone.specs.Endings as ended
 use Rattle.hickory_zone.specs.Zones.{Records, Zone, rrset, type_soa}
 
 -- its apex and its RRsets
@@ -51,17 +53,17 @@ denial_soa zone = option_to_list (option_map for_denial (first_record (rrset zon
 -- DNAME makes it too long (RFC 6672 section 2.2). AA is that of the first name of the answer section (RFC 1035 section 4.1.1), so a referral has it behind an alias alone
 -- (RFC 1034 section 6.2.6). Servers of a zone below stand in the authority section (RFC 1034 section 4.3.2, step 3b), and so does the SOA of a denial (RFC 2308 section 3).
 abbrev pub reply_of : Zone → Records → Ending → Records → WholeReply
-reply_of zone chain answered additionals = whole code_no_error true chain [] additionals
-reply_of zone chain (referred servers) additionals = whole code_no_error (not (length chain == 0)) chain servers additionals
-reply_of zone chain without additionals = whole code_no_error true chain (denial_soa zone) additionals
-reply_of zone chain missing additionals = whole code_nx_domain true chain (denial_soa zone) additionals
-reply_of zone chain too_long additionals = whole code_yx_domain true chain [] additionals
-reply_of zone chain left_open additionals = whole code_no_error true chain [] additionals
+reply_of zone chain ended.answer additionals = whole code_no_error true chain [] additionals
+reply_of zone chain (ended.referral servers) additionals = whole code_no_error (not (length chain == 0)) chain servers additionals
+reply_of zone chain ended.no_data additionals = whole code_no_error true chain (denial_soa zone) additionals
+reply_of zone chain ended.no_name additionals = whole code_nx_domain true chain (denial_soa zone) additionals
+reply_of zone chain ended.name_too_long additionals = whole code_yx_domain true chain [] additionals
+reply_of zone chain ended.left_open additionals = whole code_no_error true chain [] additionals
 
 -- The additional section: the addresses of the hosts that the answers name, or of the servers of a zone below.
 abbrev pub IsCompleted : Zone → Records → Ending → Records → Type 0
-IsCompleted zone chain answered additionals = AreAdditionals source.Answer zone chain (hosts_of chain) additionals
-IsCompleted zone chain (referred servers) additionals = AreAdditionals source.Glue zone chain (hosts_of servers) additionals
+IsCompleted zone chain ended.answer additionals = AreAdditionals source.Answer zone chain (hosts_of chain) additionals
+IsCompleted zone chain (ended.referral servers) additionals = AreAdditionals source.Glue zone chain (hosts_of servers) additionals
 IsCompleted zone chain other additionals = additionals ≡ []
 
 pub record EndsIn (zone : Zone) (chain : Records) (ending : Ending) (reply : WholeReply) : Type 0 where

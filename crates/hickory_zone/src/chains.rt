@@ -9,7 +9,7 @@ ghost use Rattle.hickory_zone.specs.Zones.{AreOwners, Sets};
 ghost use Rattle.hickory_zone.specs.Chains.{IsIn, canonical, is_cname, owned_by, owns_cname};
 ghost use Rattle.hickory_zone.specs.Features.{AreFeatures};
 ghost use Rattle.hickory_zone.specs.ChainEnds.{Chased, IsAllPut, Linked, ending_of};
-ghost use Rattle.hickory_zone.specs.declared.chains.ChainEnd.TheVariants.{Answered, Without};
+ghost use Rattle.hickory_zone.specs.declared.chains.ChainEnd.TheVariants.{Answer, NoData};
 ghost use Rattle.hickory_zone.specs.declared.chains.Link.TheVariants.{End};
 
 use crate::features::Features;
@@ -58,15 +58,15 @@ pub(crate) fn append_owned(
 #[derive(Clone, Copy)]
 pub enum ChainEnd<'z> {
     /// The records asked for stand last.
-    Answered,
+    Answer,
     /// At the servers of a zone below.
-    Referred(&'z [Record]),
+    Referral(&'z [Record]),
     /// At a name without such records.
-    Without,
+    NoData,
     /// At a name that does not exist.
-    Missing,
+    NoName,
     /// At a name that a DNAME makes too long.
-    TooLong,
+    NameTooLong,
     /// Outside of the zone, at a name that the chain has been at, where data give no name, or where no more is followed.
     LeftOpen,
 }
@@ -101,12 +101,12 @@ pub(crate) fn append_name(
 
 /// The end of a chain at a name that was asked for records of any type, and has some or none.
 fn end_at_all<'z>(has_some: bool) -> Link<'z>
-    ensures { result ≡ cond has_some (End Answered) (End Without) }
+    ensures { result ≡ cond has_some (End Answer) (End NoData) }
 {
     if has_some {
-        Link::End(ChainEnd::Answered)
+        Link::End(ChainEnd::Answer)
     } else {
-        Link::End(ChainEnd::Without)
+        Link::End(ChainEnd::NoData)
     }
 }
 
@@ -193,11 +193,11 @@ fn append_link<'z>(
     match look_up(alloc, origin, sets, first, record_type, has)? {
         Found::Answer(records) => {
             append_copies(answers, records)?;
-            Ok(Link::End(ChainEnd::Answered))
+            Ok(Link::End(ChainEnd::Answer))
         }
         Found::WildAnswer(records) => {
             append_owned(answers, name, records)?;
-            Ok(Link::End(ChainEnd::Answered))
+            Ok(Link::End(ChainEnd::Answer))
         }
         Found::Every => append_all(sets, first, answers),
         Found::WildEvery(key) => append_all_owned(alloc, sets, key, name, answers),
@@ -209,9 +209,9 @@ fn append_link<'z>(
             append_owned(answers, name, records)?;
             Ok(Link::Leads(canonical(records)?))
         }
-        Found::Referral(servers) => Ok(Link::End(ChainEnd::Referred(servers))),
-        Found::NoData => Ok(Link::End(ChainEnd::Without)),
-        Found::NoName => Ok(Link::End(ChainEnd::Missing)),
+        Found::Referral(servers) => Ok(Link::End(ChainEnd::Referral(servers))),
+        Found::NoData => Ok(Link::End(ChainEnd::NoData)),
+        Found::NoName => Ok(Link::End(ChainEnd::NoName)),
         Found::Redirected(by) => append_redirection(alloc, name, record_type, by, answers),
     }
 }

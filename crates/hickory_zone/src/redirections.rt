@@ -249,7 +249,7 @@ fn append_cname<'z>(
     let next = target.clone()?;
     answers.push(cname_for(name, target, q)?)?;
     if record_type == RecordType::CNAME {
-        Ok(Link::End(ChainEnd::Answered))
+        Ok(Link::End(ChainEnd::Answer))
     } else {
         Ok(Link::Leads(Some(next)))
     }
@@ -271,7 +271,7 @@ fn append_target<'z>(
         return Ok(Link::Leads(None));
     };
     match substituted(alloc, name, kept, &target)? {
-        None => Ok(Link::End(ChainEnd::TooLong)),
+        None => Ok(Link::End(ChainEnd::NameTooLong)),
         Some(name_made) => append_cname(name, name_made, q, record_type, answers),
     }
 }

@@ -3,7 +3,7 @@
 ghost use Rattle.std.specs.Prelude.{◌≡◌, [], true, IfOk};
 ghost use Rattle.hickory_base.specs.zone_store.ZoneSets.{sets_of};
 ghost use Rattle.hickory_zone.specs.ChainEnds.{ending_of};
-ghost use Rattle.hickory_zone.specs.Chains.{answered, referred};
+ghost use Rattle.hickory_zone.specs.Endings as ended;
 ghost use Rattle.hickory_zone.specs.Features.{AreFeatures};
 ghost use Rattle.hickory_zone.specs.Replies.{EndsIn, denial_soa, whole};
 ghost use Rattle.hickory_zone.specs.Zones.{AreOwners};
@@ -64,7 +64,7 @@ fn answer(
 ) -> Result<WholeReply, AllocError>
     requires owners { AreOwners origin.now (sets_of sets.now) }
     requires features { AreFeatures (record { origin = origin.now; sets = sets_of sets.now }) has }
-    ensures { IfOk result (EndsIn (record { origin = origin.now; sets = sets_of sets.now }) answers.items answered) }
+    ensures { IfOk result (EndsIn (record { origin = origin.now; sets = sets_of sets.now }) answers.items ended.answer) }
 {
     let records = answers.as_slice();
     let added = additionals(alloc, origin, sets, Source::Answer, records, records, has)?;
@@ -88,7 +88,7 @@ fn referral(
 ) -> Result<WholeReply, AllocError>
     requires owners { AreOwners origin.now (sets_of sets.now) }
     requires features { AreFeatures (record { origin = origin.now; sets = sets_of sets.now }) has }
-    ensures { IfOk result (EndsIn (record { origin = origin.now; sets = sets_of sets.now }) answers.items (referred servers.now)) }
+    ensures { IfOk result (EndsIn (record { origin = origin.now; sets = sets_of sets.now }) answers.items (ended.referral servers.now)) }
 {
     let added = additionals(
         alloc,
@@ -141,11 +141,11 @@ pub(crate) fn reply_of(
     ensures { IfOk result (EndsIn (record { origin = origin.now; sets = sets_of sets.now }) answers.items (ending_of end.entry)) }
 {
     match end {
-        ChainEnd::Answered => answer(alloc, origin, sets, has, answers),
-        ChainEnd::Referred(servers) => referral(alloc, origin, sets, has, answers, servers),
-        ChainEnd::Without => denial(alloc, ResponseCode::NO_ERROR, answers, soa),
-        ChainEnd::Missing => denial(alloc, ResponseCode::NX_DOMAIN, answers, soa),
-        ChainEnd::TooLong => Ok(bare(alloc, ResponseCode::YX_DOMAIN, true, answers)),
+        ChainEnd::Answer => answer(alloc, origin, sets, has, answers),
+        ChainEnd::Referral(servers) => referral(alloc, origin, sets, has, answers, servers),
+        ChainEnd::NoData => denial(alloc, ResponseCode::NO_ERROR, answers, soa),
+        ChainEnd::NoName => denial(alloc, ResponseCode::NX_DOMAIN, answers, soa),
+        ChainEnd::NameTooLong => Ok(bare(alloc, ResponseCode::YX_DOMAIN, true, answers)),
         ChainEnd::LeftOpen => Ok(bare(alloc, ResponseCode::NO_ERROR, true, answers)),
     }
 }

@@ -5,7 +5,8 @@
 ghost use Rattle.std.specs.Prelude.{◌≡◌, ◌∷◌, [], None, Some, codes, false, true};
 ghost use Rattle.hickory_wire.specs.worked.Worked.{named, root};
 ghost use Rattle.wire_messages.specs.declared.rr.rdata.RData.TheVariants as rdata;
-ghost use Rattle.hickory_zone.specs.Chains.{Chases, answered, left_open, missing, referred, too_long, without};
+ghost use Rattle.hickory_zone.specs.Chains.{Chases};
+ghost use Rattle.hickory_zone.specs.Endings as ended;
 ghost use Rattle.hickory_zone.specs.Additionals.{host_in, type_srv};
 ghost use Rattle.hickory_zone.specs.WorkedZones.{address, any_name, away, child, cuts, deep, example, first_alias, foo_bar, ghost_any, grandchild, host1, host3, host_subdel, into_child, itself_alias, mail, nobody, ns_child, owned, ping, pong, second_alias, server, service, sub_any, subdel, tcp_host1, telnet_host1, text, to_child, to_nobody, to_text, type_txt, wildcards};
 ghost use Rattle.hickory_zone.specs.Handled.{question};
@@ -58,15 +59,15 @@ pub fn worked_hosts()
 
 /// How chains of aliases end.
 pub fn worked_chains()
-    ensures at_records { Chases cuts type_txt 8 [] first_alias (owned first_alias (rdata.CNAME second_alias) ∷ owned second_alias (rdata.CNAME to_text) ∷ owned to_text text ∷ []) answered }
-    ensures at_alias { Chases cuts type_cname 8 [] first_alias (owned first_alias (rdata.CNAME second_alias) ∷ []) answered }
-    ensures at_no_data { Chases cuts type_a 8 [] second_alias (owned second_alias (rdata.CNAME to_text) ∷ []) without }
-    ensures at_nobody { Chases cuts type_a 8 [] to_nobody (owned to_nobody (rdata.CNAME nobody) ∷ []) missing }
-    ensures at_cut { Chases cuts type_a 8 [] into_child (owned into_child (rdata.CNAME to_child) ∷ []) (referred (owned child (rdata.NS ns_child) ∷ [])) }
-    ensures outside { Chases cuts type_a 8 [] away (owned away (rdata.CNAME server) ∷ []) left_open }
-    ensures at_itself { Chases cuts type_a 8 [] itself_alias (owned itself_alias (rdata.CNAME itself_alias) ∷ []) left_open }
-    ensures in_a_circle { Chases cuts type_a 8 [] ping (owned ping (rdata.CNAME pong) ∷ owned pong (rdata.CNAME ping) ∷ []) left_open }
-    ensures after_the_last { Chases cuts type_txt 1 [] first_alias (owned first_alias (rdata.CNAME second_alias) ∷ owned second_alias (rdata.CNAME to_text) ∷ []) left_open }
+    ensures at_records { Chases cuts type_txt 8 [] first_alias (owned first_alias (rdata.CNAME second_alias) ∷ owned second_alias (rdata.CNAME to_text) ∷ owned to_text text ∷ []) ended.answer }
+    ensures at_alias { Chases cuts type_cname 8 [] first_alias (owned first_alias (rdata.CNAME second_alias) ∷ []) ended.answer }
+    ensures at_no_data { Chases cuts type_a 8 [] second_alias (owned second_alias (rdata.CNAME to_text) ∷ []) ended.no_data }
+    ensures at_nobody { Chases cuts type_a 8 [] to_nobody (owned to_nobody (rdata.CNAME nobody) ∷ []) ended.no_name }
+    ensures at_cut { Chases cuts type_a 8 [] into_child (owned into_child (rdata.CNAME to_child) ∷ []) (ended.referral (owned child (rdata.NS ns_child) ∷ [])) }
+    ensures outside { Chases cuts type_a 8 [] away (owned away (rdata.CNAME server) ∷ []) ended.left_open }
+    ensures at_itself { Chases cuts type_a 8 [] itself_alias (owned itself_alias (rdata.CNAME itself_alias) ∷ []) ended.left_open }
+    ensures in_a_circle { Chases cuts type_a 8 [] ping (owned ping (rdata.CNAME pong) ∷ owned pong (rdata.CNAME ping) ∷ []) ended.left_open }
+    ensures after_the_last { Chases cuts type_txt 1 [] first_alias (owned first_alias (rdata.CNAME second_alias) ∷ owned second_alias (rdata.CNAME to_text) ∷ []) ended.left_open }
 {}
 
 /// What a DNAME redirects: all that is below its owner, whatever lies there, and not the owner; and nothing at a cut or below it.
@@ -110,13 +111,13 @@ pub fn worked_substitutions()
 
 /// How chains over a DNAME go: the DNAME once, the CNAME that it makes of its TTL, and on from there; but not where CNAME is asked for.
 pub fn worked_redirected_chains()
-    ensures at_records { Chases redirecting type_a 8 [] www_old (moved ∷ made www_old www_new ∷ owned www_new (address 2) ∷ []) answered }
-    ensures asked_for_alias { Chases redirecting type_cname 8 [] www_old (moved ∷ made www_old www_new ∷ []) answered }
-    ensures asked_for_all { Chases redirecting type_any 8 [] www_old (moved ∷ made www_old www_new ∷ owned www_new (address 2) ∷ []) answered }
-    ensures twice { Chases redirecting type_a 8 [] back_old (moved ∷ made back_old back_new ∷ owned back_new (rdata.CNAME www_old) ∷ made www_old www_new ∷ owned www_new (address 2) ∷ []) answered }
-    ensures at_nobody { Chases redirecting type_a 8 [] nobody_old (moved ∷ made nobody_old nobody_new ∷ []) missing }
-    ensures at_itself { Chases redirecting type_a 8 [] a_self (owned self to_self ∷ owned a_self (rdata.CNAME a_self) ∷ []) left_open }
-    ensures name_too_long { Chases redirecting type_a 8 [] below_long (owned long to_far ∷ []) too_long }
+    ensures at_records { Chases redirecting type_a 8 [] www_old (moved ∷ made www_old www_new ∷ owned www_new (address 2) ∷ []) ended.answer }
+    ensures asked_for_alias { Chases redirecting type_cname 8 [] www_old (moved ∷ made www_old www_new ∷ []) ended.answer }
+    ensures asked_for_all { Chases redirecting type_any 8 [] www_old (moved ∷ made www_old www_new ∷ owned www_new (address 2) ∷ []) ended.answer }
+    ensures twice { Chases redirecting type_a 8 [] back_old (moved ∷ made back_old back_new ∷ owned back_new (rdata.CNAME www_old) ∷ made www_old www_new ∷ owned www_new (address 2) ∷ []) ended.answer }
+    ensures at_nobody { Chases redirecting type_a 8 [] nobody_old (moved ∷ made nobody_old nobody_new ∷ []) ended.no_name }
+    ensures at_itself { Chases redirecting type_a 8 [] a_self (owned self to_self ∷ owned a_self (rdata.CNAME a_self) ∷ []) ended.left_open }
+    ensures name_too_long { Chases redirecting type_a 8 [] below_long (owned long to_far ∷ []) ended.name_too_long }
 {}
 
 /// Whole replies: of a referral the servers and their glue, and AA behind an alias alone; of a denial the code of the chain's last name and

@@ -13,13 +13,13 @@ use Rattle.hickory_zone.specs.declared.chains.Link.TheVariants as link
 use Rattle.hickory_zone.specs.ChainEnds.{IsAllPut, IsStep, Linked, any_link, step_by}
 use Rattle.hickory_zone.specs.Zones.{Answers, Outcome, Records, Zone, answer, any_of, by_wildcard, no_data, redirection, wild_answer}
 
-ends_as : (rs : Records) (old new : Records) (more : Bool) → new ≡ old ++ rs → more ≡ nat_lt (length old) (length new) → cond more (link.End at.Answered) (link.End at.Without) ≡ any_link rs
+ends_as : (rs : Records) (old new : Records) (more : Bool) → new ≡ old ++ rs → more ≡ nat_lt (length old) (length new) → cond more (link.End at.Answer) (link.End at.NoData) ≡ any_link rs
 ends_as [] old new true e m = absurd (grind (arith, nat_tests, ap length e, length-append old []))
 ends_as [] old new false e m = refl
 ends_as (r ∷ rs) old new true e m = refl
 ends_as (r ∷ rs) old new false e m = absurd (grind (arith, nat_tests, ap length e, length-append old (r ∷ rs)))
 
-pub all_put : (rs old new : Records) (more : Bool) (end : Link) → new ≡ old ++ rs → more ≡ nat_lt (length old) (length new) → end ≡ cond more (link.End at.Answered) (link.End at.Without) → IsAllPut rs old new end
+pub all_put : (rs old new : Records) (more : Bool) (end : Link) → new ≡ old ++ rs → more ≡ nat_lt (length old) (length new) → end ≡ cond more (link.End at.Answer) (link.End at.NoData) → IsAllPut rs old new end
 all_put rs old new more end put m is = record { put = put; ends = is ∙ ends_as rs old new more put m }
 
 module _ (zone : Zone) (t : ℕ) (name low : DomainName) (spelled : low ≡ lower_name name) (old new : Records) (end : Link) where

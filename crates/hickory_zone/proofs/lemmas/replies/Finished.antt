@@ -13,7 +13,9 @@ use Rattle.hickory_base.specs.declared.zone_store.lookup.WholeReply.{WholeReply}
 use Rattle.hickory_base.specs.zone_store.ZoneAnswers.{MemoryZone, no_data as nothing_there, no_name as nobody_there}
 use Rattle.hickory_zone.specs.declared.additionals.Source.TheVariants as source
 use Rattle.hickory_zone.specs.Additionals.{AreAdditionals, at_most_one, host_in, hosts_of, is_hostless, name_from, no_host, target_start}
-use Rattle.hickory_zone.specs.Chains.{Chases, Ending, answered, finishes, missing, without}
+use Rattle.hickory_zone.specs.Chains.{Chases, finishes}
+use Rattle.hickory_zone.specs.Endings.{Ending}
+use Rattle.hickory_zone.specs.Endings as ended
 use Rattle.hickory_zone.specs.ChainEnds.{Chased}
 use Rattle.hickory_zone.specs.Handled.{StandsFor, by_no_data, by_no_name, by_records, is_held}
 use Rattle.hickory_zone.specs.Replies.{EndsIn, IsOfZone, IsReplied, replies, zone_of}
@@ -76,10 +78,10 @@ module _ (zone : MemoryZone) (query : Query) (held : is_held zone.zone_type ≡ 
   pub lent : (rs : Records) → Answers (record { origin = origin; sets = sets }) low t (answer rs) → (t == type_soa) ≡ false
       → AllByRecursion (λ (q : Record RData). is_hostless q.rdata ≡ true) rs → StandsFor zone query (Ok (lookup.Records rs []))
   lent rs a other h =
-      by_records held (ap (λ (u : ℕ). u == type_soa) (sym e) ∙ other) h (replies own (record { chain = rs; ending = answered; chases = finishes (moved (answer rs) a) refl; ends_in = record { additionals = []; completed = nothing_added rs h; is = refl } }))
+      by_records held (ap (λ (u : ℕ). u == type_soa) (sym e) ∙ other) h (replies own (record { chain = rs; ending = ended.answer; chases = finishes (moved (answer rs) a) refl; ends_in = record { additionals = []; completed = nothing_added rs h; is = refl } }))
 
   pub lent_no_data : Answers (record { origin = origin; sets = sets }) low t no_data → StandsFor zone query nothing_there
-  lent_no_data a = by_no_data held (replies own (record { chain = []; ending = without; chases = finishes (moved no_data a) refl; ends_in = record { additionals = []; completed = refl; is = refl } }))
+  lent_no_data a = by_no_data held (replies own (record { chain = []; ending = ended.no_data; chases = finishes (moved no_data a) refl; ends_in = record { additionals = []; completed = refl; is = refl } }))
 
   pub lent_no_name : Answers (record { origin = origin; sets = sets }) low t no_name → StandsFor zone query nobody_there
-  lent_no_name a = by_no_name held (replies own (record { chain = []; ending = missing; chases = finishes (moved no_name a) refl; ends_in = record { additionals = []; completed = refl; is = refl } }))
+  lent_no_name a = by_no_name held (replies own (record { chain = []; ending = ended.no_name; chases = finishes (moved no_name a) refl; ends_in = record { additionals = []; completed = refl; is = refl } }))

@@ -7,7 +7,9 @@ use Rattle.wire_names.specs.rr.domain.NameOrder.{Encloses, SameName, lower_label
 use Rattle.wire_names.proofs.lemmas.rr.domain.SameNames.{lower_labels-twice, same_order}
 use Rattle.hickory_base.proofs.lemmas.zone_store.ZoneByName.{itself}
 use Rattle.hickory_base.specs.zone_store.ZoneRecords.{is_at}
-use Rattle.hickory_zone.specs.Chains.{Chases, Ending, IsIn, comes_back, finishes, follows, is_cname, leads, leaves, left_open, owns_cname, stops}
+use Rattle.hickory_zone.specs.Chains.{Chases, IsIn, comes_back, finishes, follows, is_cname, leads, leaves, owns_cname, stops}
+use Rattle.hickory_zone.specs.Endings.{Ending}
+use Rattle.hickory_zone.specs.Endings as ended
 use Rattle.hickory_zone.specs.ChainEnds.{Chased, Linked, ending_of}
 use Rattle.hickory_zone.specs.declared.chains.ChainEnd.{ChainEnd}
 use Rattle.hickory_zone.specs.declared.chains.Link.TheVariants as link
@@ -42,17 +44,17 @@ module _ (zone : Zone) (t : ℕ) (name : DomainName) (old new : Records) (to : O
   abbrev added : Records
   added = h.gained.added
 
-  pub ends_here : (left : ℕ) → left ≡ 0 → Chased zone t left name old new left_open
-  ends_here left e = record { added = added; put = h.gained.put; chases = subst (λ n. Chases zone t n old name added left_open) (sym e) (stops h.says h.gained.is) }
+  pub ends_here : (left : ℕ) → left ≡ 0 → Chased zone t left name old new ended.left_open
+  ends_here left e = record { added = added; put = h.gained.put; chases = subst (λ n. Chases zone t n old name added ended.left_open) (sym e) (stops h.says h.gained.is) }
 
-  pub leads_out : (left : ℕ) → ¬ (IsSomeAnd to (IsIn zone)) → Chased zone t left name old new left_open
+  pub leads_out : (left : ℕ) → ¬ (IsSomeAnd to (IsIn zone)) → Chased zone t left name old new ended.left_open
   leads_out left out = record { added = added; put = h.gained.put; chases = leaves h.says h.gained.is out }
 
-  pub leads_nowhere : (left : ℕ) → to ≡ None → Chased zone t left name old new left_open
+  pub leads_nowhere : (left : ℕ) → to ≡ None → Chased zone t left name old new ended.left_open
   leads_nowhere left none = leads_out left (subst (λ o. ¬ (IsSomeAnd o (IsIn zone))) (sym none) (λ x. x))
 
   module _ (target : DomainName) (is : to ≡ Some target) where
-    pub leads_outside : (left : ℕ) → ¬ (IsIn zone target) → Chased zone t left name old new left_open
+    pub leads_outside : (left : ℕ) → ¬ (IsIn zone target) → Chased zone t left name old new ended.left_open
     leads_outside left out = leads_out left (subst (λ o. ¬ (IsSomeAnd o (IsIn zone))) (sym is) out)
 
     module _ (next : DomainName) (way : LeadsTo zone target next) where
@@ -60,7 +62,7 @@ module _ (zone : Zone) (t : ℕ) (name : DomainName) (old new : Records) (to : O
       been : (b : Bool) → owns_cname next new ≡ b → owns_cname target (old ++ added) ≡ b
       been b e = sym (own_alike (lower_name target) target (old ++ added) (lowered target)) ∙ sym (ap (λ (n : DomainName). owns_cname n (old ++ added)) way.lower) ∙ sym (ap (owns_cname next) h.gained.put) ∙ e
 
-      pub leads_back : (left : ℕ) → owns_cname next new ≡ true → Chased zone t left name old new left_open
+      pub leads_back : (left : ℕ) → owns_cname next new ≡ true → Chased zone t left name old new ended.left_open
       leads_back left e = record { added = added; put = h.gained.put; chases = comes_back h.says (h.gained.is ∙ ap (leads added) is) (been true e) }
 
       pub leads_on : (left : ℕ) (last : Records) (ending : Ending) → ¬ (left ≡ 0) → owns_cname next new ≡ false → Chased zone t (left - 1) target new last ending → Chased zone t left name old last ending

@@ -5,7 +5,8 @@ use Rattle.std.proofs.lemmas.Bool.{false≢true}
 use Rattle.wire_names.specs.rr.domain.DomainName.{DomainName}
 use Rattle.wire_names.specs.rr.domain.NameOrder.{lower_name}
 use Rattle.hickory_zone.proofs.lemmas.zones.Unique.{once}
-use Rattle.hickory_zone.specs.Chains.{Chases, Ending, IsIn, Step, comes_back, ends, finishes, follows, leads, leaves, owns_cname, step, stops}
+use Rattle.hickory_zone.specs.Chains.{Chases, IsIn, Step, comes_back, ends, finishes, follows, leads, leaves, owns_cname, step, stops}
+use Rattle.hickory_zone.specs.Endings.{Ending}
 use Rattle.hickory_zone.specs.Zones.{Answers, Outcome, Records, Zone}
 
 same_ends : (rs qs : Records) (end last : Ending) → ends rs end ≡ ends qs last → (rs ≡ qs) × (end ≡ last)

@@ -10,7 +10,8 @@ use Rattle.hickory_zone.proofs.lemmas.zones.Unique.{once}
 use Rattle.hickory_zone.specs.declared.additionals.Source.{Source}
 use Rattle.hickory_zone.specs.declared.additionals.Source.TheVariants as source
 use Rattle.hickory_zone.specs.Additionals.{AreAdditionals, Gains, IsAnswered, IsHad, host, hosts_of, inside, is_added, no_host, outside, records_in, stands_already}
-use Rattle.hickory_zone.specs.Chains.{Ending, answered, left_open, missing, referred, too_long, without}
+use Rattle.hickory_zone.specs.Endings.{Ending}
+use Rattle.hickory_zone.specs.Endings as ended
 use Rattle.hickory_zone.specs.Replies.{EndsIn, IsCompleted, RepliesTo, refuses, replies, reply_of}
 use Rattle.hickory_zone.specs.Zones.{Records, Zone, type_a, type_aaaa}
 
@@ -41,12 +42,12 @@ module _ (zone : Zone) where
       ap (λ rs. rs ++ (six ++ rest)) ef ∙ ap (λ rs. four' ++ (rs ++ rest)) es ∙ ap (λ rs. four' ++ (six' ++ rs)) er
 
   completed_once : (chain : Records) (ending : Ending) (one other : Records) → IsCompleted zone chain ending one → IsCompleted zone chain ending other → one ≡ other
-  completed_once chain answered one other a b = additionals_once source.Answer chain (hosts_of chain) one other a b
-  completed_once chain (referred servers) one other a b = additionals_once source.Glue chain (hosts_of servers) one other a b
-  completed_once chain without one other a b = a ∙ sym b
-  completed_once chain missing one other a b = a ∙ sym b
-  completed_once chain too_long one other a b = a ∙ sym b
-  completed_once chain left_open one other a b = a ∙ sym b
+  completed_once chain ended.answer one other a b = additionals_once source.Answer chain (hosts_of chain) one other a b
+  completed_once chain (ended.referral servers) one other a b = additionals_once source.Glue chain (hosts_of servers) one other a b
+  completed_once chain ended.no_data one other a b = a ∙ sym b
+  completed_once chain ended.no_name one other a b = a ∙ sym b
+  completed_once chain ended.name_too_long one other a b = a ∙ sym b
+  completed_once chain ended.left_open one other a b = a ∙ sym b
 
   ends_once : (chain : Records) (ending : Ending) (one other : WholeReply) → EndsIn zone chain ending one → EndsIn zone chain ending other → one ≡ other
   ends_once chain ending one other a b = a.is ∙ ap (reply_of zone chain ending) (completed_once chain ending a.additionals b.additionals a.completed b.completed) ∙ sym b.is

@@ -103,7 +103,7 @@ module _ (zone : Zone) (q : DomainName) (t : ℕ) where
 
   pub wild_or_not : (k : ℕ) (found : Found) → HasClosestEncloser zone.sets q k → 0 < k → IsAuthoritativeAt zone (ancestor q k) → WildFound zone.sets (ancestor q k) t found → AnswersDirectly zone q t (outcome_of zone.sets q found)
   wild_or_not zero found closest more auth w = absurd (omega arith)
-  wild_or_not (suc k) found closest more auth (inl w) = subst (AnswersDirectly zone q t) (sym (w.1 q)) (wild (authoritative (suc k) closest auth) closest w.0)
+  wild_or_not (suc k) found closest more auth (inl w) = subst (AnswersDirectly zone q t) (sym (w.1 q)) (wild (authoritative (suc k) closest auth) (closest.longest 0 (omega arith)) closest w.0)
   wild_or_not (suc k) found closest more auth (inr w) =
       subst (AnswersDirectly zone q t) (sym (w.1 q))
       (denied (authoritative (suc k) closest auth) (closest.longest 0 (omega arith))

@@ -227,7 +227,7 @@ module _ (zone : Zone) (name : DomainName) (t : ℕ) (free : is_free zone name 0
     closest = closest_by zone.sets name (suc k) q mark here below
 
     pub as_wild : is_in zone.sets (wildcard (ancestor name (suc k))) ≡ true → Answers zone name t (by_wildcard (at_node zone.sets (wildcard (ancestor name (suc k))) t))
-    as_wild some = direct (direct_by zone name free) (wild (uncut_by zone name own) closest (exists_by zone.sets (wildcard (ancestor name (suc k))) some))
+    as_wild some = direct (direct_by zone name free) (wild (uncut_by zone name own) (closest.longest 0 (omega arith)) closest (exists_by zone.sets (wildcard (ancestor name (suc k))) some))
 
     pub as_denied : is_in zone.sets (wildcard (ancestor name (suc k))) ≡ false → Answers zone name t no_name
     as_denied none =

@@ -4,7 +4,8 @@ use Rattle.wire_messages.specs.serialize.reading.NameReading.{name, labels_from,
 use Rattle.wire_messages.specs.declared.rr.rdata.RData.TheVariants as rdata
 use Rattle.hickory_zone.proofs.lemmas.zones.Written.{above_told, as_denied, as_matched, as_redirected, as_referred, as_wild, encloses_by, redirects_by}
 use Rattle.hickory_zone.specs.Additionals.{host, inside, is_added, no_host}
-use Rattle.hickory_zone.specs.Chains.{finishes, follows, missing, referred, too_long, without, answered}
+use Rattle.hickory_zone.specs.Chains.{finishes, follows}
+use Rattle.hickory_zone.specs.Endings as ended
 use Rattle.hickory_zone.specs.Replies.{refuses, replies}
 use Rattle.hickory_zone.specs.WorkedRedirections.{below_long, long, made, moved, redirecting, to_far, www_old}
 use Rattle.hickory_zone.specs.WorkedReplies.{loud_host3, loud_new, loud_old}
@@ -15,7 +16,7 @@ use Rattle.hickory_zone.proofs.worked.worked_replies.Goals as goal
 pub returns-clause-answer_with_address : goal.returns-clause-answer_with_address
 returns-clause-answer_with_address c = replies (record { within = record { qualified = refl; within = encloses_by example host3 refl }; class = refl }) (record {
   chain = owned host3 mail ∷ [];
-  ending = answered;
+  ending = ended.answer;
   chases = finishes (as_wild wildcards host3 type_mx refl refl 0 refl refl refl refl refl) refl;
   ends_in = record {
     additionals = owned host1 (address 1) ∷ [];
@@ -29,7 +30,7 @@ returns-clause-answer_with_address c = replies (record { within = record { quali
 pub returns-clause-servers_at_cut : goal.returns-clause-servers_at_cut
 returns-clause-servers_at_cut c = replies (record { within = record { qualified = refl; within = encloses_by example child refl }; class = refl }) (record {
   chain = [];
-  ending = referred (owned child (rdata.NS ns_child) ∷ []);
+  ending = ended.referral (owned child (rdata.NS ns_child) ∷ []);
   chases = finishes (as_referred cuts child type_ns refl 0 (owned child (rdata.NS ns_child) ∷ []) refl refl refl (λ e ds. absurd (omega arith)) refl) refl;
   ends_in = record {
     additionals = owned ns_child (address 53) ∷ [];
@@ -41,7 +42,7 @@ returns-clause-servers_at_cut c = replies (record { within = record { qualified 
 pub returns-clause-cut_behind_alias : goal.returns-clause-cut_behind_alias
 returns-clause-cut_behind_alias c = replies (record { within = record { qualified = refl; within = encloses_by example into_child refl }; class = refl }) (record {
   chain = owned into_child (rdata.CNAME to_child) ∷ [];
-  ending = referred (owned child (rdata.NS ns_child) ∷ []);
+  ending = ended.referral (owned child (rdata.NS ns_child) ∷ []);
   chases = follows {left = 7} {before = []} {name = into_child} {target = to_child} {rs = owned into_child (rdata.CNAME to_child) ∷ []} {rest = []} (as_matched cuts into_child type_a refl refl refl) refl
       (record { qualified = refl; within = encloses_by example to_child refl }) refl
       (finishes (as_referred cuts to_child type_a refl 1 (owned child (rdata.NS ns_child) ∷ []) refl refl refl (λ e ds. absurd (omega arith)) refl) refl);
@@ -55,7 +56,7 @@ returns-clause-cut_behind_alias c = replies (record { within = record { qualifie
 pub returns-clause-no_data : goal.returns-clause-no_data
 returns-clause-no_data c = replies (record { within = record { qualified = refl; within = encloses_by example to_text refl }; class = refl }) (record {
   chain = [];
-  ending = without;
+  ending = ended.no_data;
   chases = finishes (as_matched cuts to_text type_a refl refl refl) refl;
   ends_in = record { additionals = []; completed = refl; is = refl };
 })
@@ -63,7 +64,7 @@ returns-clause-no_data c = replies (record { within = record { qualified = refl;
 pub returns-clause-nobody : goal.returns-clause-nobody
 returns-clause-nobody c = replies (record { within = record { qualified = refl; within = encloses_by example nobody refl }; class = refl }) (record {
   chain = [];
-  ending = missing;
+  ending = ended.no_name;
   chases = finishes (as_denied cuts nobody type_a refl refl 0 refl refl refl refl refl) refl;
   ends_in = record { additionals = []; completed = refl; is = refl };
 })
@@ -71,7 +72,7 @@ returns-clause-nobody c = replies (record { within = record { qualified = refl; 
 pub returns-clause-nobody_behind_alias : goal.returns-clause-nobody_behind_alias
 returns-clause-nobody_behind_alias c = replies (record { within = record { qualified = refl; within = encloses_by example to_nobody refl }; class = refl }) (record {
   chain = owned to_nobody (rdata.CNAME nobody) ∷ [];
-  ending = missing;
+  ending = ended.no_name;
   chases = follows {left = 7} {before = []} {name = to_nobody} {target = nobody} {rs = owned to_nobody (rdata.CNAME nobody) ∷ []} {rest = []} (as_matched cuts to_nobody type_a refl refl refl) refl
       (record { qualified = refl; within = encloses_by example nobody refl }) refl
       (finishes (as_denied cuts nobody type_a refl refl 0 refl refl refl refl refl) refl);
@@ -82,7 +83,7 @@ pub returns-clause-name_too_long : goal.returns-clause-name_too_long
 unfolding name labels_from labels_within
 returns-clause-name_too_long c = replies (record { within = record { qualified = refl; within = encloses_by example below_long refl }; class = refl }) (record {
   chain = owned long to_far ∷ [];
-  ending = too_long;
+  ending = ended.name_too_long;
   chases = finishes (as_redirected redirecting below_long type_a 3 (owned long to_far ∷ []) (redirects_by redirecting below_long 3 (omega arith) (omega arith) refl refl refl refl) refl) refl;
   ends_in = record { additionals = []; completed = refl; is = refl };
 })
@@ -96,7 +97,7 @@ returns-clause-other_class c = refuses (λ x. false≢true x.class)
 pub returns-clause-spelled_as_asked : goal.returns-clause-spelled_as_asked
 returns-clause-spelled_as_asked c = replies (record { within = record { qualified = refl; within = encloses_by example host3 refl }; class = refl }) (record {
   chain = owned loud_host3 text ∷ [];
-  ending = answered;
+  ending = ended.answer;
   chases = finishes (as_wild wildcards host3 type_txt refl refl 0 refl refl refl refl refl) refl;
   ends_in = record { additionals = []; completed = no_host; is = refl };
 })
@@ -105,7 +106,7 @@ pub returns-clause-made_as_asked : goal.returns-clause-made_as_asked
 unfolding name labels_from labels_within
 returns-clause-made_as_asked c = replies (record { within = record { qualified = refl; within = encloses_by example www_old refl }; class = refl }) (record {
   chain = moved ∷ made loud_old loud_new ∷ [];
-  ending = answered;
+  ending = ended.answer;
   chases = finishes (as_redirected redirecting www_old type_cname 1 (moved ∷ []) (redirects_by redirecting www_old 1 (omega arith) (omega arith) refl refl refl refl) refl) refl;
   ends_in = record { additionals = []; completed = no_host; is = refl };
 })
