@@ -212,6 +212,9 @@ FLAGS = [("QR", 0x8000), ("AA", 0x0400), ("TC", 0x0200), ("RD", 0x0100), ("RA", 
 PARTS = ["code", "flags", "edns", "cut", "answer", "authority", "additional"]
 ALONE = ["code", "flags", "edns", "answer", "authority", "additional"]
 
+# What a part is by: where a chain of aliases was left says what stands in the authority section, and both whose addresses are added (RFC 1034 section 4.3.2).
+HANGS_ON = {"authority": ["answer"], "additional": ["answer", "authority"]}
+
 
 def data_text(rdtype, octets):
     """The text of data, for who looks at a difference."""
