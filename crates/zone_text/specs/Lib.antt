@@ -1,1 +1,6 @@
+pub mod Moments
+pub mod RecordText
+pub mod Spelling
+pub mod TypeTable
+pub mod Words
 pub mod ZoneFiles

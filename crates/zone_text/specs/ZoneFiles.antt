@@ -1,6 +1,7 @@
 -- The records of a zone file (RFC 1035 section 5.1).
-use Rattle.std.specs.Prelude.{◌≡◌, ℕ, ◌<◌, ◌≤◌, ◌⊎◌, ◌-◌, ◌++◌, ◌∷◌, [], true, List, length, get_or, Option, Some, None}
+use Rattle.std.specs.Prelude.{◌≡◌, ℕ, ◌<◌, ◌≤◌, ◌⊎◌, ◌++◌, ◌∷◌, [], true, List, length, get_or, Option, Some, None}
 use Rattle.wire_messages.specs.declared.rr.rdata.RData.{RData}
+use Rattle.wire_messages.specs.declared.rr.rdata.RData.TheVariants as rdata
 use Rattle.wire_messages.specs.declared.rr.record.Record.{Record}
 use Rattle.wire_messages.specs.declared.rr.record.Proof.TheVariants.{Indeterminate}
 use Rattle.wire_messages.specs.rr.RecordData.{type_of}
@@ -33,14 +34,6 @@ IsBlank byte = (byte ≡ 32) ⊎ (byte ≡ 9) ⊎ (byte ≡ 13) ⊎ (byte ≡ 10
 abbrev pub HasBlankAt : List ℕ → ℕ → Type 0
 HasBlankAt text place = (place < length text) × IsBlank (get_or text place 0)
 
--- the text of a name that is fully qualified, or ends in an escaped dot: its last byte is `.` (RFC 1035 section 5.1)
-abbrev pub EndsInDot : List ℕ → Type 0
-EndsInDot text = (0 < length text) × (get_or text (length text - 1) 0 ≡ 46)
-
--- a name that is relative to an origin: labels of its own before those of the origin (RFC 1035 section 5.1)
-abbrev pub IsRelativeTo : DomainName → DomainName → Type 0
-IsRelativeTo origin name = (own : List (List ℕ)) × (name.labels ≡ own ++ origin.labels)
-
 -- the owner name of the last record
 abbrev pub IsLastOwner : List (Record RData) → DomainName → Type 0
 IsLastOwner records name = (earlier : List (Record RData)) × (last : Record RData) × (records ≡ earlier ++ last ∷ []) × (name ≡ last.name)
@@ -56,9 +49,15 @@ abbrev pub IsNoRecord : Entry → Type 0
 IsNoRecord (entry.Record r) = ⊥
 IsNoRecord other = Unit {0}
 
+-- the last number of a zone's start (RFC 1035 section 3.3.13)
+abbrev pub zone_minimum : RData → Option ℕ
+zone_minimum (rdata.SOA soa) = Some soa.minimum
+zone_minimum content = None
+
 -- The TTL of a record that has this one or none of its own: its own, else that of the last $TTL (RFC 2308 section 4), else that of the record
--- before (RFC 1035 section 5.1), else none.
-abbrev pub ttl_in_force : Option ℕ → Option ℕ → Option ℕ → Option ℕ
-ttl_in_force (Some own) default last = Some own
-ttl_in_force None (Some default) last = Some default
-ttl_in_force None None last = last
+-- before (RFC 1035 section 5.1), else the minimum of a zone's start (RFC 2308 section 4), else none.
+abbrev pub ttl_in_force : Option ℕ → Option ℕ → Option ℕ → Option ℕ → Option ℕ
+ttl_in_force (Some own) default last minimum = Some own
+ttl_in_force None (Some default) last minimum = Some default
+ttl_in_force None None (Some last) minimum = Some last
+ttl_in_force None None None minimum = minimum

@@ -1,132 +1,24 @@
 //! The data of records in text.
 
-ghost use Rattle.std.specs.Prelude.{◌≡◌, ◌≤◌, IfOk, IfSome};
+mod field;
+mod fields;
+mod forms;
+mod moment;
+pub(crate) mod rest;
+pub(crate) mod table;
+
+ghost use Rattle.std.specs.Prelude.{◌≡◌, ◌≤◌, [], ◌∷◌, false, IfOk, IfSome, IsTrue};
+ghost use Rattle.std.specs.Option.{option_copied};
 ghost use Rattle.wire_messages.specs.rr.RecordData.{type_of};
 ghost use Rattle.wire_messages.specs.serialize.writing.RecordSize.{data_len};
+ghost use Rattle.zone_text.specs.RecordText.{HasData, SpellsData};
 
+use crate::data::forms::data_in_form;
 use crate::error::{TextError, TextFault};
-use crate::escapes::{MAX_STRING_LEN, read_string};
 use crate::generic::read_generic;
-use crate::names::next_name;
-use crate::words::{Word, Words};
-use hickory_wire::{
-    Boxed, DNSClass, Items, MX, Name, Octets, Proof, RData, Record, RecordType, SOA,
-};
+use crate::words::{Word, Words, fault_at};
+use hickory_wire::{DNSClass, Name, Proof, RData, Record, RecordType};
 use std::alloc::Global;
-use std::net::{Ipv4Addr, Ipv6Addr};
-
-/// An IPv4 address.
-fn ipv4(words: &mut Words<'_>) -> Result<Ipv4Addr, TextError> {
-    let word = words.field()?;
-    let bad = word.fault(TextFault::BadAddress);
-    let text = word.plain_text().ok_or(bad)?;
-    text.parse::<Ipv4Addr>().map_err(|_| bad)
-}
-
-/// An IPv6 address.
-fn ipv6(words: &mut Words<'_>) -> Result<Ipv6Addr, TextError> {
-    let word = words.field()?;
-    let bad = word.fault(TextFault::BadAddress);
-    let text = word.plain_text().ok_or(bad)?;
-    text.parse::<Ipv6Addr>().map_err(|_| bad)
-}
-
-/// A number of 16 bits.
-fn number_u16(words: &mut Words<'_>) -> Result<u16, TextError> {
-    let word = words.field()?;
-    let number = word.number()?;
-    u16::try_from(number).map_err(|_| word.fault(TextFault::NumberOutOfRange))
-}
-
-/// A number of 32 bits.
-fn number_u32(words: &mut Words<'_>) -> Result<u32, TextError> {
-    words.field()?.number()
-}
-
-/// A mail exchange.
-fn mail_exchange(
-    alloc: Global,
-    words: &mut Words<'_>,
-    origin: Option<&Name>,
-) -> Result<RData, TextError>
-    ensures { IfOk result (λ rdata. type_of rdata ≡ 15) }
-{
-    let preference = number_u16(words)?;
-    let exchange = next_name(alloc, words, origin)?;
-    Ok(RData::MX(MX {
-        preference,
-        exchange,
-    }))
-}
-
-/// The start of a zone.
-fn start_of_authority(
-    alloc: Global,
-    words: &mut Words<'_>,
-    origin: Option<&Name>,
-) -> Result<RData, TextError>
-    ensures { IfOk result (λ rdata. type_of rdata ≡ 6) }
-{
-    let mname = next_name(alloc, words, origin)?;
-    let rname = next_name(alloc, words, origin)?;
-    let serial = number_u32(words)?;
-    let refresh = number_u32(words)?;
-    let retry = number_u32(words)?;
-    let expire = number_u32(words)?;
-    let minimum = number_u32(words)?;
-    let soa = SOA {
-        mname,
-        rname,
-        serial,
-        refresh,
-        retry,
-        expire,
-        minimum,
-    };
-    Ok(RData::SOA(Boxed::new(alloc, soa)?))
-}
-
-/// The character string of a field.
-fn string(alloc: Global, word: &Word<'_>) -> Result<Octets, TextError> {
-    let mut bytes = [0; MAX_STRING_LEN];
-    let len = read_string(word, &mut bytes)?;
-    Ok(Octets::from_slice(alloc, &bytes[..len])?)
-}
-
-/// Character strings to the end of the line, at least one.
-fn strings(alloc: Global, words: &mut Words<'_>) -> Result<RData, TextError>
-    ensures { IfOk result (λ rdata. type_of rdata ≡ 16) }
-{
-    let mut strings = Items::new(alloc);
-    let first = words.field()?;
-    strings.push(string(alloc, &first)?)?;
-    'strings: while let Some(word) = words.next()? {
-        strings.push(string(alloc, &word)?)?;
-    }
-    Ok(RData::TXT(strings))
-}
-
-/// Data in the form of their type.
-fn form(
-    alloc: Global,
-    record_type: RecordType,
-    words: &mut Words<'_>,
-    origin: Option<&Name>,
-) -> Result<RData, TextError>
-    ensures { IfOk result (λ rdata. type_of rdata ≡ record_type) }
-{
-    match record_type {
-        RecordType::A => Ok(RData::A(ipv4(words)?)),
-        RecordType::AAAA => Ok(RData::AAAA(ipv6(words)?)),
-        RecordType::NS => Ok(RData::NS(next_name(alloc, words, origin)?)),
-        RecordType::CNAME => Ok(RData::CNAME(next_name(alloc, words, origin)?)),
-        RecordType::PTR => Ok(RData::PTR(next_name(alloc, words, origin)?)),
-        RecordType::MX => mail_exchange(alloc, words, origin),
-        RecordType::SOA => start_of_authority(alloc, words, origin),
-        RecordType::TXT => strings(alloc, words),
-        _ => Err(words.field()?.fault(TextFault::NoTextForm)),
-    }
-}
 
 /// What a record of the root takes whose data have all the bytes that their length can tell: its name has one byte, and type, class, TTL and length
 /// have ten (RFC 1035 section 3.2.1).
@@ -153,6 +45,32 @@ fn fitting(rdata: RData) -> Option<RData>
     }
 }
 
+/// The data of a type that words are, in the form of the type or in the one for all types. `end` is the place where a word is missing.
+fn spelled_data(
+    alloc: Global,
+    record_type: RecordType,
+    words: &[Word<'_>],
+    end: usize,
+    origin: Option<&Name>,
+) -> Result<RData, TextError>
+    ensures form { IfOk result (λ rdata. type_of rdata ≡ record_type) }
+    ensures spelled { IfOk result (SpellsData (option_copied origin.entry) record_type words.now) }
+{
+    match words {
+        [mark, size, digits @ ..] if is_mark(mark) => {
+            read_generic(alloc, record_type, size, digits)
+        }
+        _ => data_in_form(alloc, record_type, words, end, origin),
+    }
+}
+
+/// Whether a word is `\#`.
+fn is_mark(word: &Word<'_>) -> bool
+    ensures { IsTrue result → (word.now.quoted ≡ false) × (word.now.bytes.now ≡ 92 ∷ 35 ∷ []) }
+{
+    !word.quoted && word.bytes == b"\\#".as_slice()
+}
+
 /// The data that stand next, to the end of the line or the entry. Names that are not fully qualified are relative to the origin, and
 /// without one a fault.
 pub(crate) fn data_of(
@@ -163,28 +81,28 @@ pub(crate) fn data_of(
 ) -> Result<RData, TextError>
     ensures form { IfOk result (λ rdata. type_of rdata ≡ record_type) }
     ensures fits { IfOk result (λ rdata. data_len rdata ≤ 65535) }
+    ensures spelled { IfOk result (λ rdata. HasData (option_copied origin.entry) record_type words.old.text.now words.old.place rdata) }
 {
-    let mut ahead = *words;
-    let word = ahead.field()?;
-    let rdata = if !word.quoted && word.bytes == b"\\#".as_slice() {
-        *words = ahead;
-        read_generic(alloc, record_type, words)?
-    } else {
-        form(alloc, record_type, words, origin)?
-    };
-    words.end()?;
-    fitting(rdata).ok_or(word.fault(TextFault::DataTooLong))
+    let fields = words.rest(alloc)?;
+    let end = words.place();
+    let place = fields.as_slice().first().map_or(end, |word| word.start);
+    let rdata = spelled_data(alloc, record_type, fields.as_slice(), end, origin)?;
+    match fitting(rdata) {
+        Some(rdata) => Ok(rdata),
+        None => Err(fault_at(place, TextFault::DataTooLong)),
+    }
 }
 
 /// Reads the data of a record of this type (RFC 1035 section 5.1).
 ///
-/// A and AAAA have an address, NS, CNAME and PTR a name, MX a number and a name, SOA two names and five numbers, TXT one or more
-/// character strings, in quotes or not. Names are fully qualified. Data of any type may be `\#`, their length, and two hexadecimal digits
-/// for each byte, which blanks may stand between; of a type that has no form of its own here they have to be (RFC 3597 section 5).
-/// Then no bytes are `RData::Update0`, but for an OPT record, and names may not be compressed. Data have at most 65,535 bytes.
+/// What data are made of is told by the table of types: numbers, names, addresses, character strings in quotes or not, times in seconds or as
+/// `1h30m`, bytes as hexadecimal digits or in base 64. Names are fully qualified. Data of any type may be `\#`, their length, and two
+/// hexadecimal digits for each byte, which blanks may stand between; of a type that has no form in the table they have to be (RFC 3597
+/// section 5). Then no bytes are `RData::Update0`, but for an OPT record, and names may not be compressed. Data have at most 65,535 bytes.
 pub fn read_data(alloc: Global, record_type: RecordType, text: &str) -> Result<RData, TextError>
     ensures form { IfOk result (λ rdata. type_of rdata ≡ record_type) }
     ensures fits { IfOk result (λ rdata. data_len rdata ≤ 65535) }
+    ensures spelled { IfOk result (HasData None record_type text.now 0) }
 {
     data_of(alloc, record_type, &mut Words::new(text), None)
 }

@@ -60,6 +60,12 @@ pub enum TextFault {
     /// The field is no hexadecimal digits, two for each byte.
     #[error("not hexadecimal digits")]
     BadHex,
+    /// The field is neither a date with a time of day, of fourteen digits, nor a number of seconds (RFC 4034 section 3.2).
+    #[error("not a date")]
+    BadDate,
+    /// The fields are not the encoding of bytes in base 64 (RFC 4648 section 4).
+    #[error("not base 64")]
+    BadBase64,
     /// The length before the hexadecimal digits is not the number of bytes that they spell.
     #[error("the length is not that of the data")]
     WrongLength,

@@ -1,11 +1,12 @@
 //! Data in the form that is one for all types (RFC 3597 section 5).
 
-ghost use Rattle.std.specs.Prelude.{◌≡◌, IsTrue, IfOk};
+ghost use Rattle.std.specs.Prelude.{◌≡◌, length, IsTrue, IfOk};
 ghost use Rattle.wire_messages.specs.rr.RecordData.{type_of};
+ghost use Rattle.zone_text.specs.RecordText.{AreReadOf, IsGenericData, root_record};
 
+use crate::data::rest::hex_bytes;
 use crate::error::{TextError, TextFault};
-use crate::words::{Word, Words};
-use hex::FromHexError;
+use crate::words::Word;
 use hickory_wire::{BinDecoder, DecodeError, EdnsOption, Name, Octets, RData, RecordType};
 use std::alloc::{AllocError, Global};
 
@@ -65,7 +66,10 @@ fn record_bytes(
     record_type: RecordType,
     len: u16,
     data: &[u8],
-) -> Result<Vec<u8>, AllocError> {
+) -> Result<Vec<u8>, AllocError>
+    requires { len ≡ length «data».now }
+    ensures { IfOk result (λ bytes. bytes.items ≡ root_record record_type «data».now) }
+{
     let mut bytes = Vec::new(alloc);
     bytes.push(0)?;
     bytes.extend_from_slice(&record_type.value().to_be_bytes())?;
@@ -90,7 +94,9 @@ fn data_of_bytes(
     data: &[u8],
     place: &Word<'_>,
 ) -> Result<RData, TextError>
-    ensures { IfOk result (λ rdata. type_of rdata ≡ record_type) }
+    requires { len ≡ length «data».now }
+    ensures form { IfOk result (λ rdata. type_of rdata ≡ record_type) }
+    ensures read { IfOk result (AreReadOf record_type «data».now) }
 {
     let bytes = record_bytes(alloc, record_type, len, data)?;
     match BinDecoder::new(bytes.as_slice()).read_record(alloc) {
@@ -100,37 +106,22 @@ fn data_of_bytes(
     }
 }
 
-/// The bytes of the hexadecimal digits to the end of the line.
-fn hex_bytes(alloc: Global, words: &mut Words<'_>) -> Result<Vec<u8>, TextError> {
-    let mut bytes = Vec::new(alloc);
-    'words: while let Some(word) = words.next()? {
-        if word.quoted {
-            return Err(word.fault(TextFault::BadHex));
-        }
-        match hex::decode(alloc, word.bytes) {
-            Ok(more) => bytes.extend_from_slice(more.as_slice())?,
-            Err(FromHexError::OutOfMemory) => return Err(TextError::Memory),
-            Err(_) => return Err(word.fault(TextFault::BadHex)),
-        }
-    }
-    Ok(bytes)
-}
-
-/// Reads what stands behind `\#`.
+/// Reads what stands behind `\#`: a length, and hexadecimal digits.
 pub(crate) fn read_generic(
     alloc: Global,
     record_type: RecordType,
-    words: &mut Words<'_>,
+    size: &Word<'_>,
+    digits: &[Word<'_>],
 ) -> Result<RData, TextError>
-    ensures { IfOk result (λ rdata. type_of rdata ≡ record_type) }
+    ensures form { IfOk result (λ rdata. type_of rdata ≡ record_type) }
+    ensures spelled { IfOk result (IsGenericData record_type size.now digits.now) }
 {
-    let word = words.field()?;
-    let Ok(len) = u16::try_from(word.number()?) else {
-        return Err(word.fault(TextFault::NumberOutOfRange));
+    let Ok(len) = u16::try_from(size.number()?) else {
+        return Err(size.fault(TextFault::NumberOutOfRange));
     };
-    let bytes = hex_bytes(alloc, words)?;
+    let bytes = hex_bytes(alloc, digits)?;
     if bytes.len() != usize::from(len) {
-        return Err(word.fault(TextFault::WrongLength));
+        return Err(size.fault(TextFault::WrongLength));
     }
-    data_of_bytes(alloc, record_type, len, bytes.as_slice(), &word)
+    data_of_bytes(alloc, record_type, len, bytes.as_slice(), size)
 }

@@ -1,7 +1,8 @@
 //! Names in text.
 
-ghost use Rattle.std.specs.Prelude.{◌≡◌, ◌≤◌, ◌<◌, ◌++◌, true, get_or, length, IfOk, IfSome, IsTrue};
-ghost use Rattle.zone_text.specs.ZoneFiles.{EndsInDot, IsRelativeTo};
+ghost use Rattle.std.specs.Prelude.{◌≡◌, ◌≤◌, ◌<◌, [], ◌++◌, false, true, get_or, length, take, IfOk, OnOk};
+ghost use Rattle.std.specs.Option.{option_copied};
+ghost use Rattle.zone_text.specs.Spelling.{AreLabelsWithDot, AreNameLabels, Spells, SpellsName, bare_in_label};
 
 use crate::error::{TextError, TextFault};
 use crate::escapes::first_byte;
@@ -15,34 +16,34 @@ const MAX_LABEL_LEN: usize = 63;
 /// The most bytes that the labels of a name have in wire form, without its end byte (RFC 1035 section 2.3.4).
 const MAX_LABELS_LEN: usize = 254;
 
-/// Spells out the label that begins at a place, up to a dot or the end, and tells its length and where it ends.
+/// Spells out the label that a text begins with, up to a dot or the end, and tells its length and how many bytes of the text spell it. Before the
+/// text stand so many bytes of the word.
 fn read_label(
     word: &Word<'_>,
-    start: usize,
+    before: usize,
+    text: &[u8],
     label: &mut [u8; MAX_LABEL_LEN],
 ) -> Result<(usize, usize), TextError>
-    requires { start ≤ length word.now.bytes.now }
-    ensures within { IfOk result (λ ends. (ends.0 ≤ 63) × (start ≤ ends.1) × (ends.1 ≤ length word.now.bytes.now)) }
-    ensures dot { IfOk result (λ ends. ends.1 < length word.now.bytes.now → get_or word.now.bytes.now ends.1 0 ≡ 46) }
+    ensures within { IfOk result (λ ends. (ends.0 ≤ 63) × (ends.1 ≤ length text.now)) }
+    ensures spelled { IfOk result (λ ends. Spells bare_in_label (take ends.1 text.now) (take ends.0 label.new)) }
+    ensures sized { IfOk result (λ ends. length (take ends.0 label.new) ≡ ends.0) }
+    ensures dot { IfOk result (λ ends. ends.1 < length text.now → get_or text.now ends.1 0 ≡ 46) }
 {
-    let text = word.bytes;
-    let mut place = start;
+    let mut place = 0;
     let mut len = 0;
     'bytes: while place < text.len() {
+        let fault_place = before.saturating_add(place);
         let Some(spelled) = first_byte(&text[place..]) else {
-            return Err(word.fault_within(place, TextFault::BadEscape));
+            return Err(word.fault_within(fault_place, TextFault::BadEscape));
         };
-        if !spelled.escaped {
-            match spelled.byte {
-                b'.' => break 'bytes,
-                b'"' | b'(' | b')' | b';' => {
-                    return Err(word.fault_within(place, TextFault::BadName));
-                }
-                _ => {}
-            }
+        if spelled.is_bare && spelled.byte == b'.' {
+            break 'bytes;
+        }
+        if spelled.is_bare && !is_bare_in_label(spelled.byte) {
+            return Err(word.fault_within(fault_place, TextFault::BadName));
         }
         if len == MAX_LABEL_LEN {
-            return Err(word.fault_within(start, TextFault::LabelTooLong));
+            return Err(word.fault_within(before, TextFault::LabelTooLong));
         }
         label[len] = spelled.byte;
         len += 1;
@@ -51,15 +52,23 @@ fn read_label(
     Ok((len, place))
 }
 
+/// Whether a byte may stand in a label without a backslash.
+fn is_bare_in_label(byte: u8) -> bool
+    ensures { result ≡ bare_in_label byte }
+{
+    !matches!(byte, b'.' | b'"' | b'(' | b')' | b';')
+}
+
 /// Reads labels with dots between them, and whether a dot stands last.
 fn read_labels(word: &Word<'_>, labels: &mut Labels) -> Result<bool, TextError>
-    ensures { IfOk result (λ dot. IsTrue dot → EndsInDot word.now.bytes.now) }
+    requires { labels.old ≡ [] }
+    ensures { IfOk result (λ dot. AreLabelsWithDot dot word.now.bytes.now labels.new) }
 {
     let text = word.bytes;
     let mut place = 0;
     'labels: loop {
         let mut label = [0; MAX_LABEL_LEN];
-        let (len, end) = read_label(word, place, &mut label)?;
+        let (len, used) = read_label(word, place, &text[place..], &mut label)?;
         if len == 0 {
             return Err(word.fault_within(place, TextFault::BadName));
         }
@@ -67,6 +76,7 @@ fn read_labels(word: &Word<'_>, labels: &mut Labels) -> Result<bool, TextError>
             return Err(word.fault_within(place, TextFault::NameTooLong));
         }
         labels.push(&label[..len]);
+        let end = place + used;
         if end == text.len() {
             return Ok(false);
         }
@@ -79,16 +89,20 @@ fn read_labels(word: &Word<'_>, labels: &mut Labels) -> Result<bool, TextError>
 
 /// Reads the labels of a name, and whether it is fully qualified: `.` and `@` have none, and the first of them is.
 fn spelled_labels(word: &Word<'_>, labels: &mut Labels) -> Result<bool, TextError>
-    ensures { IfOk result (λ is_fqdn. IsTrue is_fqdn → EndsInDot word.now.bytes.now) }
+    requires { labels.old ≡ [] }
+    ensures plain { OnOk result (word.now.quoted ≡ false) }
+    ensures spelled { IfOk result (λ is_fqdn. AreNameLabels is_fqdn word.now.bytes.now labels.new) }
 {
     if word.quoted {
         return Err(word.fault(TextFault::BadName));
     }
-    match word.bytes {
-        b"." => Ok(true),
-        b"@" => Ok(false),
-        _ => read_labels(word, labels),
+    if word.bytes == b".".as_slice() {
+        return Ok(true);
     }
+    if word.bytes == b"@".as_slice() {
+        return Ok(false);
+    }
+    read_labels(word, labels)
 }
 
 /// Puts the labels of a name behind others. With them a name has at most 255 bytes.
@@ -118,7 +132,8 @@ pub(crate) fn absolute_name(
     origin: Option<&Name>,
 ) -> Result<Name, TextError>
     ensures qualified { IfOk result (λ name. name.is_fqdn ≡ true) }
-    ensures relative { IfOk result (λ name. (EndsInDot word.now.bytes.now → ⊥) → IfSome origin.entry (λ o. IsRelativeTo o.now name)) }
+    ensures plain { OnOk result (word.now.quoted ≡ false) }
+    ensures spelled { IfOk result (λ name. SpellsName (option_copied origin.entry) word.now.bytes.now name.labels) }
 {
     let mut labels = Labels::new();
     let is_fqdn = spelled_labels(word, &mut labels)?;

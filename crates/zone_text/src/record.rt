@@ -5,19 +5,13 @@ ghost use Rattle.wire_messages.specs.serialize.writing.RecordSize.{data_len};
 ghost use Rattle.wire_messages.specs.declared.rr.record.Proof.TheVariants.{Indeterminate};
 
 use crate::data::data_of;
+use crate::data::table::type_of;
 use crate::error::{TextError, TextFault};
 use crate::names::next_name;
 use crate::ttl::ttl_of;
 use crate::words::{Word, Words};
 use hickory_wire::{DNSClass, Proof, Record, RecordType};
 use std::alloc::Global;
-
-/// The type of a field.
-pub(crate) fn type_of(word: &Word<'_>) -> Result<RecordType, TextError> {
-    let unknown = word.fault(TextFault::UnknownType);
-    let text = word.plain_text().ok_or(unknown)?;
-    text.parse::<RecordType>().map_err(|_| unknown)
-}
 
 /// The class of a field.
 pub(crate) fn class_of(word: &Word<'_>) -> Result<DNSClass, TextError> {

@@ -1,24 +1,34 @@
-//! TTLs in text.
+//! Times in text.
+
+ghost use Rattle.std.specs.Prelude.{◌≡◌, ◌+◌, ◌-◌, ◌*◌, ◌<◌, ◌^◌, false, unwrap_or, IfOk, IfSome};
+ghost use Rattle.std.specs.Char.{IsAsciiDigit};
+ghost use Rattle.zone_text.specs.Spelling.{IsNumber, SpellsTime, SpellsUnits, unit_seconds};
 
 use crate::error::{TextError, TextFault};
-use crate::words::Word;
+use crate::words::{Word, are_digits};
 
 /// The TTL of a field: a decimal number of seconds.
-pub(crate) fn ttl_of(word: &Word<'_>) -> Result<u32, TextError> {
-    word.number().map_err(|e| match e {
-        TextError::At {
-            column,
-            fault: TextFault::BadNumber,
-        } => TextError::At {
+pub(crate) fn ttl_of(word: &Word<'_>) -> Result<u32, TextError>
+    ensures { IfOk result (λ n. (word.now.quoted ≡ false) × IsNumber word.now.bytes.now n × (n < 2 ^ 32)) }
+{
+    match word.number() {
+        Err(
+            TextError::At {
+                column,
+                fault: TextFault::BadNumber,
+            },
+        ) => Err(TextError::At {
             column,
             fault: TextFault::NotATtl,
-        },
-        other => other,
-    })
+        }),
+        answer => answer,
+    }
 }
 
 /// How many seconds a unit of a zone file has: a second, minute, hour, day or week.
-fn unit_seconds(unit: u8) -> Option<u64> {
+fn unit_seconds(unit: u8) -> Option<u64>
+    ensures { result ≡ unit_seconds unit }
+{
     match unit.to_ascii_lowercase() {
         b's' => Some(1),
         b'm' => Some(60),
@@ -29,32 +39,55 @@ fn unit_seconds(unit: u8) -> Option<u64> {
     }
 }
 
-/// The sum of numbers with a unit behind each. A sum past 64 bits is cut there, and so no TTL.
-fn ttl_with_units(word: &Word<'_>) -> Result<u32, TextError> {
+/// The number that a digit behind a number, or behind none, makes.
+fn with_digit(number: Option<u32>, digit: u8) -> Option<u32>
+    requires { IsAsciiDigit digit }
+    ensures { IfSome result (λ n. n ≡ unwrap_or number 0 * 10 + (digit - 48)) }
+{
+    let tens = number.unwrap_or(0).checked_mul(10)?;
+    tens.checked_add(u32::from(digit - b'0'))
+}
+
+/// The sum of numbers with a unit behind each.
+fn units(word: &Word<'_>) -> Result<u64, TextError>
+    ensures { IfOk result (SpellsUnits word.now.bytes.now) }
+{
     let not_a_ttl = word.fault(TextFault::NotATtl);
+    let too_great = word.fault(TextFault::NumberOutOfRange);
     let mut sum = 0u64;
     let mut number = None;
     for byte in word.bytes {
         if byte.is_ascii_digit() {
-            let tens = number.unwrap_or(0u64).saturating_mul(10);
-            number = Some(tens.saturating_add(u64::from(*byte - b'0')));
+            number = Some(with_digit(number, *byte).ok_or(too_great)?);
         } else {
             let seconds = unit_seconds(*byte).ok_or(not_a_ttl)?;
-            let units = number.ok_or(not_a_ttl)?;
-            sum = sum.saturating_add(units.saturating_mul(seconds));
+            let count = number.ok_or(not_a_ttl)?;
+            sum = sum
+                .checked_add(u64::from(count) * seconds)
+                .ok_or(too_great)?;
             number = None;
         }
     }
-    if word.quoted || number.is_some() {
-        return Err(not_a_ttl);
+    match number {
+        Some(_) => Err(not_a_ttl),
+        None => Ok(sum),
     }
-    u32::try_from(sum).map_err(|_| word.fault(TextFault::NumberOutOfRange))
 }
 
-/// The TTL of a field of a zone file: a number of seconds, or numbers with a unit behind each, as `90`, `1h30m` or `2W`.
-pub(crate) fn zone_file_ttl(word: &Word<'_>) -> Result<u32, TextError> {
-    match word.bytes.last() {
-        Some(last) if !last.is_ascii_digit() => ttl_with_units(word),
-        _ => ttl_of(word),
+/// The seconds of a field of a zone file: a number of them, or numbers with a unit behind each, as `90`, `1h30m` or `2W`.
+pub(crate) fn seconds_of(word: &Word<'_>) -> Result<u32, TextError>
+    ensures { IfOk result (λ n. (word.now.quoted ≡ false) × SpellsTime word.now.bytes.now n × (n < 2 ^ 32)) }
+{
+    if word.quoted || word.bytes.is_empty() {
+        return Err(word.fault(TextFault::NotATtl));
+    }
+    if are_digits(word.bytes) {
+        let seconds = ttl_of(word)?;
+        return Ok(seconds);
+    }
+    let sum = units(word)?;
+    match u32::try_from(sum) {
+        Ok(seconds) => Ok(seconds),
+        Err(_) => Err(word.fault(TextFault::NumberOutOfRange)),
     }
 }

@@ -1,9 +1,12 @@
 //! The fields of a line, and of an entry of a zone file.
 
-ghost use Rattle.std.specs.Prelude.{◌≡◌, ◌≤◌, ◌<◌, ◌-◌, ◌↔◌, length, IfOk, IfSome, IsTrue};
+ghost use Rattle.std.specs.Prelude.{◌≡◌, ℕ, false, ◌≤◌, ◌<◌, ◌-◌, ◌^◌, ◌↔◌, length, IfOk, IfSome, IsTrue};
+ghost use Rattle.zone_text.specs.Spelling.{IsNumber};
+ghost use Rattle.zone_text.specs.Words.{AreWords, IsWordFrom};
 ghost use Rattle.zone_text.specs.ZoneFiles.{HasBlankAt, IsBlank};
 
 use crate::error::{TextError, TextFault};
+use std::alloc::Global;
 use std::str;
 
 /// A field.
@@ -37,7 +40,9 @@ impl<'a> Word<'a> {
     }
 
     /// The field as text, where it stood in no quotes.
-    pub(crate) fn plain_text(&self) -> Option<&'a str> {
+    pub(crate) fn plain_text(&self) -> Option<&'a str>
+        ensures { IfSome result (λ text. (self.now.quoted ≡ false) × (text.now ≡ self.now.bytes.now)) }
+    {
         if self.quoted {
             return None;
         }
@@ -45,17 +50,38 @@ impl<'a> Word<'a> {
     }
 
     /// The decimal number that the field is, without a sign.
-    pub(crate) fn number(&self) -> Result<u32, TextError> {
-        let bad = self.fault(TextFault::BadNumber);
-        let text = self.plain_text().ok_or(bad)?;
-        if text.is_empty() || !text.as_bytes().iter().all(|byte| byte.is_ascii_digit()) {
-            return Err(bad);
+    pub(crate) fn number(&self) -> Result<u32, TextError>
+        ensures { IfOk result (λ n. (self.now.quoted ≡ false) × IsNumber self.now.bytes.now n × (n < 2 ^ 32)) }
+    {
+        if self.quoted || self.bytes.is_empty() || !are_digits(self.bytes) {
+            return Err(self.fault(TextFault::BadNumber));
         }
-        match text.parse::<u32>() {
-            Ok(number) => Ok(number),
-            Err(_) => Err(self.fault(TextFault::NumberOutOfRange)),
-        }
+        number_of_digits(self.bytes).ok_or(self.fault(TextFault::NumberOutOfRange))
     }
+}
+
+/// Whether all bytes are decimal digits.
+pub(crate) fn are_digits(bytes: &[u8]) -> bool {
+    bytes.iter().all(|byte| byte.is_ascii_digit())
+}
+
+/// The number of 32 bits that decimal digits are, at least one.
+pub(crate) fn number_of_digits(bytes: &[u8]) -> Option<u32>
+    ensures { IfSome result (λ n. IsNumber bytes.now n × (n < 2 ^ 32)) }
+{
+    if bytes.is_empty() {
+        return None;
+    }
+    let mut number = 0u32;
+    for byte in bytes {
+        if !byte.is_ascii_digit() {
+            return None;
+        }
+        number = number
+            .checked_mul(10)?
+            .checked_add(u32::from(*byte - b'0'))?;
+    }
+    Some(number)
 }
 
 /// What a text is taken for.
@@ -137,7 +163,10 @@ fn quote_place(text: &[u8]) -> Option<usize>
 
 impl<'a> Words<'a> {
     /// The front of a line.
-    pub(crate) fn new(line: &'a str) -> Words<'a> {
+    pub(crate) fn new(line: &'a str) -> Words<'a>
+        ensures text { result.text.now ≡ line.now }
+        ensures place { result.place ≡ 0 }
+    {
         Words {
             text: line.as_bytes(),
             place: 0,
@@ -235,6 +264,7 @@ impl<'a> Words<'a> {
     pub(crate) fn next(&mut self) -> Result<Option<Word<'a>>, TextError>
         ensures text { self.new.text ≡ self.old.text }
         ensures on { self.old.place ≤ self.new.place }
+        ensures word { IfOk result (λ found. IfSome found (λ word. IsWordFrom self.old.text.now self.old.place word self.new.place)) }
         ensures nearer { IfOk result (λ found. IfSome found (λ _. length self.new.text.now - self.new.place < length self.old.text.now - self.old.place)) }
     {
         match self.kind {
@@ -267,6 +297,23 @@ impl<'a> Words<'a> {
                 }))
             }
         }
+    }
+
+    /// The fields that are left.
+    pub(crate) fn rest(&mut self, alloc: Global) -> Result<Vec<Word<'a>>, TextError>
+        ensures text { self.new.text ≡ self.old.text }
+        ensures words { IfOk result (λ words. (next : ℕ) × AreWords self.old.text.now self.old.place words.items next) }
+    {
+        let mut fields = Vec::new(alloc);
+        'fields: while let Some(word) = self.next()? {
+            fields.push(word)?;
+        }
+        Ok(fields)
+    }
+
+    /// How many bytes of the text stand before what is next.
+    pub(crate) fn place(&self) -> usize {
+        self.place
     }
 
     /// The next field.

@@ -3,7 +3,7 @@
 mod entry;
 mod fault;
 
-ghost use Rattle.std.specs.Prelude.{All, IfOk};
+ghost use Rattle.std.specs.Prelude.{◌≤◌, length, All, IfOk};
 ghost use Rattle.zone_text.specs.ZoneFiles.{IsZoneRecord};
 
 use crate::error::ZoneFileError;
@@ -12,6 +12,16 @@ use crate::zone_file::entry::{Before, Entry, read_entry};
 use crate::zone_file::fault::EntryError;
 use hickory_wire::{Items, Name, Record};
 use std::alloc::Global;
+
+/// Where the first entry begins: behind a byte order mark, if there is one (RFC 3629 section 6).
+fn first_entry(text: &[u8]) -> usize
+    ensures { result ≤ length text.now }
+{
+    match text {
+        [0xEF, 0xBB, 0xBF, ..] => 3,
+        _ => 0,
+    }
+}
 
 /// Reads the entries one after the other.
 fn read_entries(alloc: Global, text: &[u8], origin: &Name) -> Result<Items<Record>, EntryError>
@@ -22,7 +32,7 @@ fn read_entries(alloc: Global, text: &[u8], origin: &Name) -> Result<Items<Recor
         default_ttl: None,
         records: Items::new(alloc),
     };
-    let mut place = 0;
+    let mut place = first_entry(text);
     'entries: while place < text.len() {
         let words = Words::entry(text, place);
         match read_entry(alloc, words, &before)? {
@@ -41,7 +51,8 @@ fn read_entries(alloc: Global, text: &[u8], origin: &Name) -> Result<Items<Recor
 /// An entry is a line; parentheses join lines, a comment goes from `;` to the end of its line, and quotes may hold any of these. It is
 /// blank, or `$ORIGIN` and a name, or `$TTL` and a TTL (RFC 2308 section 4), or a record: owner name, TTL, class, type and data. A line
 /// that begins with a blank has the owner name of the record before. TTL and class stand in either order, and either may be left out; the
-/// class is IN. A record without a TTL has that of the last `$TTL`, else that of the record before. A TTL is a number of seconds, or
+/// class is IN. A record without a TTL has that of the last `$TTL`, else that of the record before; an SOA record that has neither has its own
+/// minimum. A TTL is a number of seconds, or
 /// numbers with a unit behind each, one of `s`, `m`, `h`, `d` and `w` in either letter case. Names, in the data too, that have no dot at
 /// their end are relative to the origin, at first the one that is given, which is taken as fully qualified; `@` is the origin itself. What
 /// data are made of is told at [`read_data`](crate::read_data).

@@ -3,13 +3,15 @@
 ghost use Rattle.std.specs.Prelude.{◌≡◌, ◌↔◌, ◌≤◌, All, IfOk, IsTrue, true};
 ghost use Rattle.wire_messages.specs.rr.RecordData.{type_of};
 ghost use Rattle.wire_messages.specs.serialize.writing.RecordSize.{data_len};
-ghost use Rattle.zone_text.specs.ZoneFiles.{EndsInDot, HasBlankAt, IsEntryAt, IsLastOwner, IsNoRecord, IsRelativeTo, IsZoneRecord, IsZoneType, ttl_in_force};
+ghost use Rattle.zone_text.specs.Spelling.{SpellsName};
+ghost use Rattle.zone_text.specs.ZoneFiles.{HasBlankAt, IsEntryAt, IsLastOwner, IsNoRecord, IsZoneRecord, IsZoneType, ttl_in_force, zone_minimum};
 
 use crate::data::data_of;
+use crate::data::table::type_of;
 use crate::error::{TextFault, ZoneFileFault};
 use crate::names::{absolute_name, next_name};
-use crate::record::{class_of, type_of};
-use crate::ttl::zone_file_ttl;
+use crate::record::class_of;
+use crate::ttl::seconds_of;
 use crate::words::{Word, Words};
 use crate::zone_file::fault::{EntryError, fault_of};
 use hickory_wire::{DNSClass, Items, Name, Proof, RData, Record, RecordType};
@@ -40,17 +42,32 @@ pub(crate) enum Entry {
 }
 
 /// The TTL of a record in seconds: its own, else that of the last `$TTL` (RFC 2308 section 4), else that of the record before (RFC 1035
-/// section 5.1).
-fn ttl_in_force(own: Option<u32>, default_ttl: Option<u32>, last: Option<u32>) -> Option<u32>
-    ensures { result ≡ ttl_in_force own default_ttl last }
+/// section 5.1), else the last number of a zone's start (RFC 2308 section 4).
+fn ttl_in_force(
+    own: Option<u32>,
+    default_ttl: Option<u32>,
+    last: Option<u32>,
+    minimum: Option<u32>,
+) -> Option<u32>
+    ensures { result ≡ ttl_in_force own default_ttl last minimum }
 {
-    own.or(default_ttl).or(last)
+    own.or(default_ttl).or(last).or(minimum)
+}
+
+/// The last number of a zone's start, where data are one (RFC 1035 section 3.3.13).
+fn zone_minimum(rdata: &RData) -> Option<u32>
+    ensures { result ≡ zone_minimum rdata.now }
+{
+    match rdata {
+        RData::SOA(soa) => Some(soa.get().minimum),
+        _ => None,
+    }
 }
 
 /// The TTL that a field is, if it begins with a digit, as neither a class nor a type does.
 fn own_ttl(word: &Word<'_>) -> Result<Option<u32>, EntryError> {
     match word.bytes {
-        [first, ..] if first.is_ascii_digit() => Ok(Some(zone_file_ttl(word)?)),
+        [first, ..] if first.is_ascii_digit() => Ok(Some(seconds_of(word)?)),
         _ => Ok(None),
     }
 }
@@ -152,7 +169,7 @@ fn read_zone_record(
     requires { All IsZoneRecord before.now.records }
     ensures kept { IfOk result (λ r. IsZoneRecord r) }
     ensures repeated { IfOk result (λ r. HasBlankAt line.entry.text.now line.entry.place → IsLastOwner before.now.records r.name) }
-    ensures relative { IfOk result (λ r. (HasBlankAt line.entry.text.now line.entry.place → ⊥) → (EndsInDot first.now.bytes.now → ⊥) → IsRelativeTo before.now.origin r.name) }
+    ensures named { IfOk result (λ r. (HasBlankAt line.entry.text.now line.entry.place → ⊥) → SpellsName (Some before.now.origin) first.now.bytes.now r.name.labels) }
 {
     let records = before.records.as_slice();
     let mut words = behind;
@@ -163,11 +180,12 @@ fn read_zone_record(
         absolute_name(alloc, first, Some(&before.origin))?
     };
     let (own, word) = ttl_and_class(&mut words)?;
+    let rdata = zone_data(alloc, &word, &mut words, &before.origin)?;
     let last = records.last().map(|record| record.ttl);
-    let Some(ttl) = ttl_in_force(own, before.default_ttl, last) else {
+    let minimum = zone_minimum(&rdata);
+    let Some(ttl) = ttl_in_force(own, before.default_ttl, last, minimum) else {
         return Err(fault_of(first, ZoneFileFault::NoTtl));
     };
-    let rdata = zone_data(alloc, &word, &mut words, &before.origin)?;
     Ok(Record {
         name,
         dns_class: DNSClass::IN,
@@ -189,7 +207,7 @@ fn read_directive(
     let entry = if first.bytes.eq_ignore_ascii_case(b"$ORIGIN") {
         Entry::Origin(next_name(alloc, words, Some(origin))?)
     } else if first.bytes.eq_ignore_ascii_case(b"$TTL") {
-        Entry::DefaultTtl(zone_file_ttl(&words.field()?)?)
+        Entry::DefaultTtl(seconds_of(&words.field()?)?)
     } else if first.bytes.eq_ignore_ascii_case(b"$INCLUDE") {
         return Err(fault_of(first, ZoneFileFault::IncludeNotTaken));
     } else {

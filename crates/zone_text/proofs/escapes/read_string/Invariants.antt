@@ -1,10 +1,13 @@
-use Rattle.std.proofs.Common.{◌≤◌, ◌-◌, length}
+use Rattle.std.proofs.Common.{◌≡◌, ◌≤◌, ◌-◌, length, take}
+use Rattle.zone_text.specs.Spelling.{Spells, any_byte}
 use Rattle.zone_text.proofs.escapes.read_string.Given as goal
 
 abbrev pub invariant-bytes : goal.invariant-bytes
 invariant-bytes l = record {
   short : l.len ≤ 255;
   within : l.place ≤ length l.text;
+  sized : length l.string ≡ 255;
+  spelled : Spells any_byte (take l.place l.text) (take l.len l.string);
 }
 
 abbrev pub decreases-bytes : goal.decreases-bytes

@@ -1,11 +1,13 @@
-use Rattle.std.proofs.Common.{◌≤◌, ◌-◌, length}
+use Rattle.std.proofs.Common.{◌≡◌, ◌≤◌, ◌-◌, length, take}
+use Rattle.zone_text.specs.Spelling.{Spells, bare_in_label}
 use Rattle.zone_text.proofs.names.read_label.Given as goal
 
 abbrev pub invariant-bytes : goal.invariant-bytes
 invariant-bytes l = record {
   short : l.len ≤ 63;
-  behind : l.start ≤ l.place;
   within : l.place ≤ length l.text;
+  sized : length l.label ≡ 63;
+  spelled : Spells bare_in_label (take l.place l.text) (take l.len l.label);
 }
 
 abbrev pub decreases-bytes : goal.decreases-bytes

@@ -1,8 +1,12 @@
-use Rattle.std.proofs.Common.{◌≤◌, ◌-◌, length}
+use Rattle.std.proofs.Common.{◌≤◌, ◌-◌, length, take}
+use Rattle.zone_text.specs.Spelling.{SpellsLabels}
 use Rattle.zone_text.proofs.names.read_labels.Given as goal
 
 abbrev pub invariant-labels : goal.invariant-labels
-invariant-labels l = l.place ≤ length l.text
+invariant-labels l = record {
+  within : l.place ≤ length l.text;
+  spelled : SpellsLabels (take l.place l.text) l.labels;
+}
 
 abbrev pub decreases-labels : goal.decreases-labels
 decreases-labels l = length l.text - l.place

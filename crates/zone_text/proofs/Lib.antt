@@ -1,0 +1,4 @@
+pub mod RowSteps
+pub mod SameBytes
+pub mod SpellingSteps
+pub mod UnitSteps

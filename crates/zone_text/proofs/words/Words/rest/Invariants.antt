@@ -1,0 +1,12 @@
+use Rattle.std.proofs.Common.{◌≡◌, ◌-◌, length}
+use Rattle.zone_text.specs.Words.{AreWords}
+use Rattle.zone_text.proofs.words.Words.rest.Given as goal
+
+abbrev pub invariant-fields : goal.invariant-fields
+invariant-fields l = record {
+  text : l.self.text ≡ l.initial.self.text;
+  words : AreWords l.initial.self.text.now l.initial.self.place l.fields.items l.self.place;
+}
+
+abbrev pub decreases-fields : goal.decreases-fields
+decreases-fields l = length l.self.text.now - l.self.place

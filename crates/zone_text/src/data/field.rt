@@ -1,0 +1,56 @@
+//! What the data of a type are made of: fields of one word each, and what takes all words behind them.
+
+/// A field that one word of the text stands for.
+#[derive(Clone, Copy, Debug, PartialEq, Eq)]
+pub(crate) enum Field {
+    /// A number of 8 bits.
+    Number8,
+    /// A number of 16 bits.
+    Number16,
+    /// A number of 32 bits.
+    Number32,
+    /// A time of 32 bits in seconds, or in numbers with units.
+    Time,
+    /// A name, in full.
+    Name,
+    /// A character string: its length, and so many bytes (RFC 1035 section 3.3).
+    String,
+    /// Bytes to the end of the data, which a word spells as it spells a character string (RFC 8659 section 4.1.1).
+    Text,
+    /// An IPv4 address.
+    Ipv4,
+    /// An IPv6 address.
+    Ipv6,
+    /// A type.
+    RecordType,
+    /// A moment of 32 bits: a date with a time of day, or seconds since 1970 (RFC 4034 section 3.2).
+    Moment,
+}
+
+/// What the words stand for that are left behind the fields.
+#[derive(Clone, Copy, Debug, PartialEq, Eq)]
+pub(crate) enum Rest {
+    /// None is left.
+    Nothing,
+    /// Character strings, at least one.
+    Strings,
+    /// Bytes as hexadecimal digits, two for each.
+    Hex,
+    /// Bytes in base 64 (RFC 4648 section 4).
+    Base64,
+    /// Bytes in the form that is one for all types, which is the only one of the type (RFC 3597 section 5).
+    Generic,
+}
+
+/// A row of the table of types.
+#[derive(Clone, Copy, Debug)]
+pub(crate) struct Row {
+    /// The number of the type.
+    pub(crate) number: u16,
+    /// Its mnemonic.
+    pub(crate) mnemonic: &'static str,
+    /// The fields that its data begin with.
+    pub(crate) fields: &'static [Field],
+    /// What stands behind them.
+    pub(crate) rest: Rest,
+}
