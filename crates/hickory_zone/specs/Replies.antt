@@ -66,6 +66,7 @@ IsCompleted zone chain ended.answer additionals = AreAdditionals source.Answer z
 IsCompleted zone chain (ended.referral servers) additionals = AreAdditionals source.Glue zone chain (hosts_of servers) additionals
 IsCompleted zone chain other additionals = additionals ≡ []
 
+-- The reply where the answer section has these records of a chain, which ends so.
 pub record EndsIn (zone : Zone) (chain : Records) (ending : Ending) (reply : WholeReply) : Type 0 where
   pub additionals : Records
   pub completed : IsCompleted zone chain ending additionals

@@ -144,7 +144,8 @@ pub enum Source {
 fn is_of(key: &RrKey, record_type: RecordType, q: &Record) -> bool
     ensures { result ≡ is_of key.now.name record_type q.now }
 {
-    key.name.as_name() == &q.name && record_type.value() == q.rdata.record_type().value()
+    // The types first: most records are told apart by them, and names take longer.
+    record_type.value() == q.rdata.record_type().value() && key.name.as_name() == &q.name
 }
 
 /// Whether one of the records is.
