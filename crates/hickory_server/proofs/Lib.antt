@@ -1,2 +1,3 @@
+pub mod DecodedOutcomes
 pub mod Isolation
 pub mod Runs
