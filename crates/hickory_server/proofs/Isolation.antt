@@ -1,9 +1,11 @@
 -- From single steps to runs: each zone is served as if it were the only one.
-use Rattle.std.proofs.Common.{◌≡◌, ◌⊎◌, inl, inr, ℕ, List, [], ◌∷◌, Ok, Contains, sym, ap, subst}
+use Rattle.std.proofs.Common.{◌≡◌, ◌∙◌, ◌⊎◌, inl, inr, ℕ, ◌<◌, ◌≤◌, List, [], ◌∷◌, length, get_or, Ok, Contains, refl, sym, ap, subst, arith}
+use Rattle.std.proofs.lemmas.List.{get_or-map, get_or_default}
+use Rattle.std.proofs.lemmas.Map.Entries.{length-keys_of}
 use Rattle.std.specs.List.Sorted.{IsStrictlySortedBy}
 use Rattle.std.specs.Map.{keys_of}
 use Rattle.wire_names.specs.rr.domain.DomainName.{DomainName}
-use Rattle.wire_names.specs.rr.domain.NameOrder.{name_cmp}
+use Rattle.wire_names.specs.rr.domain.NameOrder.{lower_name, name_cmp}
 use Rattle.wire_reading.specs.serialize.reading.MessageReading.{Fault, Reads}
 use Rattle.wire_names.specs.declared.error.DecodeError.{DecodeError}
 use Rattle.wire_reading.specs.declared.op.message.Message.{Message}
@@ -14,6 +16,7 @@ use Rattle.hickory_base.specs.requests.RequestReading.{message_of}
 use Rattle.hickory_base.specs.requests.Requests.{ReceivedRequest}
 use Rattle.hickory_base.specs.declared.zone_store.handler.ZoneHandler.{Ghosts}
 use Rattle.hickory_catalog.specs.Alone.{ApexesStay, IsOfZone, OfZoneIsDecided, OneChain, OthersStay, ServedAlone}
+use Rattle.hickory_catalog.specs.Find.{IsNearest, MayAnswer}
 use Rattle.hickory_catalog.specs.Server.{Server, server_of}
 use Rattle.hickory_catalog.specs.Signing.{Signer}
 use Rattle.hickory_catalog.specs.Zones.{AreInOrder}
@@ -23,6 +26,42 @@ use Rattle.hickory_server.specs.Isolation as beside
 use Rattle.hickory_server.specs.Serving.{IsRequestOf, Run, Step, denied, handled, next, none, unreadable}
 use Rattle.hickory_server.specs.declared.server.serve.Incoming.{Incoming}
 use Rattle.hickory_server.specs.declared.server.serve.Outcome.{Outcome}
+
+-- ---- zones of the same apexes
+
+module _ {V : Type 0} (zones others : List (DomainName × V)) (same : keys_of zones ≡ keys_of others) where
+  as_many : length zones ≡ length others
+  as_many = sym (length-keys_of zones) ∙ ap length same ∙ length-keys_of others
+
+  apex_at : (k : ℕ) (d : DomainName × V) → k < length zones → (get_or zones k d).0 ≡ (get_or others k d).0
+  apex_at k d lt =
+      let there : k < length others = omega (arith, as_many) in
+      sym (get_or-map (λ (z : DomainName × V). z.0) zones k d d.0 lt) ∙ ap (λ (ks : List DomainName). get_or ks k d.0) same ∙ get_or-map (λ (z : DomainName × V). z.0) others k d d.0 there
+
+  -- what is among the one is, by its apex, among the other
+  among_others : (apex : DomainName) (value : V) → Contains zones (apex, value) → (other : V) × Contains others (apex, other)
+  among_others apex value (k, lt, at) =
+      let d : DomainName × V = (apex, value) in
+      let there : k < length others = omega (arith, as_many) in
+      let z : DomainName × V = get_or others k d in
+      let key : z.0 ≡ apex = sym (apex_at k d lt) ∙ ap (λ (x : DomainName × V). x.0) at in
+      let made : DomainName × V = (apex, z.1) in
+      let pair : z ≡ made = ap (λ (a : DomainName). let x : DomainName × V = (a, z.1) in x) key in
+      (z.1, (k, there, get_or_default others k made d there ∙ pair))
+
+  -- so is the nearest zone
+  nearest_other : (name apex : DomainName) (value : V) → IsNearest zones name (apex, value) → (other : V) × IsNearest others name (apex, other)
+  nearest_other name apex value n =
+      let among = among_others apex value n.among in (
+        among.0,
+        record {
+          among = among.1;
+          may_answer = n.may_answer;
+          longest = λ k d lt.
+              let here : k < length zones = omega (arith, as_many) in
+              subst (λ (a : DomainName). MayAnswer a name → length a.labels ≤ length apex.labels) (apex_at k d here) (n.longest k d here);
+        },
+      )
 
 module _ {S H : Type 0} (handler : Ghosts H) (signature_for : S → Signer) (access : AccessSets) (catalog : Catalog S H) (apex : DomainName) where
   abbrev server : Server H
@@ -122,3 +161,26 @@ module _ {S H : Type 0} (handler : Ghosts H) (signature_for : S → Signer) (acc
       both : Beside zones messages outcomes after
           → (to : List Incoming) × (of : List Outcome) × (chain' : List H) × RunBeside access server apex zones messages outcomes after to of × Run access server ((apex, chain) ∷ []) to of ((apex, chain') ∷ []) × Contains after (apex, chain')
       both (to, of, here) = let alone = isolated zones chain messages outcomes after to of sorted among here in (to, of, alone.0, here, alone.1, alone.2)
+
+    to_zone_too : (zones others : List (DomainName × List H)) (message : Incoming) (chain : List H) → keys_of zones ≡ keys_of others → IsToZone access zones (apex, chain) message
+        → (other : List H) × IsToZone access others (apex, other) message
+    to_zone_too zones others message chain same to =
+        let n = nearest_other zones others same (lower_name to.of_zone.query.name) apex chain to.of_zone.nearest in
+        (n.0, record { allowed = to.allowed; request = to.request; is_request = to.is_request; of_zone = record { query = to.of_zone.query; asks = to.of_zone.asks; nearest = n.1 } })
+
+    -- which messages of a run are to the zone is decided in one way
+    pub one_beside : (zones others : List (DomainName × List H)) → keys_of zones ≡ keys_of others
+        → (messages : List Incoming) (outcomes : List Outcome) (after after' : List (DomainName × List H)) (to to' : List Incoming) (of of' : List Outcome)
+        → RunBeside access server apex zones messages outcomes after to of → RunBeside access server apex others messages outcomes after' to' of' → (to ≡ to') × (of ≡ of')
+    one_beside zones others same _ _ _ _ _ _ _ _ beside.none beside.none = (refl, refl)
+    one_beside zones others same _ _ after after' _ _ _ _ (to_zone {between = b} {message = m} {outcome = o} {messages = ms} {outcomes = os} {to = to} {of = of} is step rest) (to_zone {between = b'} {to = to'} {of = of'} is' step' rest') =
+        let keys : keys_of b ≡ keys_of b' = step_apexes zones b m o step ∙ same ∙ sym (step_apexes others b' m o step') in
+        let behind = one_beside b b' keys ms os after after' to to' of of' rest rest' in
+        (ap (λ (xs : List Incoming). m ∷ xs) behind.0, ap (λ (xs : List Outcome). o ∷ xs) behind.1)
+    one_beside zones others same _ _ after after' _ _ _ _ (to_zone {message = m} {chain = chain} is step rest) (elsewhere other step' rest') =
+        let there = to_zone_too zones others m chain same is in absurd (other there.0 there.1)
+    one_beside zones others same _ _ after after' _ _ _ _ (elsewhere {message = m} other step rest) (to_zone {chain = chain} is step' rest') =
+        let there = to_zone_too others zones m chain (sym same) is in absurd (other there.0 there.1)
+    one_beside zones others same _ _ after after' _ _ _ _ (elsewhere {between = b} {message = m} {outcome = o} {messages = ms} {outcomes = os} {to = to} {of = of} other step rest) (elsewhere {between = b'} {to = to'} {of = of'} other' step' rest') =
+        let keys : keys_of b ≡ keys_of b' = step_apexes zones b m o step ∙ same ∙ sym (step_apexes others b' m o step') in
+        one_beside b b' keys ms os after after' to to' of of' rest rest'

@@ -1,3 +1,4 @@
+pub mod DecodedOutcomes
 pub mod Isolation
 pub mod MadeReplies
 pub mod Runs

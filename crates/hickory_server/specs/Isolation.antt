@@ -1,5 +1,5 @@
 -- Each zone of a server is served as if it were the only one.
-use Rattle.std.specs.Prelude.{[], ◌∷◌, List, Contains}
+use Rattle.std.specs.Prelude.{◌≡◌, [], ◌∷◌, List, Contains}
 use Rattle.std.specs.Net.Socket.{socket_ip}
 use Rattle.wire_names.specs.rr.domain.DomainName.{DomainName}
 use Rattle.access_control.specs.Access.{AccessSets, IsAllowed}
@@ -52,6 +52,13 @@ abbrev pub EachRunIsBeside : {S H : Type 0} → Ghosts H → (S → Signer) → 
 EachRunIsBeside {S} {H} handler signature_for = (access : AccessSets) (catalog : Catalog S H) (apex : DomainName) (messages : List Incoming) (outcomes : List Outcome) (after : List (DomainName × List H))
     → Run access (server_of handler signature_for catalog) catalog.zones messages outcomes after
     → (to : List Incoming) × (of : List Outcome) × RunBeside access (server_of handler signature_for catalog) apex catalog.zones messages outcomes after to of
+
+-- In one way: two runs of the same messages with the same outcomes have the same messages to the zone, with the same outcomes.
+abbrev pub OneWayBeside : {S H : Type 0} → Ghosts H → (S → Signer) → Type 0
+OneWayBeside {S} {H} handler signature_for = (access : AccessSets) (catalog : Catalog S H) (apex : DomainName) (messages : List Incoming) (outcomes : List Outcome)
+    (after after' : List (DomainName × List H)) (to to' : List Incoming) (of of' : List Outcome)
+    → RunBeside access (server_of handler signature_for catalog) apex catalog.zones messages outcomes after to of
+    → RunBeside access (server_of handler signature_for catalog) apex catalog.zones messages outcomes after' to' of' → (to ≡ to') × (of ≡ of')
 
 -- Of the messages of each run it is decided which are to the zone; and what becomes of those, and the zone after them, is what becomes of them where
 -- they come alone to a server of that zone alone.

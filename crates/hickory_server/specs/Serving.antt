@@ -3,6 +3,7 @@ use Rattle.std.specs.Prelude.{◌≡◌, ◌<◌, ◌⊎◌, ◌++◌, ◌∷◌
 use Rattle.std.specs.Net.Socket.{socket_ip}
 use Rattle.std.specs.List.{AllZip}
 use Rattle.wire_names.specs.rr.domain.DomainName.{DomainName}
+use Rattle.wire_reading.specs.serialize.layout.WholeMessage.{MessageAt}
 use Rattle.wire_reading.specs.serialize.reading.MessageReading.{Reads}
 use Rattle.wire_messages.specs.serialize.writing.Reply.{Reply}
 use Rattle.wire_names.specs.declared.error.ProtoError.{ProtoError}
@@ -19,8 +20,10 @@ use Rattle.hickory_server.specs.declared.server.serve.Outcome.TheVariants.{Denie
 use Rattle.hickory_server.specs.declared.server.serve.ServeError.{ServeError}
 use Rattle.hickory_server.specs.declared.server.serve.ServeError.TheVariants.{Memory, MemoryAfterHandling}
 
--- The request that a message is read as (RFC 1035 section 4.1), with the address and the transport that it came from.
+-- The request that begins the bytes of a message, as it stands there (RFC 1035 section 4.1) and as it is read, with the address and the transport that
+-- it came from.
 pub record IsRequestOf (message : Incoming) (request : ReceivedRequest) : Type 0 where
+  pub stands : MessageAt message.bytes.items (message_of request.message)
   pub reads : Reads message.bytes.items (message_of request.message)
   pub questions : IsQuestionSection message.bytes.items request.message.queries
   pub raw : request.bytes ≡ message.bytes.items

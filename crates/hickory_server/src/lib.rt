@@ -1,7 +1,7 @@
 //! The zone service of a DNS server: requests, zones, replies, under the paths of the Rust crate.
 #![tactic(auto)]
 
-pub use hickory_base::{access, zone_store};
+pub use hickory_base::access;
 pub use hickory_wire as wire;
 pub use zone_text;
 
@@ -9,6 +9,7 @@ pub mod proto;
 pub mod server;
 pub mod store;
 pub mod zone_handler;
+pub mod zone_store;
 
 /// The version of this library, and of the programs over it.
 pub const VERSION: &str = "0.1.0";

@@ -6,16 +6,19 @@ ghost use Rattle.wire_messages.specs.serialize.writing.Reply.{Reply};
 ghost use Rattle.hickory_base.specs.responses.EncodingSinks.{EncodedReplies, IsEncodingOf};
 ghost use Rattle.hickory_catalog.specs.Requests.{RequestAnswered};
 ghost use Rattle.hickory_catalog.specs.Server.{server_of};
-ghost use Rattle.hickory_server.specs.Isolation.{BesideIsARun, EachRunIsBeside, EachRunIsIsolated, ZonesAreIsolated};
+ghost use Rattle.hickory_catalog.specs.Zones.{AreInOrder};
+ghost use Rattle.hickory_server.specs.DecodedOutcomes.{AnswersReadBack, OneQuestionHasRoom, StepsReadBack};
+ghost use Rattle.hickory_server.specs.Isolation.{BesideIsARun, EachRunIsBeside, EachRunIsIsolated, OneWayBeside, ZonesAreIsolated};
 ghost use Rattle.hickory_server.specs.Serving.{LeavesRequest, LeavesUnserved, Run, RunFailed, Step};
 
 use hickory_base::access::AccessControl;
 pub use hickory_base::encoding_sink::EncodingSink;
 use hickory_base::errors::CatalogError;
+use hickory_base::request_laws::repeatable_questions;
 use hickory_base::server::{Request, RequestHandler};
 use hickory_base::zone_store::ZoneHandler;
 use hickory_catalog::catalog::Catalog;
-use hickory_catalog::laws::{replies_taken, zones_apart};
+use hickory_catalog::laws::{replies_decode, replies_of_requests, replies_taken, zones_apart};
 use hickory_catalog::signer::ReplySigner;
 use hickory_wire::message_laws::one_message;
 use hickory_wire::{Items, Octets, ProtoError, Protocol};
@@ -156,9 +159,12 @@ pub fn serve_all<S: ReplySigner, H: ZoneHandler>(
     messages: Vec<Incoming>,
 ) -> Result<Vec<Outcome>, (Vec<Outcome>, ServeError)>
     ensures others { catalog.new ≡ record catalog.old { zones = catalog.new.zones } }
+    // As the laws of isolation ask.
+    ensures ordered { AreInOrder catalog.old.zones }
     ensures ok { IfOk result (λ outcomes. Run access.now (server_of H.ZoneHandler S.signature_for catalog.old) catalog.old.zones messages.items outcomes.items catalog.new.zones) }
     ensures err { IfErr result (λ failed. RunFailed access.now (server_of H.ZoneHandler S.signature_for catalog.old) messages.items failed.0.items failed.1 catalog.new.zones) }
 {
+    catalog.zones_in_order();
     let mut outcomes = Vec::new(alloc);
     for message in messages {
         if outcomes.reserve(1).is_err() {
@@ -172,13 +178,31 @@ pub fn serve_all<S: ReplySigner, H: ZoneHandler>(
     Ok(outcomes)
 }
 
+/// What a client reads of the replies to a request: of the bytes of each, over the transport that the request came over, the header that tells what was
+/// left out, the questions of the request, and the records that were written, each as it was meant.
+///
+/// The premises: no name of the questions leads into the header or runs on behind the last of them, which is so of all that are sent in full
+/// (`request_laws::repeatable_questions`); the transport's limit has room for header and questions, as it has
+/// for one question over any transport; each record of the reply reads back as
+/// itself (`record_laws::reading_back` says which do), and none but its own is an OPT, TSIG or SIG.
+pub fn replies_read_back<S: ReplySigner, H: ZoneHandler>()
+    ensures answers { AnswersReadBack H.ZoneHandler S.signature_for }
+    ensures steps { StepsReadBack H.ZoneHandler S.signature_for }
+    ensures room { OneQuestionHasRoom H.ZoneHandler S.signature_for }
+{
+    replies_of_requests::<S, H>();
+    replies_decode();
+    repeatable_questions();
+}
+
 /// Each zone of a server is served as if it were the only one: what becomes of the messages to it, and the zone after them, is what becomes of them
 /// where they come alone to a server of that zone alone, with the same identifier and signer. Which messages of a run these are
-/// is decided.
+/// is decided, and in one way.
 pub fn zones_are_isolated<S: ReplySigner, H: ZoneHandler>()
     ensures isolated { ZonesAreIsolated H.ZoneHandler S.signature_for }
     ensures run { BesideIsARun H.ZoneHandler S.signature_for }
     ensures beside { EachRunIsBeside H.ZoneHandler S.signature_for }
+    ensures one_way { OneWayBeside H.ZoneHandler S.signature_for }
     ensures each { EachRunIsIsolated H.ZoneHandler S.signature_for }
 {
     one_message();

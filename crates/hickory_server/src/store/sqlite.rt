@@ -1,3 +1,4 @@
-//! Zones that take dynamic updates, the laws of what updates leave, and worked examples of the definitions.
+//! Zones that take dynamic updates, why they make one not, the laws of what updates leave, and worked examples of the definitions.
 
+pub use hickory_base::errors::UpdateFault;
 pub use hickory_store::sqlite::{SqliteZoneHandler, Verifier, VerifyError, laws, worked};

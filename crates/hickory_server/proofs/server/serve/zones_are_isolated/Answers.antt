@@ -1,4 +1,5 @@
-use Rattle.hickory_server.proofs.Isolation.{isolated, run_beside, run_isolated, run_of_all}
+use Rattle.std.proofs.Common.{refl}
+use Rattle.hickory_server.proofs.Isolation.{isolated, one_beside, run_beside, run_isolated, run_of_all}
 use Rattle.hickory_server.proofs.server.serve.zones_are_isolated.Goals as goal
 
 pub returns-clause-isolated : goal.returns-clause-isolated
@@ -16,6 +17,12 @@ returns-clause-beside g c = λ access catalog apex messages outcomes after run.
     run_beside g.H.ZoneHandler g.S.ReplySigner.signature_for access catalog apex c.one_message.ensures.same c.one_message.ensures.no_fault
     c.zones_apart.ensures.alone c.zones_apart.ensures.others c.zones_apart.ensures.apexes c.zones_apart.ensures.one_chain c.zones_apart.ensures.decided
     catalog.zones messages outcomes after run
+
+pub returns-clause-one_way : goal.returns-clause-one_way
+returns-clause-one_way g c = λ access catalog apex messages outcomes after after' to to' of of' run other.
+    one_beside g.H.ZoneHandler g.S.ReplySigner.signature_for access catalog apex c.one_message.ensures.same c.one_message.ensures.no_fault
+    c.zones_apart.ensures.alone c.zones_apart.ensures.others c.zones_apart.ensures.apexes c.zones_apart.ensures.one_chain c.zones_apart.ensures.decided
+    catalog.zones catalog.zones refl messages outcomes after after' to to' of of' run other
 
 pub returns-clause-each : goal.returns-clause-each
 returns-clause-each g c = λ access catalog apex chain messages outcomes after sorted among run.
