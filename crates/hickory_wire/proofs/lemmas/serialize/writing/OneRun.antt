@@ -138,7 +138,7 @@ one_run limit old new reply put lists owners =
     let both = run_both limit (section_records reply put) (last_records reply put) old owners.sections new (middles_repeating limit (section_records reply put) [] old owners.sections owners.repeating) (middles limit (last_records reply put) owners.sections new owners.last)
     (repeating_run limit (section_records reply put) [] old owners.sections owners.repeating) (puts_run limit (last_records reply put) owners.sections new owners.last) in
     let same : put_records (reply_lists reply) (fronts_list put) ≡ section_records reply put ++ last_records reply put =
-        five (take put.answers.count reply.answers) (take put.authorities.count (reply.authorities ++ reply.soa)) (take put.additionals.count reply.additionals)
-        (take put.opt.count (option_to_list (option_map opt_record reply.edns))) (take put.signature.count (option_to_list (option_map tsig_record reply.signature))) in
+    five (take put.answers.count reply.answers) (take put.authorities.count (reply.authorities ++ reply.soa)) (take put.additionals.count reply.additionals)
+    (take put.opt.count (option_to_list (option_map opt_record reply.edns))) (take put.signature.count (option_to_list (option_map tsig_record reply.signature))) in
     one_way limit (section_records reply put ++ last_records reply put) old new (middles_of_lists lists) (middles_of_owners owners)
     (subst (λ (rs : List (Record RData)). Run limit old rs new (middles_of_lists lists)) same (lists_run lists)) both
