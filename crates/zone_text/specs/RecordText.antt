@@ -23,7 +23,8 @@ use Rattle.zone_text.specs.declared.data.field.Rest.TheVariants as rest
 use Rattle.zone_text.specs.declared.data.field.Row.{Row}
 use Rattle.zone_text.specs.declared.words.Word.{Word}
 use Rattle.zone_text.specs.Moments.{SpellsMoment}
-use Rattle.zone_text.specs.Spelling.{IsNumber, Spells, any_byte, SpellsName, SpellsTime}
+use Rattle.zone_text.specs.Spelling.{IsNumber, Spells, any_byte, SpellsGroups, SpellsName, SpellsTime}
+use Rattle.zone_text.specs.TypeBitmaps.{windows}
 use Rattle.zone_text.specs.TypeTable.{TypeRow, rows, row_of}
 use Rattle.zone_text.specs.Words.{AreWords}
 
@@ -68,6 +69,9 @@ pub data IsField (origin : Option DomainName) : Field → Word → List ℕ → 
   ipv6 : {w : Word} {address : Ipv6Addr} → w.quoted ≡ false → IsIpv6Text w.bytes.now address → IsField origin field.Ipv6 w (ipv6_octets address)
   type : {w : Word} {number : ℕ} → w.quoted ≡ false → SpellsType w.bytes.now number → IsField origin field.RecordType w (to_be_bytes w16 number)
   moment : {w : Word} {n : ℕ} → w.quoted ≡ false → SpellsMoment w.bytes.now n → IsField origin field.Moment w (to_be_bytes w32 n)
+  no_salt : {w : Word} → w.quoted ≡ false → w.bytes.now ≡ 45 ∷ [] → IsField origin field.Salt w (0 ∷ [])
+  salt : {w : Word} {octets : List ℕ} → w.quoted ≡ false → w.bytes.now ≢ 45 ∷ [] → decode_of w.bytes.now ≡ Ok octets → length octets < 256 → IsField origin field.Salt w (character_string octets)
+  hash : {w : Word} {octets : List ℕ} → w.quoted ≡ false → SpellsGroups w.bytes.now octets → length octets < 256 → IsField origin field.Hash w (character_string octets)
 
 -- words for the fields, one for each, and their octets one behind the other
 pub data AreFields (origin : Option DomainName) : List Field → List Word → List ℕ → Type 0 where
@@ -83,6 +87,17 @@ pub data AreStrings : List Word → List ℕ → Type 0 where
   none : AreStrings [] []
   more : {words : List Word} {octets own : List ℕ} {word : Word} → AreStrings words octets → IsString word own → AreStrings (words ++ word ∷ []) (octets ++ own)
 
+-- types, one a word
+pub data AreTypes : List Word → List ℕ → Type 0 where
+  none : AreTypes [] []
+  more : {words : List Word} {numbers : List ℕ} {number : ℕ} (word : Word) → AreTypes words numbers → word.quoted ≡ false → SpellsType word.bytes.now number → AreTypes (words ++ word ∷ []) (numbers ++ number ∷ [])
+
+-- a set of types as octets (RFC 4034 section 4.1.2)
+pub record IsTypeSet (words : List Word) (octets : List ℕ) : Type 0 where
+  pub types : List ℕ
+  pub spelled : AreTypes words types
+  pub written : octets ≡ windows types 256
+
 -- the bytes of words, one behind the other
 abbrev pub bytes_of : List Word → List ℕ
 bytes_of words = flat_map (λ word. word.bytes.now) words
@@ -91,12 +106,14 @@ bytes_of words = flat_map (λ word. word.bytes.now) words
 abbrev pub ArePlain : List Word → Type 0
 ArePlain words = All (λ word. word.quoted ≡ false) words
 
--- What the words behind the fields stand for: none is left; character strings; hexadecimal digits; or the encoding of octets in base 64.
+-- What the words behind the fields stand for: none is left; character strings; hexadecimal digits; the encoding of octets in
+-- base 64; or a set of types.
 pub data IsRest : Rest → List Word → List ℕ → Type 0 where
   nothing : IsRest rest.Nothing [] []
   strings : {words : List Word} {octets : List ℕ} → words ≢ [] → AreStrings words octets → IsRest rest.Strings words octets
   hex : {words : List Word} {octets : List ℕ} → words ≢ [] → ArePlain words → decode_of (bytes_of words) ≡ Ok octets → IsRest rest.Hex words octets
   base64 : {words : List Word} {octets : List ℕ} → words ≢ [] → ArePlain words → bytes_of words ≡ encode_of standard octets → IsRest rest.Base64 words octets
+  types : {words : List Word} {octets : List ℕ} → IsTypeSet words octets → IsRest rest.Types words octets
 
 -- words for the data of a row: its fields, and what stands behind them
 pub record IsRow (origin : Option DomainName) (row : TypeRow) (words : List Word) (octets : List ℕ) : Type 0 where

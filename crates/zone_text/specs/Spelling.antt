@@ -1,7 +1,8 @@
 -- What single words of a zone's text spell: bytes, numbers, times and names (RFC 1035 section 5.1).
-use Rattle.std.specs.Prelude.{◌≡◌, ◌≢◌, ℕ, ◌+◌, ◌*◌, ◌<◌, ◌==◌, if◌then◌else◌, Bool, true, false, List, [], ◌∷◌, ◌++◌, length, IsTrue, Option, Some, None}
+use Rattle.std.specs.Prelude.{◌≡◌, ◌≢◌, ℕ, ◌+◌, ◌*◌, ◌<◌, ◌==◌, if◌then◌else◌, Bool, true, false, List, [], ◌∷◌, ◌++◌, length, drop, IsTrue, Option, Some, None}
 use Rattle.std.specs.Char.{to_ascii_lowercase}
-use Rattle.std.specs.Str.Parse.{IsNumeral, digits_value}
+use Rattle.std.specs.Int.{w64, to_be_bytes}
+use Rattle.std.specs.Str.Parse.{AllDigits, IsNumeral, digits_value}
 use Rattle.wire_names.specs.rr.domain.DomainName.{DomainName, IsLabel}
 
 -- a decimal number: digits, at least one, without a sign
@@ -71,3 +72,13 @@ pub data SpellsUnits : List ℕ → ℕ → Type 0 where
 pub data SpellsTime : List ℕ → ℕ → Type 0 where
   seconds : {text : List ℕ} {n : ℕ} → IsNumber text n → SpellsTime text n
   units : {text : List ℕ} {n : ℕ} → 0 < length text → SpellsUnits text n → SpellsTime text n
+
+-- digits in base 32, of which those above 9 are the letters from A on (RFC 4648 section 7)
+pub record IsBase32 (text : List ℕ) (n : ℕ) : Type 0 where
+  pub digits : AllDigits 32 text
+  pub value : digits_value 32 text ≡ n
+
+-- octets in base 32, without padding and in whole groups: each eight digits are the number of forty bits that five octets make
+pub data SpellsGroups : List ℕ → List ℕ → Type 0 where
+  none : SpellsGroups [] []
+  more : {text piece octets : List ℕ} (n : ℕ) → SpellsGroups text octets → length piece ≡ 8 → IsBase32 piece n → SpellsGroups (text ++ piece) (octets ++ drop 3 (to_be_bytes w64 n))

@@ -1,9 +1,9 @@
 -- The types of records that have a form in text, one row a type: number, mnemonic, and what their data are made of. Beside each stands the section that says so.
 use Rattle.std.specs.Prelude.{ℕ, ◌==◌, List, [], ◌∷◌, codes, find, Option}
 use Rattle.zone_text.specs.declared.data.field.Field.{Field}
-use Rattle.zone_text.specs.declared.data.field.Field.TheVariants.{Number8, Number16, Number32, Time, Name, String, Text, Ipv4, Ipv6, RecordType, Moment}
+use Rattle.zone_text.specs.declared.data.field.Field.TheVariants.{Number8, Number16, Number32, Time, Name, String, Text, Ipv4, Ipv6, RecordType, Moment, Salt, Hash}
 use Rattle.zone_text.specs.declared.data.field.Rest.{Rest}
-use Rattle.zone_text.specs.declared.data.field.Rest.TheVariants.{Nothing, Strings, Hex, Base64, Generic}
+use Rattle.zone_text.specs.declared.data.field.Rest.TheVariants.{Nothing, Strings, Hex, Base64, Types, Generic}
 
 -- A type: its number, its mnemonic, the fields that its data begin with, each of one word, and what all words behind them stand for.
 pub record TypeRow : Type 0 where
@@ -53,11 +53,11 @@ rows =
     ∷ row 43 (codes "DS") (Number16 ∷ Number8 ∷ Number8 ∷ []) Hex  -- RFC 4034 section 5.3
     ∷ row 44 (codes "SSHFP") (Number8 ∷ Number8 ∷ []) Hex  -- RFC 4255 section 3.2
     ∷ row 46 (codes "RRSIG") (RecordType ∷ Number8 ∷ Number8 ∷ Time ∷ Moment ∷ Moment ∷ Number16 ∷ Name ∷ []) Base64  -- RFC 4034 section 3.2
-    ∷ row 47 (codes "NSEC") [] Generic  -- RFC 4034 section 4
+    ∷ row 47 (codes "NSEC") (Name ∷ []) Types  -- RFC 4034 section 4
     ∷ row 48 (codes "DNSKEY") (Number16 ∷ Number8 ∷ Number8 ∷ []) Base64  -- RFC 4034 section 2.2
     ∷ row 49 (codes "DHCID") [] Base64  -- RFC 4701 section 3.1
-    ∷ row 50 (codes "NSEC3") [] Generic  -- RFC 5155 section 3
-    ∷ row 51 (codes "NSEC3PARAM") [] Generic  -- RFC 5155 section 4
+    ∷ row 50 (codes "NSEC3") (Number8 ∷ Number8 ∷ Number16 ∷ Salt ∷ Hash ∷ []) Types  -- RFC 5155 section 3
+    ∷ row 51 (codes "NSEC3PARAM") (Number8 ∷ Number8 ∷ Number16 ∷ Salt ∷ []) Nothing  -- RFC 5155 section 4
     ∷ row 52 (codes "TLSA") (Number8 ∷ Number8 ∷ Number8 ∷ []) Hex  -- RFC 6698 section 2.2
     ∷ row 53 (codes "SMIMEA") (Number8 ∷ Number8 ∷ Number8 ∷ []) Hex  -- RFC 8162 section 2
     ∷ row 56 (codes "NINFO") [] Strings  -- IANA's registry
@@ -65,6 +65,7 @@ rows =
     ∷ row 59 (codes "CDS") (Number16 ∷ Number8 ∷ Number8 ∷ []) Hex  -- RFC 7344 section 3.1
     ∷ row 60 (codes "CDNSKEY") (Number16 ∷ Number8 ∷ Number8 ∷ []) Base64  -- RFC 7344 section 3.2
     ∷ row 61 (codes "OPENPGPKEY") [] Base64  -- RFC 7929 section 2.3
+    ∷ row 62 (codes "CSYNC") (Number32 ∷ Number16 ∷ []) Types  -- RFC 7477 section 2.1
     ∷ row 63 (codes "ZONEMD") (Number32 ∷ Number8 ∷ Number8 ∷ []) Hex  -- RFC 8976 section 2.3
     ∷ row 99 (codes "SPF") [] Strings  -- RFC 4408 section 3.1.1
     ∷ row 105 (codes "L32") (Number16 ∷ Ipv4 ∷ []) Nothing  -- RFC 6742 section 2.2

@@ -3,9 +3,11 @@
 mod field;
 mod fields;
 mod forms;
+mod hashes;
 mod moment;
 pub(crate) mod rest;
 pub(crate) mod table;
+mod types;
 
 ghost use Rattle.std.specs.Prelude.{◌≡◌, ◌≤◌, [], ◌∷◌, false, IfOk, IfSome, IsTrue};
 ghost use Rattle.std.specs.Option.{option_copied};

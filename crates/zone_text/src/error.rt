@@ -60,6 +60,9 @@ pub enum TextFault {
     /// The field is no hexadecimal digits, two for each byte.
     #[error("not hexadecimal digits")]
     BadHex,
+    /// The field is not a hash in base 32: digits and letters up to V in whole groups of eight (RFC 5155 section 3.3).
+    #[error("not base 32")]
+    BadBase32,
     /// The field is neither a date with a time of day, of fourteen digits, nor a number of seconds (RFC 4034 section 3.2).
     #[error("not a date")]
     BadDate,

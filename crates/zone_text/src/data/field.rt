@@ -25,6 +25,10 @@ pub(crate) enum Field {
     RecordType,
     /// A moment of 32 bits: a date with a time of day, or seconds since 1970 (RFC 4034 section 3.2).
     Moment,
+    /// A salt: its length, and so many bytes (RFC 5155 section 3.3).
+    Salt,
+    /// A hash: its length, and so many bytes, in base 32 (RFC 5155 section 3.3).
+    Hash,
 }
 
 /// What the words stand for that are left behind the fields.
@@ -38,6 +42,8 @@ pub(crate) enum Rest {
     Hex,
     /// Bytes in base 64 (RFC 4648 section 4).
     Base64,
+    /// A set of types (RFC 4034 section 4.1.2).
+    Types,
     /// Bytes in the form that is one for all types, which is the only one of the type (RFC 3597 section 5).
     Generic,
 }

@@ -9,6 +9,7 @@ ghost use Rattle.zone_text.specs.RecordText.{AreFieldsBefore, IsField, Puts};
 ghost use Rattle.zone_text.specs.Spelling.{IsNumber};
 
 use crate::data::field::Field;
+use crate::data::hashes::{put_hash, put_salt};
 use crate::data::moment::moment;
 use crate::data::table::type_of;
 use crate::error::{TextError, TextFault};
@@ -154,6 +155,8 @@ pub(crate) fn put_field(
         Field::Ipv6 => put_ipv6(word, data),
         Field::RecordType => put_type(word, data),
         Field::Moment => put_moment(word, data),
+        Field::Salt => put_salt(alloc, word, data),
+        Field::Hash => put_hash(alloc, word, data),
     }
 }
 

@@ -7,6 +7,7 @@ ghost use Rattle.hex.specs.Hex.{decode_of};
 ghost use Rattle.zone_text.specs.RecordText.{AreStrings, ArePlain, IsRest, Puts, bytes_of};
 
 use crate::data::field::Rest;
+use crate::data::types::put_types;
 use crate::error::{TextError, TextFault};
 use crate::escapes::put_string;
 use crate::words::{Word, fault_at};
@@ -99,6 +100,7 @@ pub(crate) fn put_rest(
         (Rest::Nothing, None) => Ok(()),
         (Rest::Nothing, Some(word)) => Err(word.fault(TextFault::TooMuchText)),
         (Rest::Generic, Some(word)) => Err(word.fault(TextFault::NoTextForm)),
+        (Rest::Types, _) => put_types(alloc, words, data),
         (_, None) => Err(fault_at(end, TextFault::MissingField)),
         (Rest::Strings, Some(_)) => put_strings(words, data),
         (Rest::Hex, Some(_)) => put_hex(alloc, words, data),

@@ -11,7 +11,7 @@ use crate::words::{Word, number_of_digits};
 use hickory_wire::RecordType;
 
 /// The types by their numbers (RFC 1035 section 3.2.2, IANA's registry).
-static ROWS: [Row; 62] = [
+static ROWS: [Row; 63] = [
     Row {
         number: 1,
         mnemonic: "A",
@@ -263,8 +263,8 @@ static ROWS: [Row; 62] = [
     Row {
         number: 47,
         mnemonic: "NSEC",
-        fields: &[],
-        rest: Rest::Generic,
+        fields: &[Field::Name],
+        rest: Rest::Types,
     },
     Row {
         number: 48,
@@ -281,14 +281,20 @@ static ROWS: [Row; 62] = [
     Row {
         number: 50,
         mnemonic: "NSEC3",
-        fields: &[],
-        rest: Rest::Generic,
+        fields: &[
+            Field::Number8,
+            Field::Number8,
+            Field::Number16,
+            Field::Salt,
+            Field::Hash,
+        ],
+        rest: Rest::Types,
     },
     Row {
         number: 51,
         mnemonic: "NSEC3PARAM",
-        fields: &[],
-        rest: Rest::Generic,
+        fields: &[Field::Number8, Field::Number8, Field::Number16, Field::Salt],
+        rest: Rest::Nothing,
     },
     Row {
         number: 52,
@@ -331,6 +337,12 @@ static ROWS: [Row; 62] = [
         mnemonic: "OPENPGPKEY",
         fields: &[],
         rest: Rest::Base64,
+    },
+    Row {
+        number: 62,
+        mnemonic: "CSYNC",
+        fields: &[Field::Number32, Field::Number16],
+        rest: Rest::Types,
     },
     Row {
         number: 63,

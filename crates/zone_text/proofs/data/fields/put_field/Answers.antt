@@ -52,3 +52,9 @@ returns-in-String c = rw c.in-String.is (as_string c.put_string.result c.args.wo
 
 pub returns-in-Text : goal.returns-in-Text
 returns-in-Text c = rw c.in-Text.is (as_text c.put_spelled.result c.args.word.now c.args.data.now.items c.put_spelled.new.bytes.items (option_copied c.args.origin) c.put_spelled.ensures)
+
+pub returns-in-Salt : goal.returns-in-Salt
+returns-in-Salt c = rw c.in-Salt.is (at c.put_salt.result field.Salt c.args.word.now c.args.data.now.items c.put_salt.new.data.items (option_copied c.args.origin) c.put_salt.ensures)
+
+pub returns-in-Hash : goal.returns-in-Hash
+returns-in-Hash c = rw c.in-Hash.is (at c.put_hash.result field.Hash c.args.word.now c.args.data.now.items c.put_hash.new.data.items (option_copied c.args.origin) c.put_hash.ensures)

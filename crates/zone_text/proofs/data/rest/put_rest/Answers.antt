@@ -7,8 +7,8 @@ use Rattle.hex.specs.Hex.{decode_of}
 use Rattle.zone_text.specs.declared.data.field.Rest.TheVariants as kind
 use Rattle.zone_text.specs.declared.error.TextError.{TextError}
 use Rattle.zone_text.specs.declared.words.Word.{Word}
-use Rattle.zone_text.specs.RecordText.{ArePlain, AreStrings, IsRest, Puts, bytes_of}
-use Rattle.zone_text.specs.RecordText.IsRest.{nothing, strings, hex, base64}
+use Rattle.zone_text.specs.RecordText.{ArePlain, AreStrings, IsRest, IsTypeSet, Puts, bytes_of}
+use Rattle.zone_text.specs.RecordText.IsRest.{nothing, strings, hex, base64, types}
 use Rattle.zone_text.proofs.data.rest.put_rest.Goals as goal
 
 is_nil : (words : List Word) → None ≡ slice_get words 0 → words ≡ []
@@ -30,6 +30,13 @@ as_hex (Err e) words old new some h = h
 as_base64 : (r : Result (Unit {0}) TextError) (words : List Word) (old new : List ℕ) → words ≢ [] → OnOk r (ArePlain words × Puts (λ octets. bytes_of words ≡ encode_of standard octets) old new) → OnOk r (Puts (IsRest kind.Base64 words) old new)
 as_base64 (Ok done) words old new some h = (h.1.0, h.1.1, base64 some h.0 h.1.2)
 as_base64 (Err e) words old new some h = h
+
+as_types : (r : Result (Unit {0}) TextError) (words : List Word) (old new : List ℕ) → OnOk r (Puts (IsTypeSet words) old new) → OnOk r (Puts (IsRest kind.Types words) old new)
+as_types (Ok done) words old new h = (h.0, h.1, types h.2)
+as_types (Err e) words old new h = h
+
+pub returns-in-Types-default : goal.returns-in-Types-default
+returns-in-Types-default c = rw c.in-Types-default.is-0 (as_types c.put_types.result c.args.words.now c.args.data.now.items c.put_types.new.data.items c.put_types.ensures)
 
 pub returns-in-Nothing-None : goal.returns-in-Nothing-None
 returns-in-Nothing-None c = rw (c.in-Nothing-None.is-0, is_nil c.args.words.now c.in-Nothing-None.ensures.value) ([], sym (append-nil c.args.data.now.items), nothing)
