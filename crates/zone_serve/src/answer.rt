@@ -1,13 +1,15 @@
 //! What becomes of a message, by the server's rules for what comes from anywhere.
 
-ghost use Rattle.std.specs.Prelude.{◌≡◌, ◌↔◌, IfOk, IsTrue};
-ghost use Rattle.zone_serve.specs.Answers.{AreWithin, HasNoReply, IsResponse};
+ghost use Rattle.std.specs.Prelude.{◌≡◌, ◌≢◌, ◌↔◌, IfOk, IsTrue};
+ghost use Rattle.hickory_catalog.specs.Server.{server_of};
+ghost use Rattle.zone_serve.specs.Answers.{Answered, AreWithin, HasNoReply, IsResponse};
 
 use crate::datagrams::{bounded_replies, transfer_reply};
 use crate::fault::Fault;
-use crate::server::{Rules, Zones};
+use crate::server::Rules;
 use hickory_server::proto::{Items, Octets, Protocol};
 use hickory_server::server::serve::{Incoming, Outcome, serve};
+use hickory_server::zone_handler::{Catalog, ReplySigner, ZoneHandler};
 use std::alloc::Global;
 
 /// What becomes of a message.
@@ -34,13 +36,16 @@ fn is_response(bytes: &[u8]) -> bool
 }
 
 /// What becomes of a message that came over UDP: a transfer gets a reply without records, and no reply is longer than the limit.
-fn answer_datagram(
+fn answer_datagram<S: ReplySigner, H: ZoneHandler>(
     alloc: Global,
     rules: &Rules,
-    catalog: &mut Zones,
+    catalog: &mut Catalog<S, H>,
     message: Incoming,
 ) -> Result<Answer, Fault>
-    ensures { IfOk result (λ answer. AreWithin rules.now.max_udp answer) }
+    requires { message.protocol ≡ Protocol.Udp }
+    ensures others { catalog.new ≡ record catalog.old { zones = catalog.new.zones } }
+    ensures answered { IfOk result (λ answer. Answered rules.now (server_of H.ZoneHandler S.signature_for catalog.old) message answer catalog.new.zones) }
+    ensures within { IfOk result (λ answer. AreWithin rules.now.max_udp answer) }
 {
     let src = message.src;
     if let Some(reply) = transfer_reply(alloc, &message, rules.max_udp)? {
@@ -56,12 +61,16 @@ fn answer_datagram(
 }
 
 /// What becomes of a message that came over a stream.
-fn answer_framed(
+fn answer_framed<S: ReplySigner, H: ZoneHandler>(
     alloc: Global,
     rules: &Rules,
-    catalog: &mut Zones,
+    catalog: &mut Catalog<S, H>,
     message: Incoming,
-) -> Result<Answer, Fault> {
+) -> Result<Answer, Fault>
+    requires { message.protocol ≢ Protocol.Udp }
+    ensures others { catalog.new ≡ record catalog.old { zones = catalog.new.zones } }
+    ensures answered { IfOk result (λ answer. Answered rules.now (server_of H.ZoneHandler S.signature_for catalog.old) message answer catalog.new.zones) }
+{
     match serve(alloc, &rules.access, catalog, message)? {
         Outcome::Denied => Ok(Answer::Denied),
         Outcome::Unreadable => Ok(Answer::Unreadable),
@@ -70,13 +79,15 @@ fn answer_framed(
 }
 
 /// What becomes of a message. A response gets no reply, and over UDP no reply is longer than the limit, which is at least
-/// the size of a header.
-pub fn answer_to(
+/// the size of a header. Only an update changes the catalog.
+pub fn answer_to<S: ReplySigner, H: ZoneHandler>(
     alloc: Global,
     rules: &Rules,
-    catalog: &mut Zones,
+    catalog: &mut Catalog<S, H>,
     message: Incoming,
 ) -> Result<Answer, Fault>
+    ensures others { catalog.new ≡ record catalog.old { zones = catalog.new.zones } }
+    ensures answered { IfOk result (λ answer. Answered rules.now (server_of H.ZoneHandler S.signature_for catalog.old) message answer catalog.new.zones) }
     ensures unanswered { IfOk result (λ answer. IsResponse message.bytes.items → HasNoReply answer) }
     ensures within { message.protocol ≡ Protocol.Udp → IfOk result (λ answer. AreWithin rules.now.max_udp answer) }
 {

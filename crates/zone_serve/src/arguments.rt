@@ -15,6 +15,26 @@ pub enum Mode {
     Lines,
 }
 
+/// What stands behind an option.
+#[derive(Clone, Copy, Debug, PartialEq, Eq, Error)]
+pub enum Wanted {
+    /// The name of a zone and its file.
+    #[error("NAME=FILE")]
+    Zone,
+    /// A file.
+    #[error("FILE")]
+    File,
+    /// A network.
+    #[error("NET")]
+    Network,
+    /// A text.
+    #[error("TEXT")]
+    Text,
+    /// A number.
+    #[error("N")]
+    Number,
+}
+
 /// Why the arguments are not taken. A `place` tells which argument it is; the first is 1.
 #[derive(Clone, Copy, Debug, PartialEq, Eq, Error)]
 pub enum ArgumentFault<'a> {
@@ -34,7 +54,7 @@ pub enum ArgumentFault<'a> {
         /// The option.
         option: &'a str,
         /// What is wanted behind it.
-        wanted: &'static str,
+        wanted: Wanted,
     },
     /// An option that is taken once is there twice.
     #[error("argument {place}: {option} is there already")]
@@ -147,13 +167,13 @@ fn mode_named(name: &str) -> Option<Mode> {
 }
 
 /// What stands behind the option of this name.
-fn wanted_behind(option: &str) -> Option<&'static str> {
+fn wanted_behind(option: &str) -> Option<Wanted> {
     match option {
-        "--zone" => Some("NAME=FILE"),
-        "--blocklist" => Some("FILE"),
-        "--allow" | "--deny" => Some("NET"),
-        "--nsid" => Some("TEXT"),
-        "--max-udp" => Some("N"),
+        "--zone" => Some(Wanted::Zone),
+        "--blocklist" => Some(Wanted::File),
+        "--allow" | "--deny" => Some(Wanted::Network),
+        "--nsid" => Some(Wanted::Text),
+        "--max-udp" => Some(Wanted::Number),
         _ => None,
     }
 }

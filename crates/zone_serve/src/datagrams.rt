@@ -1,6 +1,7 @@
 //! Replies over UDP: none is longer than the server's own limit, and none has records in answer to a transfer.
 
-ghost use Rattle.std.specs.Prelude.{◌≤◌, All, IfOk, IfSome, length, max};
+ghost use Rattle.std.specs.Prelude.{◌≤◌, All, IfOk, IfSome, IsTrue, length, max};
+ghost use Rattle.zone_serve.specs.Answers.{AreSent, AsksTransfer, IsBounded, IsTransferRequest};
 
 use crate::fault::Fault;
 use hickory_server::proto::encoder_laws::what_is_written_keeps_the_limit;
@@ -68,7 +69,9 @@ fn encoded(alloc: Global, contents: &Contents<'_>, limit: u16) -> Result<Octets,
 }
 
 /// Whether a message asks for a whole zone (RFC 5936) or for what changed in it (RFC 1995).
-fn asks_transfer(message: &MessageRequest) -> bool {
+fn asks_transfer(message: &MessageRequest) -> bool
+    ensures { IsTrue result → AsksTransfer message.now }
+{
     match message.queries.queries() {
         [query] => {
             message.metadata.op_code == OpCode::QUERY
@@ -103,6 +106,22 @@ fn truncated(alloc: Global, message: &MessageRequest, limit: u16) -> Result<Octe
     reply
 }
 
+/// The reply to a message that asks for a transfer, where its version of EDNS is known.
+fn reply_to_transfer(
+    alloc: Global,
+    message: &MessageRequest,
+    limit: u16,
+) -> Result<Option<Octets>, Fault>
+    ensures within { IfOk result (λ reply. IfSome reply (λ bytes. length bytes ≤ max limit 12)) }
+    ensures asked { IfOk result (λ reply. IfSome reply (λ _. AsksTransfer message.now)) }
+{
+    if asks_transfer(message) && message.version() == 0 {
+        Ok(Some(truncated(alloc, message, limit)?))
+    } else {
+        Ok(None)
+    }
+}
+
 /// The reply to a message over UDP that asks for a transfer, which is for TCP; `None` where it asks for none, or is not of a version of EDNS
 /// that is known here.
 pub fn transfer_reply(
@@ -110,16 +129,15 @@ pub fn transfer_reply(
     message: &Incoming,
     limit: u16,
 ) -> Result<Option<Octets>, Fault>
-    ensures { IfOk result (λ reply. IfSome reply (λ bytes. length bytes ≤ max limit 12)) }
+    ensures within { IfOk result (λ reply. IfSome reply (λ bytes. length bytes ≤ max limit 12)) }
+    ensures asked { IfOk result (λ reply. IfSome reply (λ _. IsTransferRequest message.entry.now)) }
 {
     let bytes = message.bytes.as_slice().to_vec(alloc)?;
     let read = Request::from_bytes(alloc, bytes, message.src, message.protocol);
     let reply = match &read {
-        Ok(request) if asks_transfer(request.message()) && request.message().version() == 0 => {
-            truncated(alloc, request.message(), limit).map(Some)
-        }
+        Ok(request) => reply_to_transfer(alloc, request.message(), limit),
         Err(ProtoError::Memory) => Err(Fault::Memory),
-        _ => Ok(None),
+        Err(_) => Ok(None),
     };
     drop(read);
     reply
@@ -154,7 +172,7 @@ fn header_alone(alloc: Global, id: u16, limit: u16) -> Result<Octets, Fault>
 
 /// A reply within the limit: itself, or with as many records as fit.
 fn bounded(alloc: Global, reply: Octets, src: SocketAddr, limit: u16) -> Result<Octets, Fault>
-    ensures { IfOk result (λ bytes. length bytes ≤ max limit 12) }
+    ensures { IfOk result (IsBounded limit reply) }
 {
     if reply.len() <= usize::from(limit) {
         return Ok(reply);
@@ -181,7 +199,8 @@ pub fn bounded_replies(
     src: SocketAddr,
     limit: u16,
 ) -> Result<Items<Octets>, Fault>
-    ensures { IfOk result (λ bounded. All (λ bytes. length bytes ≤ max limit 12) bounded) }
+    ensures bounded { IfOk result (AreSent Protocol.Udp limit replies) }
+    ensures within { IfOk result (λ bounded. All (λ bytes. length bytes ≤ max limit 12) bounded) }
 {
     let mut within = Items::new(alloc);
     for reply in replies.into_vec() {

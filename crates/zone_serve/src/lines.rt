@@ -1,7 +1,8 @@
 //! Messages and what becomes of them, as lines of text.
 
-ghost use Rattle.std.specs.Prelude.{◌≡◌, ◌++◌, ◌∷◌, [], IfOk, OnOk};
-ghost use Rattle.zone_serve.specs.Lines.{hex_line, hex_lines, answer_lines};
+ghost use Rattle.std.specs.Prelude.{◌≡◌, ◌++◌, ◌∷◌, [], IfOk, IfSome, OnOk, Ok};
+ghost use Rattle.hex.specs.Hex.{decode_of};
+ghost use Rattle.zone_serve.specs.Lines.{AreWords, IsLineOf, IsTransport, hex_line, hex_lines, answer_lines};
 
 use crate::answer::Answer;
 use crate::peer;
@@ -26,7 +27,9 @@ pub struct LineMessage {
 pub const BAD_LINE: &[u8] = b"bad line\n";
 
 /// The transport of this name.
-fn transport_named(name: &str) -> Option<Protocol> {
+fn transport_named(name: &str) -> Option<Protocol>
+    ensures { IfSome result (IsTransport name.now) }
+{
     match name {
         "udp" => Some(Protocol::Udp),
         "tcp" => Some(Protocol::Tcp),
@@ -35,11 +38,27 @@ fn transport_named(name: &str) -> Option<Protocol> {
 }
 
 /// The bytes that hex digits stand for, or `None` where there is something else.
-fn bytes_of(alloc: Global, digits: &str) -> Result<Option<Vec<u8>>, AllocError> {
+fn bytes_of(alloc: Global, digits: &str) -> Result<Option<Vec<u8>>, AllocError>
+    ensures { IfOk result (λ bytes. IfSome bytes (λ it. decode_of digits.now ≡ Ok it.items)) }
+{
     match hex::decode(alloc, digits.as_bytes()) {
         Ok(bytes) => Ok(Some(bytes)),
         Err(FromHexError::OutOfMemory) => Err(AllocError),
         Err(_) => Ok(None),
+    }
+}
+
+/// The words of a text that has three.
+fn three_words(text: &str) -> Option<(&str, &str, &str)>
+    ensures { IfSome result (λ words. AreWords text.now words.0.now words.1.now words.2.now) }
+{
+    let mut words = text.split_ascii_whitespace();
+    let first = words.next()?;
+    let second = words.next()?;
+    let third = words.next()?;
+    match words.next() {
+        None => Some((first, second, third)),
+        Some(_) => None,
     }
 }
 
@@ -49,7 +68,9 @@ fn message_of(
     transport: &str,
     address: &str,
     digits: &str,
-) -> Result<Option<LineMessage>, AllocError> {
+) -> Result<Option<LineMessage>, AllocError>
+    ensures { IfOk result (λ message. IfSome message (λ it. IsTransport transport.now it.protocol × (decode_of digits.now ≡ Ok it.bytes.items))) }
+{
     let (Some(protocol), Some(address)) = (transport_named(transport), peer::address(address))
     else {
         return Ok(None);
@@ -66,15 +87,16 @@ fn message_of(
 
 /// The message that a line tells, or `None` where it tells none: `udp` or `tcp`, the address that the message came from, and its
 /// bytes in hex digits, with blanks between them.
-pub fn read_line(alloc: Global, line: &[u8]) -> Result<Option<LineMessage>, AllocError> {
+pub fn read_line(alloc: Global, line: &[u8]) -> Result<Option<LineMessage>, AllocError>
+    ensures { IfOk result (λ message. IfSome message (IsLineOf line.now)) }
+{
     let Ok(text) = str::from_utf8(line) else {
         return Ok(None);
     };
-    let words: Vec<&str> = text.split_ascii_whitespace().collect(alloc)?;
-    match words.as_slice() {
-        [transport, address, digits] => message_of(alloc, transport, address, digits),
-        _ => Ok(None),
-    }
+    let Some((transport, address, digits)) = three_words(text) else {
+        return Ok(None);
+    };
+    message_of(alloc, transport, address, digits)
 }
 
 /// Puts a line of hex digits for some bytes behind others.

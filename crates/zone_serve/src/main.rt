@@ -8,6 +8,11 @@
 //! file is not taken.
 #![tactic(auto)]
 
+ghost use Rattle.std.specs.Prelude.{◌≡◌, IfOk, OnOk, option_map};
+ghost use Rattle.either.specs.declared.Either.TheVariants.{Left};
+ghost use Rattle.hickory_base.specs.zone_store.ZoneAnswers.{MemoryZone};
+ghost use Rattle.zone_serve.specs.ServedZones.{IsLoaded, IsServedZone};
+
 mod answer;
 mod arguments;
 mod datagrams;
@@ -84,7 +89,9 @@ fn load_zone<R: Files + Alloc<A = Global>>(
     rt: &R,
     apex: &Name,
     file: &str,
-) -> Result<Handler, ZoneFault> {
+) -> Result<Handler, ZoneFault>
+    ensures { IfOk result (λ handler. (zone : MemoryZone) × (handler ≡ Left zone) × IsServedZone apex.now zone) }
+{
     let bytes = bytes_of(rt, file)?;
     Ok(Either::Left(zone_of_file(rt.alloc(), apex, &bytes)?))
 }
@@ -96,7 +103,9 @@ fn load<R: Files + Alloc<A = Global>>(
     argument: ZoneArgument<'_>,
     place: usize,
     list: Option<&Rc<BlocklistZoneHandler>>,
-) -> Result<(), Fault> {
+) -> Result<(), Fault>
+    ensures { OnOk result (IsLoaded (option_map (λ it. it.now.value) list.entry) catalog.old.zones catalog.new.zones) }
+{
     let apex = apex(rt.alloc(), argument.name, argument.place)?;
     let zone = match load_zone(rt, &apex, argument.file) {
         Ok(zone) => zone,

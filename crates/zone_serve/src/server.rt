@@ -1,5 +1,11 @@
 //! The server: who may use it, and what it serves.
 
+ghost use Rattle.std.specs.Prelude.{◌≡◌, ◌↔◌, IfOk, IsNone, IsTrue, List, MatchOption, Option, Some, option_map};
+ghost use Rattle.wire_names.specs.rr.domain.NameOrder.{lower_name};
+ghost use Rattle.access_control.specs.Access.{SameNetworks};
+ghost use Rattle.hickory_catalog.specs.Zones.{ChangesAt};
+ghost use Rattle.zone_serve.specs.ServedZones.{Chain, IsChain};
+
 use crate::arguments::Settings;
 use crate::fault::Fault;
 use crate::handler::Handler;
@@ -29,7 +35,10 @@ pub struct Rules {
 }
 
 /// The access list that the arguments ask for.
-fn access(alloc: Global, settings: &Settings<'_>) -> Result<AccessControl, AllocError> {
+fn access(alloc: Global, settings: &Settings<'_>) -> Result<AccessControl, AllocError>
+    ensures denied { IfOk result (λ access. SameNetworks settings.now.denied.items access.deny) }
+    ensures allowed { IfOk result (λ access. SameNetworks settings.now.allowed.items access.allow) }
+{
     let mut access = AccessControl::new(alloc);
     access.insert_deny(&settings.denied)?;
     access.insert_allow(&settings.allowed)?;
@@ -37,7 +46,11 @@ fn access(alloc: Global, settings: &Settings<'_>) -> Result<AccessControl, Alloc
 }
 
 /// The rules that the arguments ask for.
-pub fn rules_of(alloc: Global, settings: &Settings<'_>) -> Result<Rules, AllocError> {
+pub fn rules_of(alloc: Global, settings: &Settings<'_>) -> Result<Rules, AllocError>
+    ensures denied { IfOk result (λ rules. SameNetworks settings.now.denied.items rules.access.deny) }
+    ensures allowed { IfOk result (λ rules. SameNetworks settings.now.allowed.items rules.access.allow) }
+    ensures limit { IfOk result (λ rules. MatchOption settings.now.max_udp (rules.max_udp ≡ MAX_UDP) (λ limit. rules.max_udp ≡ limit)) }
+{
     Ok(Rules {
         access: access(alloc, settings)?,
         max_udp: settings.max_udp.unwrap_or(MAX_UDP),
@@ -77,7 +90,9 @@ pub fn chain(
     alloc: Global,
     zone: Handler,
     list: Option<&Rc<BlocklistZoneHandler>>,
-) -> Result<Vec<Handler>, AllocError> {
+) -> Result<Vec<Handler>, AllocError>
+    ensures { IfOk result (λ chain. IsChain zone (option_map (λ it. it.now.value) list.entry) chain.items) }
+{
     let mut chain = Vec::new(alloc);
     chain.push(zone)?;
     if let Some(list) = list {
@@ -92,7 +107,10 @@ pub fn put_chain(
     catalog: &mut Zones,
     apex: &Name,
     chain: Vec<Handler>,
-) -> Result<bool, Fault> {
+) -> Result<bool, Fault>
+    ensures { IfOk result (λ fresh. (was : Option Chain) ×
+        ChangesAt catalog.old.zones (lower_name apex.now) was (Some chain.items) catalog.new.zones × (IsTrue fresh ↔ IsNone was)) }
+{
     let name = LowerName::new(alloc, apex)?;
     match catalog.upsert(name, chain) {
         Ok(old) => Ok(old.is_none()),
