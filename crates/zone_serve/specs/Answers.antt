@@ -63,7 +63,9 @@ pub data Answered {H : Type 0} (rules : Rules) (server : Server H) (message : In
   response : IsAllowed rules.access.deny rules.access.allow (socket_ip message.src) → IsResponse message.bytes.items → answer ≡ Response → zones ≡ server.zones
       → Answered rules server message answer zones
   -- It came over UDP and asks for a transfer, which is for TCP (RFC 5936 section 4.2): one reply within the limit.
-  transfer : {reply : List ℕ} → message.protocol ≡ Udp → IsTransferRequest message → length reply ≤ max rules.max_udp 12 → answer ≡ Replies (reply ∷ []) → zones ≡ server.zones
+  transfer : {reply : List ℕ} → IsAllowed rules.access.deny rules.access.allow (socket_ip message.src) → ¬ (IsResponse message.bytes.items)
+      → message.protocol ≡ Udp → IsTransferRequest message → length reply ≤ max rules.max_udp 12 → answer ≡ Replies (reply ∷ []) → zones ≡ server.zones
       → Answered rules server message answer zones
-  -- It is served.
-  served : {outcome : Outcome} → Step rules.access server message outcome zones → IsSent message.protocol rules.max_udp outcome answer → Answered rules server message answer zones
+  -- Else it is served.
+  served : {outcome : Outcome} → ¬ (IsResponse message.bytes.items) → Step rules.access server message outcome zones
+      → IsSent message.protocol rules.max_udp outcome answer → Answered rules server message answer zones

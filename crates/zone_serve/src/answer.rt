@@ -1,6 +1,8 @@
 //! What becomes of a message, by the server's rules for what comes from anywhere.
 
 ghost use Rattle.std.specs.Prelude.{◌≡◌, ◌≢◌, ◌↔◌, IfOk, IsTrue};
+ghost use Rattle.std.specs.Net.Socket.{socket_ip};
+ghost use Rattle.access_control.specs.Access.{IsAllowed};
 ghost use Rattle.hickory_catalog.specs.Server.{server_of};
 ghost use Rattle.zone_serve.specs.Answers.{Answered, AreWithin, HasNoReply, IsResponse};
 
@@ -42,7 +44,9 @@ fn answer_datagram<S: ReplySigner, H: ZoneHandler>(
     catalog: &mut Catalog<S, H>,
     message: Incoming,
 ) -> Result<Answer, Fault>
-    requires { message.protocol ≡ Protocol.Udp }
+    requires allowed { IsAllowed rules.now.access.deny rules.now.access.allow (socket_ip message.src) }
+    requires no_response { ¬ (IsResponse message.bytes.items) }
+    requires udp { message.protocol ≡ Protocol.Udp }
     ensures others { catalog.new ≡ record catalog.old { zones = catalog.new.zones } }
     ensures answered { IfOk result (λ answer. Answered rules.now (server_of H.ZoneHandler S.signature_for catalog.old) message answer catalog.new.zones) }
     ensures within { IfOk result (λ answer. AreWithin rules.now.max_udp answer) }
@@ -67,7 +71,8 @@ fn answer_framed<S: ReplySigner, H: ZoneHandler>(
     catalog: &mut Catalog<S, H>,
     message: Incoming,
 ) -> Result<Answer, Fault>
-    requires { message.protocol ≢ Protocol.Udp }
+    requires no_response { ¬ (IsResponse message.bytes.items) }
+    requires stream { message.protocol ≢ Protocol.Udp }
     ensures others { catalog.new ≡ record catalog.old { zones = catalog.new.zones } }
     ensures answered { IfOk result (λ answer. Answered rules.now (server_of H.ZoneHandler S.signature_for catalog.old) message answer catalog.new.zones) }
 {
