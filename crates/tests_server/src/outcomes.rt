@@ -4,11 +4,12 @@ use hickory_server::proto::Octets;
 use hickory_server::server::serve::Outcome;
 use std::alloc::{AllocError, Global};
 
-/// Puts a line for each reply behind a text.
+/// Puts a line for each reply behind a text, each whole or not at all.
 fn put_replies(alloc: Global, replies: &[Octets], text: &mut String) -> Result<(), AllocError> {
     for reply in replies {
-        text.push_str(hex::encode(alloc, reply.as_slice())?.as_str())?;
-        text.push('\n')?;
+        let mut line = hex::encode(alloc, reply.as_slice())?;
+        line.push('\n')?;
+        text.push_str(&line)?;
     }
     Ok(())
 }
