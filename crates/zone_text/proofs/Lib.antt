@@ -1,3 +1,4 @@
+pub mod HexGroups
 pub mod RowSteps
 pub mod SameBytes
 pub mod SpellingSteps

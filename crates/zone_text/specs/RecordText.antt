@@ -23,7 +23,8 @@ use Rattle.zone_text.specs.declared.data.field.Rest.TheVariants as rest
 use Rattle.zone_text.specs.declared.data.field.Row.{Row}
 use Rattle.zone_text.specs.declared.words.Word.{Word}
 use Rattle.zone_text.specs.Moments.{SpellsMoment}
-use Rattle.zone_text.specs.Spelling.{IsNumber, Spells, any_byte, SpellsGroups, SpellsName, SpellsTime}
+use Rattle.zone_text.specs.declared.data.hex_groups.Group.TheVariants as group
+use Rattle.zone_text.specs.Spelling.{IsNumber, Spells, any_byte, SpellsGroups, SpellsHexGroups, SpellsName, SpellsTime}
 use Rattle.zone_text.specs.TypeBitmaps.{windows}
 use Rattle.zone_text.specs.TypeTable.{TypeRow, rows, row_of}
 use Rattle.zone_text.specs.Words.{AreWords}
@@ -72,6 +73,9 @@ pub data IsField (origin : Option DomainName) : Field → Word → List ℕ → 
   no_salt : {w : Word} → w.quoted ≡ false → w.bytes.now ≡ 45 ∷ [] → IsField origin field.Salt w (0 ∷ [])
   salt : {w : Word} {octets : List ℕ} → w.quoted ≡ false → w.bytes.now ≢ 45 ∷ [] → decode_of w.bytes.now ≡ Ok octets → length octets < 256 → IsField origin field.Salt w (character_string octets)
   hash : {w : Word} {octets : List ℕ} → w.quoted ≡ false → SpellsGroups w.bytes.now octets → length octets < 256 → IsField origin field.Hash w (character_string octets)
+  eui48 : {w : Word} {octets : List ℕ} → w.quoted ≡ false → SpellsHexGroups 45 group.Octet 6 w.bytes.now octets → IsField origin field.Eui48 w octets
+  eui64 : {w : Word} {octets : List ℕ} → w.quoted ≡ false → SpellsHexGroups 45 group.Octet 8 w.bytes.now octets → IsField origin field.Eui64 w octets
+  locator64 : {w : Word} {octets : List ℕ} → w.quoted ≡ false → SpellsHexGroups 58 group.Bits16 4 w.bytes.now octets → IsField origin field.Locator64 w octets
 
 -- words for the fields, one for each, and their octets one behind the other
 pub data AreFields (origin : Option DomainName) : List Field → List Word → List ℕ → Type 0 where

@@ -1,9 +1,11 @@
 -- What single words of a zone's text spell: bytes, numbers, times and names (RFC 1035 section 5.1).
-use Rattle.std.specs.Prelude.{◌≡◌, ◌≢◌, ℕ, ◌+◌, ◌*◌, ◌<◌, ◌==◌, if◌then◌else◌, Bool, true, false, List, [], ◌∷◌, ◌++◌, length, drop, IsTrue, Option, Some, None}
+use Rattle.std.specs.Prelude.{◌≡◌, ◌≢◌, ℕ, ◌+◌, ◌*◌, ◌<◌, ◌≤◌, ◌==◌, if◌then◌else◌, Bool, true, false, List, [], ◌∷◌, ◌++◌, length, drop, IsTrue, Option, Some, None}
 use Rattle.std.specs.Char.{to_ascii_lowercase}
-use Rattle.std.specs.Int.{w64, to_be_bytes}
+use Rattle.std.specs.Int.{w16, w64, to_be_bytes}
 use Rattle.std.specs.Str.Parse.{AllDigits, IsNumeral, digits_value}
 use Rattle.wire_names.specs.rr.domain.DomainName.{DomainName, IsLabel}
+use Rattle.zone_text.specs.declared.data.hex_groups.Group.{Group}
+use Rattle.zone_text.specs.declared.data.hex_groups.Group.TheVariants as group
 
 -- a decimal number: digits, at least one, without a sign
 pub record IsNumber (text : List ℕ) (n : ℕ) : Type 0 where
@@ -82,3 +84,18 @@ pub record IsBase32 (text : List ℕ) (n : ℕ) : Type 0 where
 pub data SpellsGroups : List ℕ → List ℕ → Type 0 where
   none : SpellsGroups [] []
   more : {text piece octets : List ℕ} (n : ℕ) → SpellsGroups text octets → length piece ≡ 8 → IsBase32 piece n → SpellsGroups (text ++ piece) (octets ++ drop 3 (to_be_bytes w64 n))
+
+-- hexadecimal digits, and the number that they are
+pub record IsHex (text : List ℕ) (n : ℕ) : Type 0 where
+  pub digits : AllDigits 16 text
+  pub value : digits_value 16 text ≡ n
+
+-- A group of hexadecimal digits, and its octets: one for two digits, or sixteen bits for one to four.
+pub data IsGroup : Group → List ℕ → List ℕ → Type 0 where
+  octet : {text : List ℕ} {n : ℕ} → length text ≡ 2 → IsHex text n → IsGroup group.Octet text (n ∷ [])
+  bits16 : {text : List ℕ} {n : ℕ} → 0 < length text → length text ≤ 4 → IsHex text n → IsGroup group.Bits16 text (to_be_bytes w16 n)
+
+-- so many groups with a byte between them, and their octets
+pub data SpellsHexGroups (between : ℕ) (kind : Group) : ℕ → List ℕ → List ℕ → Type 0 where
+  first : {text octets : List ℕ} → IsGroup kind text octets → SpellsHexGroups between kind 1 text octets
+  more : {count : ℕ} {text octets piece own : List ℕ} → SpellsHexGroups between kind count text octets → IsGroup kind piece own → SpellsHexGroups between kind (count + 1) (text ++ between ∷ piece) (octets ++ own)

@@ -1,7 +1,7 @@
 -- The types of records that have a form in text, one row a type: number, mnemonic, and what their data are made of. Beside each stands the section that says so.
 use Rattle.std.specs.Prelude.{ℕ, ◌==◌, List, [], ◌∷◌, codes, find, Option}
 use Rattle.zone_text.specs.declared.data.field.Field.{Field}
-use Rattle.zone_text.specs.declared.data.field.Field.TheVariants.{Number8, Number16, Number32, Time, Name, String, Text, Ipv4, Ipv6, RecordType, Moment, Salt, Hash}
+use Rattle.zone_text.specs.declared.data.field.Field.TheVariants.{Number8, Number16, Number32, Time, Name, String, Text, Ipv4, Ipv6, RecordType, Moment, Salt, Hash, Eui48, Eui64, Locator64}
 use Rattle.zone_text.specs.declared.data.field.Rest.{Rest}
 use Rattle.zone_text.specs.declared.data.field.Rest.TheVariants.{Nothing, Strings, Hex, Base64, Types, Generic}
 
@@ -68,8 +68,12 @@ rows =
     ∷ row 62 (codes "CSYNC") (Number32 ∷ Number16 ∷ []) Types  -- RFC 7477 section 2.1
     ∷ row 63 (codes "ZONEMD") (Number32 ∷ Number8 ∷ Number8 ∷ []) Hex  -- RFC 8976 section 2.3
     ∷ row 99 (codes "SPF") [] Strings  -- RFC 4408 section 3.1.1
+    ∷ row 104 (codes "NID") (Number16 ∷ Locator64 ∷ []) Nothing  -- RFC 6742 section 2.1
     ∷ row 105 (codes "L32") (Number16 ∷ Ipv4 ∷ []) Nothing  -- RFC 6742 section 2.2
+    ∷ row 106 (codes "L64") (Number16 ∷ Locator64 ∷ []) Nothing  -- RFC 6742 section 2.3
     ∷ row 107 (codes "LP") (Number16 ∷ Name ∷ []) Nothing  -- RFC 6742 section 2.4
+    ∷ row 108 (codes "EUI48") (Eui48 ∷ []) Nothing  -- RFC 7043 section 3
+    ∷ row 109 (codes "EUI64") (Eui64 ∷ []) Nothing  -- RFC 7043 section 4
     ∷ row 250 (codes "TSIG") [] Generic  -- RFC 8945 section 4.2
     ∷ row 251 (codes "IXFR") [] Generic  -- RFC 1995 section 2
     ∷ row 252 (codes "AXFR") [] Generic  -- RFC 1035 section 3.2.3

@@ -4,6 +4,7 @@ mod field;
 mod fields;
 mod forms;
 mod hashes;
+mod hex_groups;
 mod moment;
 pub(crate) mod rest;
 pub(crate) mod table;

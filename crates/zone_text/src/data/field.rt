@@ -29,6 +29,12 @@ pub(crate) enum Field {
     Salt,
     /// A hash: its length, and so many bytes, in base 32 (RFC 5155 section 3.3).
     Hash,
+    /// An address of 48 bits (RFC 7043 section 3.2).
+    Eui48,
+    /// An address of 64 bits (RFC 7043 section 4.2).
+    Eui64,
+    /// The identifier of a node, or a locator, of 64 bits (RFC 6742 section 2.1.2).
+    Locator64,
 }
 
 /// What the words stand for that are left behind the fields.

@@ -10,6 +10,7 @@ ghost use Rattle.zone_text.specs.Spelling.{IsNumber};
 
 use crate::data::field::Field;
 use crate::data::hashes::{put_hash, put_salt};
+use crate::data::hex_groups::{put_eui48, put_eui64, put_locator64};
 use crate::data::moment::moment;
 use crate::data::table::type_of;
 use crate::error::{TextError, TextFault};
@@ -157,6 +158,9 @@ pub(crate) fn put_field(
         Field::Moment => put_moment(word, data),
         Field::Salt => put_salt(alloc, word, data),
         Field::Hash => put_hash(alloc, word, data),
+        Field::Eui48 => put_eui48(word, data),
+        Field::Eui64 => put_eui64(word, data),
+        Field::Locator64 => put_locator64(word, data),
     }
 }
 

@@ -11,7 +11,7 @@ use crate::words::{Word, number_of_digits};
 use hickory_wire::RecordType;
 
 /// The types by their numbers (RFC 1035 section 3.2.2, IANA's registry).
-static ROWS: [Row; 63] = [
+static ROWS: [Row; 67] = [
     Row {
         number: 1,
         mnemonic: "A",
@@ -357,15 +357,39 @@ static ROWS: [Row; 63] = [
         rest: Rest::Strings,
     },
     Row {
+        number: 104,
+        mnemonic: "NID",
+        fields: &[Field::Number16, Field::Locator64],
+        rest: Rest::Nothing,
+    },
+    Row {
         number: 105,
         mnemonic: "L32",
         fields: &[Field::Number16, Field::Ipv4],
         rest: Rest::Nothing,
     },
     Row {
+        number: 106,
+        mnemonic: "L64",
+        fields: &[Field::Number16, Field::Locator64],
+        rest: Rest::Nothing,
+    },
+    Row {
         number: 107,
         mnemonic: "LP",
         fields: &[Field::Number16, Field::Name],
+        rest: Rest::Nothing,
+    },
+    Row {
+        number: 108,
+        mnemonic: "EUI48",
+        fields: &[Field::Eui48],
+        rest: Rest::Nothing,
+    },
+    Row {
+        number: 109,
+        mnemonic: "EUI64",
+        fields: &[Field::Eui64],
         rest: Rest::Nothing,
     },
     Row {

@@ -58,3 +58,12 @@ returns-in-Salt c = rw c.in-Salt.is (at c.put_salt.result field.Salt c.args.word
 
 pub returns-in-Hash : goal.returns-in-Hash
 returns-in-Hash c = rw c.in-Hash.is (at c.put_hash.result field.Hash c.args.word.now c.args.data.now.items c.put_hash.new.data.items (option_copied c.args.origin) c.put_hash.ensures)
+
+pub returns-in-Eui48 : goal.returns-in-Eui48
+returns-in-Eui48 c = rw c.in-Eui48.is (at c.put_eui48.result field.Eui48 c.args.word.now c.args.data.now.items c.put_eui48.new.data.items (option_copied c.args.origin) c.put_eui48.ensures)
+
+pub returns-in-Eui64 : goal.returns-in-Eui64
+returns-in-Eui64 c = rw c.in-Eui64.is (at c.put_eui64.result field.Eui64 c.args.word.now c.args.data.now.items c.put_eui64.new.data.items (option_copied c.args.origin) c.put_eui64.ensures)
+
+pub returns-in-Locator64 : goal.returns-in-Locator64
+returns-in-Locator64 c = rw c.in-Locator64.is (at c.put_locator64.result field.Locator64 c.args.word.now c.args.data.now.items c.put_locator64.new.data.items (option_copied c.args.origin) c.put_locator64.ensures)
