@@ -402,9 +402,9 @@ static void measure_messages(void)
 static void measure_replies(void)
 {
     EACH(i, counts)
-        measure("whole reply, a hit", counts[i], ANSWER_REQUEST, zone(counts[i]), address_query("www.example.com."), 0);
-    measure("whole reply, NXDomain", 1, ANSWER_REQUEST, zone(1), address_query("none.example.com."), 0);
-    measure("whole reply, Refused", 1, ANSWER_REQUEST, zone(1), address_query("www.example.net."), 0);
+        measure("reply in place, a hit", counts[i], ANSWER_REQUEST, zone(counts[i]), address_query("www.example.com."), 0);
+    measure("reply in place, NXDomain", 1, ANSWER_REQUEST, zone(1), address_query("none.example.com."), 0);
+    measure("reply in place, Refused", 1, ANSWER_REQUEST, zone(1), address_query("www.example.net."), 0);
 }
 
 // Datagrams, as programs serve them, by a zone of 1,004 sets that answers as RFC 1034 says.
