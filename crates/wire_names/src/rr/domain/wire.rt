@@ -179,7 +179,7 @@ impl ShortBytes {
     }
 }
 
-/// The bytes of a name or of a question section: in the value itself where they are few, and else on the heap.
+/// The bytes of a name: in the value itself where they are few, and else on the heap.
 ///
 /// Contracts speak of the bytes as `wire_bytes`.
 #[derive(Drop)]
