@@ -4,6 +4,7 @@ use Rattle.std.specs.List.{AllByRecursion}
 use Rattle.wire_messages.specs.op.EdnsFields.{EdnsFields}
 use Rattle.wire_names.specs.rr.domain.DomainName.{DomainName}
 use Rattle.wire_messages.specs.serialize.layout.MessageLayout.{IsPlainRecord}
+use Rattle.wire_reading.specs.serialize.layout.WholeMessage.{MessageAt}
 use Rattle.wire_reading.specs.serialize.reading.MessageReading.{Reads}
 use Rattle.hickory_wire.specs.serialize.writing.Decoding.{decoded_message, without_proof}
 use Rattle.hickory_wire.specs.serialize.writing.ReadingBack.{ReadsBack}
@@ -85,16 +86,17 @@ pub record HasReadableRecords (reply : Reply) : Type 0 where
   pub plain_authorities : AllByRecursion IsPlainRecord reply.authorities
   pub plain_additionals : AllByRecursion IsPlainRecord reply.additionals
 
--- The bytes are the reply, of whose lists so much was written; the header is the one that tells this; and the bytes are read as that header,
--- the questions and what was written.
+-- The bytes are the reply, of whose lists so much was written; the header is the one that tells this; and in the bytes stands the message of that
+-- header, the questions and what was written (RFC 1035 section 4.1), which is also what is read of them.
 pub record ReplyDecodes (limit : ℕ) (reply : Reply) (queries : List Query) (bytes : List ℕ) (header : Header) : Type 0 where
   pub fronts : Fronts
   pub written : Written limit reply bytes fronts
   pub header_is : header ≡ written_header reply fronts
+  pub stands : MessageAt bytes (decoded_message reply queries fronts)
   pub reads : Reads bytes (decoded_message reply queries fronts)
 
--- A reply to a request is encoded as what is written of it, and never as the ServFail of twelve bytes, and that is what is read of the bytes: where the
--- limit has room for header and questions, the questions are such as can be repeated, and the records read back.
+-- A reply to a request is encoded as what is written of it, and never as the ServFail of twelve bytes, and that is what stands in the bytes and is read of
+-- them: where the limit has room for header and questions, the questions are such as can be repeated, and the records read back.
 abbrev pub CatalogReplyDecodes : Type 0
 CatalogReplyDecodes = (request : ReceivedRequest) (edns : Option EdnsFields) (reply : Reply) (limit : ℕ) (bytes : List ℕ) (header : Header)
     → RepliesTo request.message edns reply → HasRepeatableQuestions request → HasReadableRecords reply

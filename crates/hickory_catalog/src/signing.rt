@@ -58,6 +58,17 @@ fn written(
     Ok(bytes)
 }
 
+/// Why a reply that cannot be written is not signed: only want of memory is told as such.
+fn writing_error(e: ProtoError) -> SignError
+    ensures memory { e ≡ ProtoError.Memory → result ≡ SignError.Memory }
+    ensures failed { e ≢ ProtoError.Memory → result ≡ SignError.Failed }
+{
+    match e {
+        ProtoError::Memory => SignError::Memory,
+        _ => SignError::Failed,
+    }
+}
+
 /// The signature of a reply, which has none yet.
 fn signature<S: ReplySigner>(
     signer: &S,
@@ -72,10 +83,7 @@ fn signature<S: ReplySigner>(
 {
     match written(alloc, request, edns, contents) {
         Ok(bytes) => signer.sign(alloc, context, bytes.as_slice()),
-        Err(e) => match e {
-            ProtoError::Memory => Err(SignError::Memory),
-            _ => Err(SignError::Failed),
-        },
+        Err(e) => Err(writing_error(e)),
     }
 }
 

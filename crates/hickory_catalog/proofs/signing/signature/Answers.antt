@@ -10,5 +10,5 @@ pub returns-in-Ok-clause-failed : goal.returns-in-Ok-clause-failed
 returns-in-Ok-clause-failed g c =
     if_err_map c.sign.result _ _ c.sign.ensures.failed (λ e is other. answered c.in-Ok.ensures.written.1 (rw c.as_slice.ensures.value at is other))
 
-pub returns-in_default : goal.returns-in_default
-returns-in_default g c = record { signed = tt; failed = λ other. unwritable (c.in-Err.ensures.refused c.in_default.not-Memory) }
+pub returns-in-Err-clause-failed : goal.returns-in-Err-clause-failed
+returns-in-Err-clause-failed g c = λ other. unwritable (c.in-Err.ensures.refused (λ is. other (c.writing_error.ensures.memory is)))
