@@ -21,13 +21,14 @@ use Rattle.zone_text.specs.declared.data.field.Field.TheVariants as field
 use Rattle.zone_text.specs.declared.data.field.Rest.{Rest}
 use Rattle.zone_text.specs.declared.data.field.Rest.TheVariants as rest
 use Rattle.zone_text.specs.declared.data.field.Row.{Row}
+use Rattle.zone_text.specs.declared.words.TextKind.{TextKind}
 use Rattle.zone_text.specs.declared.words.Word.{Word}
 use Rattle.zone_text.specs.Moments.{SpellsMoment}
 use Rattle.zone_text.specs.declared.data.hex_groups.Group.TheVariants as group
 use Rattle.zone_text.specs.Spelling.{IsNumber, Spells, any_byte, SpellsGroups, SpellsHexGroups, SpellsName, SpellsTime}
 use Rattle.zone_text.specs.TypeBitmaps.{windows}
 use Rattle.zone_text.specs.TypeTable.{TypeRow, rows, row_of}
-use Rattle.zone_text.specs.Words.{AreWords}
+use Rattle.zone_text.specs.Words.{AreWordsTo}
 
 -- a row of the table as the code has it
 abbrev pub row_view : Row → TypeRow
@@ -157,9 +158,9 @@ pub data SpellsData (origin : Option DomainName) (number : ℕ) : List Word → 
   in_form : {words : List Word} {rdata : RData} → IsData origin number words (data_octets rdata) → SpellsData origin number words rdata
   generic : {mark size : Word} {digits : List Word} {rdata : RData} → mark.quoted ≡ false → mark.bytes.now ≡ 92 ∷ 35 ∷ [] → IsGenericData number size digits rdata → SpellsData origin number (mark ∷ size ∷ digits) rdata
 
--- From a place of a text on, the words are data of a type, and these are the data.
-pub record HasData (origin : Option DomainName) (number : ℕ) (bytes : List ℕ) (place : ℕ) (rdata : RData) : Type 0 where
+-- From a place of a text within so many parentheses on, the words to the end are data of a type, and these are the data.
+pub record HasData (origin : Option DomainName) (number : ℕ) (kind : TextKind) (text : List ℕ) (place depth : ℕ) (rdata : RData) : Type 0 where
   pub words : List Word
-  pub next : ℕ
-  pub stand : AreWords bytes place words next
+  pub end : ℕ
+  pub stand : AreWordsTo kind text place depth words end
   pub spelled : SpellsData origin number words rdata

@@ -1,5 +1,6 @@
 -- The records of a zone file (RFC 1035 section 5.1).
-use Rattle.std.specs.Prelude.{◌≡◌, ℕ, ◌<◌, ◌≤◌, ◌⊎◌, ◌++◌, ◌∷◌, [], true, List, length, get_or, Option, Some, None}
+use Rattle.std.specs.Prelude.{◌≡◌, ℕ, ◌+◌, ◌-◌, ◌<◌, ◌≤◌, ◌^◌, ◌==◌, ◌⊎◌, ◌++◌, List, [], ◌∷◌, if◌then◌else◌, Bool, true, false, length, get_or, slice_get, codes, Option, Some, None}
+use Rattle.std.specs.Option.{option_map}
 use Rattle.wire_messages.specs.declared.rr.rdata.RData.{RData}
 use Rattle.wire_messages.specs.declared.rr.rdata.RData.TheVariants as rdata
 use Rattle.wire_messages.specs.declared.rr.record.Record.{Record}
@@ -7,8 +8,14 @@ use Rattle.wire_messages.specs.declared.rr.record.Proof.TheVariants.{Indetermina
 use Rattle.wire_messages.specs.rr.RecordData.{type_of}
 use Rattle.wire_names.specs.rr.domain.DomainName.{DomainName}
 use Rattle.wire_messages.specs.serialize.writing.RecordSize.{data_len}
+use Rattle.zone_text.specs.declared.words.TextKind.TheVariants.{ZoneFile}
+use Rattle.zone_text.specs.declared.words.Word.{Word}
+use Rattle.zone_text.specs.declared.zone_file.entry.Before.{Before}
 use Rattle.zone_text.specs.declared.zone_file.entry.Entry.{Entry}
-use Rattle.zone_text.specs.declared.zone_file.entry.Entry.TheVariants as entry
+use Rattle.zone_text.specs.declared.zone_file.entry.Entry.TheVariants.{Blank, Origin, DefaultTtl, Record as RecordOf}
+use Rattle.zone_text.specs.RecordText.{SameLetters, SpellsData, SpellsType}
+use Rattle.zone_text.specs.Spelling.{IsNumber, SpellsName, SpellsTime}
+use Rattle.zone_text.specs.Words.{AreWordsTo, is_blank}
 
 -- a type of which zones have records: none that stands in messages alone, which are OPT, 41, and from 128 to 255, and not 0, which no record
 -- has (RFC 6895 section 3.1)
@@ -26,28 +33,9 @@ pub record IsZoneRecord (r : Record RData) : Type 0 where
   pub fits : data_len r.rdata ≤ 65535
   pub unproved : r.proof ≡ Indeterminate
 
--- a blank that parts fields: a space, a tab, or a byte that ends lines (RFC 1035 section 5.1)
-abbrev pub IsBlank : ℕ → Type 0
-IsBlank byte = (byte ≡ 32) ⊎ (byte ≡ 9) ⊎ (byte ≡ 13) ⊎ (byte ≡ 10)
-
--- a blank stands at this place of a text
-abbrev pub HasBlankAt : List ℕ → ℕ → Type 0
-HasBlankAt text place = (place < length text) × IsBlank (get_or text place 0)
-
--- the owner name of the last record
-abbrev pub IsLastOwner : List (Record RData) → DomainName → Type 0
-IsLastOwner records name = (earlier : List (Record RData)) × (last : Record RData) × (records ≡ earlier ++ last ∷ []) × (name ≡ last.name)
-
--- What an entry that begins at this place of a text is, behind these records: a record is one of zones, and where the line begins with a
--- blank, of the owner of the record before (RFC 1035 section 5.1).
-abbrev pub IsEntryAt : List ℕ → ℕ → List (Record RData) → Entry → Type 0
-IsEntryAt text place records (entry.Record r) = IsZoneRecord r × (HasBlankAt text place → IsLastOwner records r.name)
-IsEntryAt text place records other = Unit {0}
-
--- a blank line or a directive
-abbrev pub IsNoRecord : Entry → Type 0
-IsNoRecord (entry.Record r) = ⊥
-IsNoRecord other = Unit {0}
+-- the last record, if there is one
+abbrev pub last_record : List (Record RData) → Option (Record RData)
+last_record records = slice_get records (length records - 1)
 
 -- the last number of a zone's start (RFC 1035 section 3.3.13)
 abbrev pub zone_minimum : RData → Option ℕ
@@ -61,3 +49,121 @@ ttl_in_force (Some own) default last minimum = Some own
 ttl_in_force None (Some default) last minimum = Some default
 ttl_in_force None None (Some last) minimum = Some last
 ttl_in_force None None None minimum = minimum
+
+-- a word in no quotes that is a text, letter case aside
+pub record IsKeyword (keyword : List ℕ) (word : Word) : Type 0 where
+  pub unquoted : word.quoted ≡ false
+  pub same : SameLetters keyword word.bytes.now
+
+-- a word in no quotes that begins with a dollar sign, as directives do
+pub record IsDirective (word : Word) : Type 0 where
+  pub unquoted : word.quoted ≡ false
+  pub dollar : get_or word.bytes.now 0 0 ≡ 36
+
+-- the word is a name, relative to an origin where no dot ends it
+pub record IsName (origin : DomainName) (word : Word) (name : DomainName) : Type 0 where
+  pub unquoted : word.quoted ≡ false
+  pub spelled : SpellsName (Some origin) word.bytes.now name.labels
+  pub qualified : name.is_fqdn ≡ true
+
+-- the word is a TTL: a time of 32 bits in seconds
+pub record IsTtl (word : Word) (seconds : ℕ) : Type 0 where
+  pub unquoted : word.quoted ≡ false
+  pub spelled : SpellsTime word.bytes.now seconds
+  pub short : seconds < 2 ^ 32
+
+-- the word is the class IN, or CLASS and its number, which is 1 (RFC 3597 section 5), in any letter case
+pub data IsClassIn (word : Word) : Type 0 where
+  mnemonic : IsKeyword (codes "IN") word → IsClassIn word
+  numbered : (front digits : List ℕ) → word.quoted ≡ false → word.bytes.now ≡ front ++ digits → SameLetters (codes "CLASS") front → IsNumber digits 1 → IsClassIn word
+
+-- The first of some words is such as a fact says, and these stand behind it.
+abbrev pub BeginsWith : (Word → Type 0) → List Word → List Word → Type 0
+BeginsWith Is words behind = (word : Word) × (words ≡ word ∷ behind) × Is word
+
+-- The first of some words is this TTL, and these stand behind it, or none is taken.
+abbrev pub MayBeginWithTtl : List Word → Option ℕ → List Word → Type 0
+MayBeginWithTtl words (Some seconds) behind = BeginsWith (λ word. IsTtl word seconds) words behind
+MayBeginWithTtl words None behind = words ≡ behind
+
+-- TTL and class, in either order and either left out, and the TTL, if there is one
+pub data AreTtlAndClass : List Word → Option ℕ → Type 0 where
+  neither : AreTtlAndClass [] None
+  class : {word : Word} → IsClassIn word → AreTtlAndClass (word ∷ []) None
+  ttl : {word : Word} {seconds : ℕ} → IsTtl word seconds → AreTtlAndClass (word ∷ []) (Some seconds)
+  class_ttl : {first second : Word} {seconds : ℕ} → IsClassIn first → IsTtl second seconds → AreTtlAndClass (first ∷ second ∷ []) (Some seconds)
+  ttl_class : {first second : Word} {seconds : ℕ} → IsTtl first seconds → IsClassIn second → AreTtlAndClass (first ∷ second ∷ []) (Some seconds)
+
+-- the TTL and the owner name of the last record
+abbrev pub last_ttl : List (Record RData) → Option ℕ
+last_ttl records = option_map (λ r. r.ttl) (last_record records)
+
+abbrev pub last_owner : List (Record RData) → Option DomainName
+last_owner records = option_map (λ r. r.name) (last_record records)
+
+-- What stands behind the owner name of a record: TTL and class, the type, and the data. Where no TTL is among them, that is in force which the entries
+-- before leave.
+pub record IsBehindOwner (before : Before) (words : List Word) (r : Record RData) : Type 0 where
+  pub front : List Word
+  pub type : Word
+  pub behind : List Word
+  pub own : Option ℕ
+  pub in_order : words ≡ front ++ type ∷ behind
+  pub timed : AreTtlAndClass front own
+  pub in_force : ttl_in_force own before.default_ttl (last_ttl before.records) (zone_minimum r.rdata) ≡ Some r.ttl
+  pub unquoted : type.quoted ≡ false
+  pub typed : SpellsType type.bytes.now (type_of r.rdata)
+  pub spelled : SpellsData (Some before.origin) (type_of r.rdata) behind r.rdata
+  pub kept : IsZoneRecord r
+
+-- A record: where its line begins with a blank, it has the owner name of the record before; otherwise the first word is the owner name, and no directive.
+pub data IsRecordEntry (before : Before) : Bool → List Word → Record RData → Type 0 where
+  repeated : {words : List Word} {r : Record RData} → last_owner before.records ≡ Some r.name → IsBehindOwner before words r → IsRecordEntry before true words r
+  named : {owner : Word} {words : List Word} {r : Record RData} → (IsDirective owner → ⊥) → IsName before.origin owner r.name → IsBehindOwner before words r → IsRecordEntry before false (owner ∷ words) r
+
+-- The words of an entry, whose line begins with a blank or does not, behind what the entries before leave: a blank line, a directive that is one of two
+-- (RFC 1035 section 5.1, RFC 2308 section 4), or a record.
+pub data IsEntry (before : Before) : Bool → List Word → Entry → Type 0 where
+  blank : {begins_blank : Bool} → IsEntry before begins_blank [] Blank
+  origin_of : {directive word : Word} {name : DomainName} → IsKeyword (codes "$ORIGIN") directive → IsName before.origin word name → IsEntry before false (directive ∷ word ∷ []) (Origin name)
+  default_ttl_of : {directive word : Word} {seconds : ℕ} → IsKeyword (codes "$TTL") directive → IsTtl word seconds → IsEntry before false (directive ∷ word ∷ []) (DefaultTtl seconds)
+  record_of : {begins_blank : Bool} {words : List Word} {r : Record RData} → IsRecordEntry before begins_blank words r → IsEntry before begins_blank words (RecordOf r)
+
+-- what is left to the entry behind
+abbrev pub after : Before → Entry → Before
+after before Blank = before
+after before (Origin name) = record before { origin = name }
+after before (DefaultTtl seconds) = record before { default_ttl = Some seconds }
+after before (RecordOf r) = record before { records = before.records ++ r ∷ [] }
+
+-- From a place of a text on an entry stands, to its end.
+pub record IsEntryFrom (text : List ℕ) (place : ℕ) (before : Before) (entry : Entry) (end : ℕ) : Type 0 where
+  pub words : List Word
+  pub stand : AreWordsTo ZoneFile text place 0 words end
+  pub is : IsEntry before (is_blank (get_or text place 0)) words entry
+
+-- Entries of a text, one behind the line feed that ends the one before, and what each leaves to the next.
+pub data AreEntries (text : List ℕ) (first : ℕ) (start : Before) : ℕ → Before → Type 0 where
+  none : AreEntries text first start first start
+  more : {place end : ℕ} {before : Before} {entry : Entry} → AreEntries text first start place before → place < length text → IsEntryFrom text place before entry end → AreEntries text first start (end + 1) (after before entry)
+
+-- Where the first entry begins: behind a byte order mark, if there is one (RFC 3629 section 6).
+abbrev pub first_entry : List ℕ → ℕ
+first_entry (a ∷ b ∷ c ∷ text) = if a == 239 then (if b == 187 then (if c == 191 then 3 else 0) else 0) else 0
+first_entry text = 0
+
+-- what is left to the first entry
+abbrev pub start_of : DomainName → Before
+start_of origin = record { origin = origin; default_ttl = None; records = [] }
+
+-- The entries of a text up to a place, from the first on, and what they leave.
+abbrev pub IsFront : DomainName → List ℕ → ℕ → Before → Type 0
+IsFront origin text place before = AreEntries text (first_entry text) (start_of origin) place before
+
+-- A text is the zone file of these records: its entries, to the end of the text, leave them.
+pub record IsZoneFile (origin : DomainName) (text : List ℕ) (records : List (Record RData)) : Type 0 where
+  pub end : ℕ
+  pub last : Before
+  pub entries : IsFront origin text end last
+  pub whole : length text ≤ end
+  pub left : records ≡ last.records

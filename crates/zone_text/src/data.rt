@@ -14,6 +14,7 @@ ghost use Rattle.std.specs.Prelude.{◌≡◌, ◌≤◌, [], ◌∷◌, false, 
 ghost use Rattle.std.specs.Option.{option_copied};
 ghost use Rattle.wire_messages.specs.rr.RecordData.{type_of};
 ghost use Rattle.wire_messages.specs.serialize.writing.RecordSize.{data_len};
+ghost use Rattle.zone_text.specs.declared.words.TextKind.TheVariants.{Line};
 ghost use Rattle.zone_text.specs.RecordText.{HasData, SpellsData};
 
 use crate::data::forms::data_in_form;
@@ -74,26 +75,39 @@ fn is_mark(word: &Word<'_>) -> bool
     !word.quoted && word.bytes == b"\\#".as_slice()
 }
 
-/// The data that stand next, to the end of the line or the entry. Names that are not fully qualified are relative to the origin, and
-/// without one a fault.
-pub(crate) fn data_of(
+/// The data of a type that these words are, in any form that it has, of no more bytes than their length can tell. `end` is the place where a word is
+/// missing. Names that are not fully qualified are relative to the origin, and without one a fault.
+pub(crate) fn data_of_words(
     alloc: Global,
     record_type: RecordType,
-    words: &mut Words<'_>,
+    words: &[Word<'_>],
+    end: usize,
     origin: Option<&Name>,
 ) -> Result<RData, TextError>
     ensures form { IfOk result (λ rdata. type_of rdata ≡ record_type) }
     ensures fits { IfOk result (λ rdata. data_len rdata ≤ 65535) }
-    ensures spelled { IfOk result (λ rdata. HasData (option_copied origin.entry) record_type words.old.text.now words.old.place rdata) }
+    ensures spelled { IfOk result (SpellsData (option_copied origin.entry) record_type words.now) }
 {
-    let fields = words.rest(alloc)?;
-    let end = words.place();
-    let place = fields.as_slice().first().map_or(end, |word| word.start);
-    let rdata = spelled_data(alloc, record_type, fields.as_slice(), end, origin)?;
+    let place = words.first().map_or(end, |word| word.start);
+    let rdata = spelled_data(alloc, record_type, words, end, origin)?;
     match fitting(rdata) {
         Some(rdata) => Ok(rdata),
         None => Err(fault_at(place, TextFault::DataTooLong)),
     }
+}
+
+/// The data that stand next, to the end of the line.
+pub(crate) fn data_of(
+    alloc: Global,
+    record_type: RecordType,
+    words: &mut Words<'_>,
+) -> Result<RData, TextError>
+    ensures form { IfOk result (λ rdata. type_of rdata ≡ record_type) }
+    ensures fits { IfOk result (λ rdata. data_len rdata ≤ 65535) }
+    ensures spelled { IfOk result (HasData None record_type words.old.kind words.old.text.now words.old.place words.old.depth) }
+{
+    let fields = words.rest(alloc)?;
+    data_of_words(alloc, record_type, fields.as_slice(), words.place(), None)
 }
 
 /// Reads the data of a record of this type (RFC 1035 section 5.1).
@@ -105,7 +119,7 @@ pub(crate) fn data_of(
 pub fn read_data(alloc: Global, record_type: RecordType, text: &str) -> Result<RData, TextError>
     ensures form { IfOk result (λ rdata. type_of rdata ≡ record_type) }
     ensures fits { IfOk result (λ rdata. data_len rdata ≤ 65535) }
-    ensures spelled { IfOk result (HasData None record_type text.now 0) }
+    ensures spelled { IfOk result (HasData None record_type Line text.now 0 0) }
 {
-    data_of(alloc, record_type, &mut Words::new(text), None)
+    data_of(alloc, record_type, &mut Words::new(text))
 }

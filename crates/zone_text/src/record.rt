@@ -35,7 +35,7 @@ pub fn read_record(alloc: Global, line: &str) -> Result<Record, TextError>
     let ttl = ttl_of(&words.field()?)?;
     let dns_class = class_of(&words.field()?)?;
     let record_type = type_of(&words.field()?)?;
-    let rdata = data_of(alloc, record_type, &mut words, None)?;
+    let rdata = data_of(alloc, record_type, &mut words)?;
     Ok(Record {
         name,
         dns_class,

@@ -1,9 +1,9 @@
 //! The fields of a line, and of an entry of a zone file.
 
-ghost use Rattle.std.specs.Prelude.{◌≡◌, ℕ, false, ◌≤◌, ◌<◌, ◌-◌, ◌^◌, ◌↔◌, length, IfOk, IfSome, IsTrue};
+ghost use Rattle.std.specs.Prelude.{◌≡◌, false, ◌+◌, ◌≤◌, ◌<◌, ◌-◌, ◌^◌, get_or, length, min, IfOk, IfSome, IsFalse, IsTrue, OnOk};
 ghost use Rattle.zone_text.specs.Spelling.{IsNumber};
-ghost use Rattle.zone_text.specs.Words.{AreWords, IsWordFrom};
-ghost use Rattle.zone_text.specs.ZoneFiles.{HasBlankAt, IsBlank};
+ghost use Rattle.zone_text.specs.declared.words.TextKind.TheVariants.{Line, ZoneFile};
+ghost use Rattle.zone_text.specs.Words.{AreWordsTo, CrossesLines, IsByteAt, IsComment, IsEndFrom, IsGap, IsNext, IsPiece, IsPlainWord, IsQuotedWord, IsRestOfLine, IsRunTo, IsWordFrom, ends_quoted, ends_word, is_blank};
 
 use crate::error::{TextError, TextFault};
 use std::alloc::Global;
@@ -86,7 +86,7 @@ pub(crate) fn number_of_digits(bytes: &[u8]) -> Option<u32>
 
 /// What a text is taken for.
 #[derive(Clone, Copy, PartialEq, Eq)]
-enum TextKind {
+pub(crate) enum TextKind {
     /// One line: a line feed is a blank, a comment goes to the end of the text, and parentheses are bytes like others.
     Line,
     /// A zone file: an entry ends with its line, parentheses join lines, and a comment goes to the end of its line.
@@ -99,66 +99,197 @@ pub(crate) struct Words<'a> {
     text: &'a [u8],
     place: usize,
     kind: TextKind,
-    // How many parentheses are open, and where the outermost of them stands.
-    open: usize,
+    // How many parentheses are open here, and where the outermost of them stands.
+    depth: usize,
     opened: usize,
     ghost within: { place ≤ length text.now },
+    ghost counted: { depth ≤ place },
 }
 
 fn is_blank(byte: u8) -> bool
-    ensures { IsTrue result ↔ IsBlank byte }
+    ensures { result ≡ is_blank byte }
 {
     matches!(byte, b' ' | b'\t' | b'\r' | b'\n')
 }
 
 /// Whether a field in no quotes ends before this byte.
-fn ends_field(kind: TextKind, byte: u8) -> bool {
-    let parenthesis = kind == TextKind::ZoneFile && matches!(byte, b'(' | b')');
-    is_blank(byte) || byte == b';' || parenthesis
+fn ends_field(kind: TextKind, byte: u8) -> bool
+    ensures { result ≡ ends_word kind byte }
+{
+    match kind {
+        TextKind::Line => is_blank(byte) || byte == b';',
+        TextKind::ZoneFile => is_blank(byte) || matches!(byte, b';' | b'(' | b')'),
+    }
 }
 
 /// Where a line ends: its line feed from this place on, or the end of the text.
-fn line_end(text: &[u8], place: usize) -> usize
-    requires { place ≤ length text.now }
-    ensures on { place ≤ result }
-    ensures within { result ≤ length text.now }
+fn line_end(text: &[u8], start: usize) -> usize
+    requires { start ≤ length text.now }
+    ensures { IsRestOfLine text.now start result }
 {
-    let rest = &text[place..];
-    let len = rest.iter().position(|byte| *byte == b'\n');
-    place + len.unwrap_or(rest.len())
+    let mut place = start;
+    'bytes: while place < text.len() && text[place] != b'\n' {
+        place += 1;
+    }
+    place
 }
 
-/// The length of a field in no quotes, of which the first byte is one: up to a byte that ends it and stands behind no backslash.
-fn plain_len(kind: TextKind, text: &[u8]) -> usize
-    requires { 0 < length text.now }
-    ensures some { 0 < result }
-    ensures within { result ≤ length text.now }
+/// The place behind a backslash at this place and the byte that it escapes, if one stands behind it.
+fn behind_escape(text: &[u8], place: usize) -> usize
+    requires { place < length text.now }
+    ensures { result ≡ min (place + 2) (length text.now) }
 {
-    let mut place = 0;
-    'bytes: loop {
-        place += if text[place] == b'\\' { 2 } else { 1 };
-        if place >= text.len() {
-            return text.len();
-        }
-        if ends_field(kind, text[place]) {
-            return place;
-        }
+    if text.len() - place < 2 {
+        text.len()
+    } else {
+        place + 2
     }
 }
 
-/// Where the quote stands that ends a field, one not behind a backslash.
-fn quote_place(text: &[u8]) -> Option<usize>
-    ensures { IfSome result (λ place. place < length text.now) }
+/// Where a field in no quotes ends that begins here: before a byte that ends it and stands behind no backslash.
+fn plain_end(kind: TextKind, text: &[u8], start: usize) -> usize
+    requires within { start < length text.now }
+    requires begins { ends_word kind (get_or text.now start 0) ≡ false }
+    ensures some { start < result }
+    ensures within { result ≤ length text.now }
+    ensures run { IsRunTo (ends_word kind) text.now start result }
 {
-    let mut place = 0;
-    'bytes: while place < text.len() {
-        match text[place] {
-            b'"' => return Some(place),
-            b'\\' => place += 2,
-            _ => place += 1,
+    let mut place = start;
+    'bytes: while place < text.len() && !ends_field(kind, text[place]) {
+        place = if text[place] == b'\\' {
+            behind_escape(text, place)
+        } else {
+            place + 1
+        };
+    }
+    place
+}
+
+/// Where the quote stands that ends a field in quotes that begins here, one not behind a backslash.
+fn quote_place(text: &[u8], start: usize) -> Option<usize>
+    requires { start ≤ length text.now }
+    ensures on { IfSome result (λ place. start ≤ place) }
+    ensures quote { IfSome result (λ place. IsByteAt text.now place 34) }
+    ensures run { IfSome result (λ place. IsRunTo ends_quoted text.now start place) }
+{
+    let mut place = start;
+    'bytes: while place < text.len() && text[place] != b'"' {
+        place = if text[place] == b'\\' {
+            behind_escape(text, place)
+        } else {
+            place + 1
+        };
+    }
+    if place < text.len() {
+        Some(place)
+    } else {
+        None
+    }
+}
+
+/// Where a comment ends whose first byte stands here, behind the `;`.
+fn comment_end(kind: TextKind, text: &[u8], start: usize) -> usize
+    requires { start ≤ length text.now }
+    ensures on { start ≤ result }
+    ensures within { result ≤ length text.now }
+    ensures comment { IsComment kind text.now start result }
+{
+    match kind {
+        TextKind::Line => text.len(),
+        TextKind::ZoneFile => line_end(text, start),
+    }
+}
+
+/// Whether parentheses join lines, and a line feed outside of them ends the entry.
+fn is_zone_file(kind: TextKind) -> bool
+    ensures file { IsTrue result → kind ≡ ZoneFile }
+    ensures line { IsFalse result → kind ≡ Line }
+{
+    match kind {
+        TextKind::Line => false,
+        TextKind::ZoneFile => true,
+    }
+}
+
+/// Whether a line feed within so many parentheses ends the entry.
+fn ends_entry(kind: TextKind, depth: usize) -> bool
+    ensures ends { IsTrue result → (kind ≡ ZoneFile) × (depth ≡ 0) }
+    ensures crosses { IsFalse result → CrossesLines kind depth }
+{
+    match kind {
+        TextKind::Line => false,
+        TextKind::ZoneFile => depth == 0,
+    }
+}
+
+/// A piece of what stands between fields: the place behind it, and how many parentheses are open there, where so many are before it.
+fn piece(kind: TextKind, text: &[u8], place: usize, depth: usize) -> Option<(usize, usize)>
+    requires within { place < length text.now }
+    requires counted { depth ≤ place }
+    ensures on { IfSome result (λ ends. place < ends.0) }
+    ensures within { IfSome result (λ ends. ends.0 ≤ length text.now) }
+    ensures counted { IfSome result (λ ends. ends.1 ≤ ends.0) }
+    ensures piece { IfSome result (λ ends. IsPiece kind text.now place depth ends.0 ends.1) }
+{
+    let byte = text[place];
+    if byte == b';' {
+        return Some((comment_end(kind, text, place + 1), depth));
+    }
+    if byte == b'\n' {
+        if ends_entry(kind, depth) {
+            return None;
         }
+        return Some((place + 1, depth));
+    }
+    if is_blank(byte) {
+        return Some((place + 1, depth));
+    }
+    if !is_zone_file(kind) {
+        return None;
+    }
+    if byte == b'(' {
+        return Some((place + 1, depth + 1));
+    }
+    if byte == b')' && depth > 0 {
+        return Some((place + 1, depth - 1));
     }
     None
+}
+
+/// The field in no quotes that begins here, and the place behind it.
+fn plain_word<'a>(kind: TextKind, text: &'a [u8], start: usize) -> (Word<'a>, usize)
+    requires within { start < length text.now }
+    requires begins { ends_word kind (get_or text.now start 0) ≡ false }
+    requires no_quote { get_or text.now start 0 ≡ 34 → ⊥ }
+    ensures on { start < result.1 }
+    ensures within { result.1 ≤ length text.now }
+    ensures word { IsPlainWord kind text.now start result.0 result.1 }
+{
+    let end = plain_end(kind, text, start);
+    let word = Word {
+        bytes: &text[start..end],
+        start,
+        quoted: false,
+    };
+    (word, end)
+}
+
+/// The field in quotes the first of which stands here, and the place behind it.
+fn quoted_word<'a>(text: &'a [u8], start: usize) -> Result<(Word<'a>, usize), TextError>
+    requires { IsByteAt text.now start 34 }
+    ensures on { IfOk result (λ found. start < found.1) }
+    ensures within { IfOk result (λ found. found.1 ≤ length text.now) }
+    ensures word { IfOk result (λ found. IsQuotedWord text.now start found.0 found.1) }
+{
+    let Some(end) = quote_place(text, start + 1) else {
+        return Err(fault_at(start, TextFault::UnclosedQuote));
+    };
+    let word = Word {
+        bytes: &text[start + 1..end],
+        start: start + 1,
+        quoted: true,
+    };
+    Ok((word, end + 1))
 }
 
 impl<'a> Words<'a> {
@@ -166,12 +297,14 @@ impl<'a> Words<'a> {
     pub(crate) fn new(line: &'a str) -> Words<'a>
         ensures text { result.text.now ≡ line.now }
         ensures place { result.place ≡ 0 }
+        ensures kind { result.kind ≡ Line }
+        ensures depth { result.depth ≡ 0 }
     {
         Words {
             text: line.as_bytes(),
             place: 0,
             kind: TextKind::Line,
-            open: 0,
+            depth: 0,
             opened: 0,
         }
     }
@@ -181,128 +314,83 @@ impl<'a> Words<'a> {
         requires { place ≤ length text.now }
         ensures text { result.text.now ≡ text.now }
         ensures place { result.place ≡ place }
+        ensures kind { result.kind ≡ ZoneFile }
+        ensures depth { result.depth ≡ 0 }
     {
         Words {
             text,
             place,
             kind: TextKind::ZoneFile,
-            open: 0,
+            depth: 0,
             opened: 0,
         }
     }
 
     /// Whether a blank stands next.
     pub(crate) fn begins_blank(&self) -> bool
-        ensures { IsTrue result ↔ HasBlankAt self.now.text.now self.now.place }
+        ensures { result ≡ is_blank (get_or self.now.text.now self.now.place 0) }
     {
         self.place < self.text.len() && is_blank(self.text[self.place])
     }
 
-    /// Where the entry ends: its line feed, or the end of the text. A quote or a parenthesis in it that does not end is a fault.
-    pub(crate) fn entry_end(&self) -> Result<usize, TextError>
-        ensures on { IfOk result (λ end. self.now.place ≤ end) }
-        ensures within { IfOk result (λ end. end ≤ length self.now.text.now) }
-    {
-        let mut words = *self;
-        'words: while words.next()?.is_some() {}
-        Ok(words.place)
-    }
-
-    /// Goes on to the next field of a line, or to the end where a comment stands there (RFC 1035 section 5.1).
-    fn skip_in_line(&mut self)
+    /// Goes on to the next field, or to where none is left: over blanks, comments and, in a zone file, parentheses.
+    fn skip(&mut self)
         ensures text { self.new.text ≡ self.old.text }
+        ensures kind { self.new.kind ≡ self.old.kind }
         ensures on { self.old.place ≤ self.new.place }
+        ensures gap { IsGap self.old.kind self.old.text.now self.old.place self.old.depth self.new.place self.new.depth }
     {
-        let rest = &self.text[self.place..];
-        let blanks = rest.iter().position(|byte| !is_blank(*byte));
-        let place = self.place + blanks.unwrap_or(rest.len());
-        if place < self.text.len() && self.text[place] == b';' {
-            self.place = self.text.len();
-        } else {
-            self.place = place;
-        }
-    }
-
-    /// Goes on to the next field of an entry, or to the end of the line or the text that ends it (RFC 1035 section 5.1): over blanks,
-    /// parentheses and comments, and within parentheses over ends of lines.
-    fn skip_in_entry(&mut self) -> Result<(), TextError>
-        ensures text { self.new.text ≡ self.old.text }
-        ensures on { self.old.place ≤ self.new.place }
-    {
-        let text = self.text;
-        let mut place = self.place;
-        let mut open = self.open;
-        let mut opened = self.opened;
-        'bytes: while place < text.len() {
-            match text[place] {
-                b'(' => {
-                    opened = if open == 0 { place } else { opened };
-                    open = open.saturating_add(1);
-                    place += 1;
-                }
-                b')' if open == 0 => return Err(fault_at(place, TextFault::StrayParenthesis)),
-                b')' => {
-                    open -= 1;
-                    place += 1;
-                }
-                b';' => place = line_end(text, place + 1),
-                b'\n' if open == 0 => break 'bytes,
-                byte if is_blank(byte) => place += 1,
-                _ => break 'bytes,
+        'pieces: while self.place < self.text.len() {
+            let Some((place, depth)) = piece(self.kind, self.text, self.place, self.depth) else {
+                return;
+            };
+            if self.depth == 0 {
+                self.opened = self.place;
             }
+            self.place = place;
+            self.depth = depth;
         }
-        if place == text.len() && open > 0 {
-            return Err(fault_at(opened, TextFault::OpenParenthesis));
-        }
-        self.place = place;
-        self.open = open;
-        self.opened = opened;
-        Ok(())
     }
 
     /// The next field, if there is one.
     pub(crate) fn next(&mut self) -> Result<Option<Word<'a>>, TextError>
         ensures text { self.new.text ≡ self.old.text }
+        ensures kind { self.new.kind ≡ self.old.kind }
         ensures on { self.old.place ≤ self.new.place }
-        ensures word { IfOk result (λ found. IfSome found (λ word. IsWordFrom self.old.text.now self.old.place word self.new.place)) }
+        ensures next { IfOk result (λ found. IsNext self.old.kind self.old.text.now self.old.place self.old.depth found self.new.place self.new.depth) }
         ensures nearer { IfOk result (λ found. IfSome found (λ _. length self.new.text.now - self.new.place < length self.old.text.now - self.old.place)) }
     {
-        match self.kind {
-            TextKind::Line => self.skip_in_line(),
-            TextKind::ZoneFile => self.skip_in_entry()?,
-        }
+        self.skip();
         let start = self.place;
-        let rest = &self.text[start..];
-        match rest {
-            [] => Ok(None),
-            [b'\n', ..] => Ok(None),
-            [b'"', behind @ ..] => {
-                let Some(len) = quote_place(behind) else {
-                    return Err(fault_at(start, TextFault::UnclosedQuote));
-                };
-                self.place = start + len + 2;
-                Ok(Some(Word {
-                    bytes: &behind[..len],
-                    start: start + 1,
-                    quoted: true,
-                }))
+        if start == self.text.len() {
+            if self.depth > 0 {
+                return Err(fault_at(self.opened, TextFault::OpenParenthesis));
             }
-            _ => {
-                let len = plain_len(self.kind, rest);
-                self.place = start + len;
-                Ok(Some(Word {
-                    bytes: &rest[..len],
-                    start,
-                    quoted: false,
-                }))
-            }
+            return Ok(None);
         }
+        let byte = self.text[start];
+        if byte == b'"' {
+            let (word, place) = quoted_word(self.text, start)?;
+            self.place = place;
+            return Ok(Some(word));
+        }
+        if !ends_field(self.kind, byte) {
+            let (word, place) = plain_word(self.kind, self.text, start);
+            self.place = place;
+            return Ok(Some(word));
+        }
+        if byte == b'\n' && ends_entry(self.kind, self.depth) {
+            return Ok(None);
+        }
+        Err(fault_at(start, TextFault::StrayParenthesis))
     }
 
-    /// The fields that are left.
+    /// The fields that are left, to the end of the line or the entry.
     pub(crate) fn rest(&mut self, alloc: Global) -> Result<Vec<Word<'a>>, TextError>
         ensures text { self.new.text ≡ self.old.text }
-        ensures words { IfOk result (λ words. (next : ℕ) × AreWords self.old.text.now self.old.place words.items next) }
+        ensures kind { self.new.kind ≡ self.old.kind }
+        ensures on { self.old.place ≤ self.new.place }
+        ensures words { IfOk result (λ words. AreWordsTo self.old.kind self.old.text.now self.old.place self.old.depth words.items self.new.place) }
     {
         let mut fields = Vec::new(alloc);
         'fields: while let Some(word) = self.next()? {
@@ -312,12 +400,18 @@ impl<'a> Words<'a> {
     }
 
     /// How many bytes of the text stand before what is next.
-    pub(crate) fn place(&self) -> usize {
+    pub(crate) fn place(&self) -> usize
+        ensures { result ≡ self.now.place }
+    {
         self.place
     }
 
     /// The next field.
-    pub(crate) fn field(&mut self) -> Result<Word<'a>, TextError> {
+    pub(crate) fn field(&mut self) -> Result<Word<'a>, TextError>
+        ensures text { self.new.text ≡ self.old.text }
+        ensures kind { self.new.kind ≡ self.old.kind }
+        ensures word { IfOk result (λ word. IsWordFrom self.old.kind self.old.text.now self.old.place self.old.depth word self.new.place self.new.depth) }
+    {
         match self.next()? {
             Some(word) => Ok(word),
             None => Err(fault_at(self.place, TextFault::MissingField)),
@@ -325,7 +419,9 @@ impl<'a> Words<'a> {
     }
 
     /// Whether nothing is left.
-    pub(crate) fn end(&mut self) -> Result<(), TextError> {
+    pub(crate) fn end(&mut self) -> Result<(), TextError>
+        ensures { OnOk result (IsEndFrom self.old.kind self.old.text.now self.old.place self.old.depth self.new.place) }
+    {
         match self.next()? {
             Some(word) => Err(word.fault(TextFault::TooMuchText)),
             None => Ok(()),

@@ -3,8 +3,8 @@
 mod entry;
 mod fault;
 
-ghost use Rattle.std.specs.Prelude.{◌≤◌, length, All, IfOk};
-ghost use Rattle.zone_text.specs.ZoneFiles.{IsZoneRecord};
+ghost use Rattle.std.specs.Prelude.{◌≡◌, ◌≤◌, ◌<◌, length, All, IfOk};
+ghost use Rattle.zone_text.specs.ZoneFiles.{IsEntryFrom, IsZoneFile, IsZoneRecord, first_entry};
 
 use crate::error::ZoneFileError;
 use crate::words::Words;
@@ -15,7 +15,8 @@ use std::alloc::Global;
 
 /// Where the first entry begins: behind a byte order mark, if there is one (RFC 3629 section 6).
 fn first_entry(text: &[u8]) -> usize
-    ensures { result ≤ length text.now }
+    ensures within { result ≤ length text.now }
+    ensures mark { result ≡ first_entry text.now }
 {
     match text {
         [0xEF, 0xBB, 0xBF, ..] => 3,
@@ -23,9 +24,31 @@ fn first_entry(text: &[u8]) -> usize
     }
 }
 
+/// The entry that begins at a place, and where it ends.
+fn entry_at(
+    alloc: Global,
+    text: &[u8],
+    place: usize,
+    before: &Before,
+) -> Result<(Entry, usize), EntryError>
+    requires within { place < length text.now }
+    requires records { All IsZoneRecord before.now.records }
+    ensures on { IfOk result (λ read. place ≤ read.1) }
+    ensures within { IfOk result (λ read. read.1 ≤ length text.now) }
+    ensures entry { IfOk result (λ read. IsEntryFrom text.now place before.now read.0 read.1) }
+{
+    let mut words = Words::entry(text, place);
+    let begins_blank = words.begins_blank();
+    let fields = words.rest(alloc)?;
+    let end = words.place();
+    let entry = read_entry(alloc, begins_blank, fields.as_slice(), end, before)?;
+    Ok((entry, end))
+}
+
 /// Reads the entries one after the other.
 fn read_entries(alloc: Global, text: &[u8], origin: &Name) -> Result<Items<Record>, EntryError>
-    ensures { IfOk result (λ records. All IsZoneRecord records) }
+    ensures file { IfOk result (IsZoneFile origin.now text.now) }
+    ensures records { IfOk result (λ records. All IsZoneRecord records) }
 {
     let mut before = Before {
         origin: origin.clone()?,
@@ -34,14 +57,9 @@ fn read_entries(alloc: Global, text: &[u8], origin: &Name) -> Result<Items<Recor
     };
     let mut place = first_entry(text);
     'entries: while place < text.len() {
-        let words = Words::entry(text, place);
-        match read_entry(alloc, words, &before)? {
-            Entry::Blank => {}
-            Entry::Origin(name) => before.origin = name,
-            Entry::DefaultTtl(ttl) => before.default_ttl = Some(ttl),
-            Entry::Record(record) => before.records.push(record)?,
-        }
-        place = words.entry_end()? + 1;
+        let (entry, end) = entry_at(alloc, text, place, &before)?;
+        before.take(entry)?;
+        place = end + 1;
     }
     Ok(before.records)
 }
@@ -52,8 +70,7 @@ fn read_entries(alloc: Global, text: &[u8], origin: &Name) -> Result<Items<Recor
 /// blank, or `$ORIGIN` and a name, or `$TTL` and a TTL (RFC 2308 section 4), or a record: owner name, TTL, class, type and data. A line
 /// that begins with a blank has the owner name of the record before. TTL and class stand in either order, and either may be left out; the
 /// class is IN. A record without a TTL has that of the last `$TTL`, else that of the record before; an SOA record that has neither has its own
-/// minimum. A TTL is a number of seconds, or
-/// numbers with a unit behind each, one of `s`, `m`, `h`, `d` and `w` in either letter case. Names, in the data too, that have no dot at
+/// minimum. A TTL is a number of seconds, or numbers with a unit behind each, one of `s`, `m`, `h`, `d` and `w` in either letter case. Names, in the data too, that have no dot at
 /// their end are relative to the origin, at first the one that is given, which is taken as fully qualified; `@` is the origin itself. What
 /// data are made of is told at [`read_data`](crate::read_data).
 ///
@@ -64,7 +81,8 @@ pub fn read_zone_file(
     text: &str,
     origin: &Name,
 ) -> Result<Items<Record>, ZoneFileError>
-    ensures { IfOk result (λ records. All IsZoneRecord records) }
+    ensures file { IfOk result (IsZoneFile origin.now text.now) }
+    ensures records { IfOk result (λ records. All IsZoneRecord records) }
 {
     let bytes = text.as_bytes();
     match read_entries(alloc, bytes, origin) {

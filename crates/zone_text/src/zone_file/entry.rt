@@ -1,21 +1,22 @@
 //! One entry of a zone file (RFC 1035 section 5.1).
 
-ghost use Rattle.std.specs.Prelude.{◌≡◌, ◌↔◌, ◌≤◌, All, IfOk, IsTrue, true};
+ghost use Rattle.std.specs.Prelude.{◌≡◌, ◌↔◌, ◌≤◌, ◌++◌, ◌⊎◌, [], ◌∷◌, All, List, Some, None, false, true, IfOk, IfSome, IsTrue, OnOk};
 ghost use Rattle.wire_messages.specs.rr.RecordData.{type_of};
 ghost use Rattle.wire_messages.specs.serialize.writing.RecordSize.{data_len};
-ghost use Rattle.zone_text.specs.Spelling.{SpellsName};
-ghost use Rattle.zone_text.specs.ZoneFiles.{HasBlankAt, IsEntryAt, IsLastOwner, IsNoRecord, IsZoneRecord, IsZoneType, ttl_in_force, zone_minimum};
+ghost use Rattle.zone_text.specs.declared.words.Word.{Word as WordOf};
+ghost use Rattle.zone_text.specs.RecordText.{SpellsData, SpellsType};
+ghost use Rattle.zone_text.specs.ZoneFiles.{AreTtlAndClass, BeginsWith, IsBehindOwner, IsClassIn, IsDirective, IsEntry, IsRecordEntry, IsTtl, IsZoneRecord, IsZoneType, MayBeginWithTtl, after, last_owner, ttl_in_force, zone_minimum};
 
-use crate::data::data_of;
+use crate::data::data_of_words;
 use crate::data::table::type_of;
 use crate::error::{TextFault, ZoneFileFault};
-use crate::names::{absolute_name, next_name};
+use crate::names::absolute_name;
 use crate::record::class_of;
 use crate::ttl::seconds_of;
-use crate::words::{Word, Words};
+use crate::words::{Word, fault_at, number_of_digits};
 use crate::zone_file::fault::{EntryError, fault_of};
 use hickory_wire::{DNSClass, Items, Name, Proof, RData, Record, RecordType};
-use std::alloc::Global;
+use std::alloc::{AllocError, Global};
 
 /// What the entries before leave to an entry.
 #[derive(Drop)]
@@ -65,39 +66,95 @@ fn zone_minimum(rdata: &RData) -> Option<u32>
 }
 
 /// The TTL that a field is, if it begins with a digit, as neither a class nor a type does.
-fn own_ttl(word: &Word<'_>) -> Result<Option<u32>, EntryError> {
+fn own_ttl(word: &Word<'_>) -> Result<Option<u32>, EntryError>
+    ensures { IfOk result (λ own. IfSome own (IsTtl word.now)) }
+{
     match word.bytes {
-        [first, ..] if first.is_ascii_digit() => Ok(Some(seconds_of(word)?)),
+        [first, ..] if first.is_ascii_digit() => {
+            let seconds = seconds_of(word)?;
+            Ok(Some(seconds))
+        }
         _ => Ok(None),
     }
 }
 
+/// Whether a field is `CLASS1` (RFC 3597 section 5).
+fn is_class_1(word: &Word<'_>) -> bool
+    requires { word.now.quoted ≡ false }
+    ensures { IsTrue result → IsClassIn word.now }
+{
+    let Some((front, digits)) = word.bytes.split_at_checked(5) else {
+        return false;
+    };
+    if !front.eq_ignore_ascii_case(b"CLASS") {
+        return false;
+    }
+    match number_of_digits(digits) {
+        Some(number) => number == 1,
+        None => false,
+    }
+}
+
 /// Whether a field is the class IN. Another class is a fault.
-fn is_class_in(word: &Word<'_>) -> Result<bool, EntryError> {
+fn is_class_in(word: &Word<'_>) -> Result<bool, EntryError>
+    ensures { IfOk result (λ is. IsTrue is → IsClassIn word.now) }
+{
+    if word.quoted {
+        return Ok(false);
+    }
+    if word.bytes.eq_ignore_ascii_case(b"IN") {
+        return Ok(true);
+    }
+    if is_class_1(word) {
+        return Ok(true);
+    }
     match class_of(word) {
-        Ok(DNSClass::IN) => Ok(true),
         Ok(_) => Err(fault_of(word, ZoneFileFault::ClassNotIn)),
         Err(_) => Ok(false),
     }
 }
 
-/// TTL and class, in either order and neither of them needed, and the field behind them.
-fn ttl_and_class<'a>(words: &mut Words<'a>) -> Result<(Option<u32>, Word<'a>), EntryError> {
-    let mut word = words.field()?;
-    let mut ttl = own_ttl(&word)?;
-    if ttl.is_some() {
-        word = words.field()?;
+/// The fields behind the class IN, where the first of them is that.
+fn behind_class<'a, 'w>(words: &'w [Word<'a>]) -> Result<Option<&'w [Word<'a>]>, EntryError>
+    ensures { IfOk result (λ found. IfSome found (λ behind. BeginsWith IsClassIn words.now behind.now)) }
+{
+    let Some((word, behind)) = words.split_first() else {
+        return Ok(None);
+    };
+    if is_class_in(word)? {
+        Ok(Some(behind))
+    } else {
+        Ok(None)
     }
-    if is_class_in(&word)? {
-        word = words.field()?;
-        if ttl.is_none() {
-            ttl = own_ttl(&word)?;
-            if ttl.is_some() {
-                word = words.field()?;
-            }
-        }
+}
+
+/// The TTL that fields begin with, if they do, and those behind it.
+fn ttl_and_behind<'a, 'w>(
+    words: &'w [Word<'a>],
+) -> Result<(Option<u32>, &'w [Word<'a>]), EntryError>
+    ensures { IfOk result (λ found. MayBeginWithTtl words.now found.0 found.1.now) }
+{
+    let Some((word, behind)) = words.split_first() else {
+        return Ok((None, words));
+    };
+    match own_ttl(word)? {
+        Some(seconds) => Ok((Some(seconds), behind)),
+        None => Ok((None, words)),
     }
-    Ok((ttl, word))
+}
+
+/// TTL and class, in either order and either left out: the TTL, if there is one, and the fields behind them.
+fn ttl_and_class<'a, 'w>(words: &'w [Word<'a>]) -> Result<(Option<u32>, &'w [Word<'a>]), EntryError>
+    ensures { IfOk result (λ found. (front : List WordOf) × (words.now ≡ front ++ found.1.now) × AreTtlAndClass front found.0) }
+{
+    let (ttl, fields) = ttl_and_behind(words)?;
+    let Some(behind) = behind_class(fields)? else {
+        return Ok((ttl, fields));
+    };
+    match ttl {
+        Some(seconds) => Ok((Some(seconds), behind)),
+        None => ttl_and_behind(behind),
+    }
 }
 
 /// Whether zones have records of this type: it is none of those of messages alone (RFC 6895 section 3.1).
@@ -122,21 +179,33 @@ fn may_be_empty(record_type: RecordType) -> bool {
     )
 }
 
-/// The data of a record of a zone, of the type of a field.
-fn zone_data(
-    alloc: Global,
-    word: &Word<'_>,
-    words: &mut Words<'_>,
-    origin: &Name,
-) -> Result<RData, EntryError>
-    ensures stored { IfOk result (λ rdata. IsZoneType (type_of rdata)) }
-    ensures fits { IfOk result (λ rdata. data_len rdata ≤ 65535) }
+/// The type of a record of a zone.
+fn zone_type(word: &Word<'_>) -> Result<RecordType, EntryError>
+    ensures unquoted { IfOk result (λ number. word.now.quoted ≡ false) }
+    ensures typed { IfOk result (SpellsType word.now.bytes.now) }
+    ensures stored { IfOk result IsZoneType }
 {
     let record_type = type_of(word)?;
     if !is_zone_type(record_type) {
         return Err(fault_of(word, ZoneFileFault::NotZoneData));
     }
-    let rdata = data_of(alloc, record_type, words, Some(origin))?;
+    Ok(record_type)
+}
+
+/// The data of a record of a zone, of the type of a field before them.
+fn zone_data(
+    alloc: Global,
+    word: &Word<'_>,
+    record_type: RecordType,
+    words: &[Word<'_>],
+    end: usize,
+    origin: &Name,
+) -> Result<RData, EntryError>
+    ensures form { IfOk result (λ rdata. type_of rdata ≡ record_type) }
+    ensures fits { IfOk result (λ rdata. data_len rdata ≤ 65535) }
+    ensures spelled { IfOk result (SpellsData (Some origin.now) record_type words.now) }
+{
+    let rdata = data_of_words(alloc, record_type, words, end, Some(origin))?;
     match rdata {
         RData::Update0(_) if !may_be_empty(record_type) => {
             Err(EntryError::from(word.fault(TextFault::WrongData)))
@@ -147,9 +216,7 @@ fn zone_data(
 
 /// The owner name of the last record, for an entry that begins with this field.
 fn last_owner(first: &Word<'_>, records: &[Record]) -> Result<Name, EntryError>
-    requires { All IsZoneRecord records.now }
-    ensures qualified { IfOk result (λ name. name.is_fqdn ≡ true) }
-    ensures last { IfOk result (λ name. IsLastOwner records.now name) }
+    ensures { IfOk result (λ name. last_owner records.now ≡ Some name) }
 {
     match records.last() {
         Some(record) => Ok(record.name.clone()?),
@@ -157,31 +224,27 @@ fn last_owner(first: &Word<'_>, records: &[Record]) -> Result<Name, EntryError>
     }
 }
 
-/// The record that an entry is: owner name, where the line begins with no blank, TTL and class where they are there, type and data. Given
-/// are its first field, all its fields, and those behind the first.
-fn read_zone_record(
+/// The record of this owner name that stands behind it: TTL and class, where they are there, type and data. `first` is the field that the entry begins
+/// with, and `end` the place behind all fields.
+fn record_behind(
     alloc: Global,
     first: &Word<'_>,
-    line: Words<'_>,
-    behind: Words<'_>,
+    name: Name,
+    words: &[Word<'_>],
+    end: usize,
     before: &Before,
 ) -> Result<Record, EntryError>
-    requires { All IsZoneRecord before.now.records }
-    ensures kept { IfOk result (λ r. IsZoneRecord r) }
-    ensures repeated { IfOk result (λ r. HasBlankAt line.entry.text.now line.entry.place → IsLastOwner before.now.records r.name) }
-    ensures named { IfOk result (λ r. (HasBlankAt line.entry.text.now line.entry.place → ⊥) → SpellsName (Some before.now.origin) first.now.bytes.now r.name.labels) }
+    requires { name.is_fqdn ≡ true }
+    ensures named { IfOk result (λ r. r.name ≡ name) }
+    ensures behind { IfOk result (IsBehindOwner before.now words.now) }
 {
-    let records = before.records.as_slice();
-    let mut words = behind;
-    let name = if line.begins_blank() {
-        words = line;
-        last_owner(first, records)?
-    } else {
-        absolute_name(alloc, first, Some(&before.origin))?
+    let (own, fields) = ttl_and_class(words)?;
+    let Some((word, data)) = fields.split_first() else {
+        return Err(EntryError::from(fault_at(end, TextFault::MissingField)));
     };
-    let (own, word) = ttl_and_class(&mut words)?;
-    let rdata = zone_data(alloc, &word, &mut words, &before.origin)?;
-    let last = records.last().map(|record| record.ttl);
+    let record_type = zone_type(word)?;
+    let rdata = zone_data(alloc, word, record_type, data, end, &before.origin)?;
+    let last = before.records.as_slice().last().map(|record| record.ttl);
     let minimum = zone_minimum(&rdata);
     let Some(ttl) = ttl_in_force(own, before.default_ttl, last, minimum) else {
         return Err(fault_of(first, ZoneFileFault::NoTtl));
@@ -195,50 +258,121 @@ fn read_zone_record(
     })
 }
 
-/// The directive that an entry is, of which the first field is read.
+/// The record of an entry whose line begins with a blank, of which these are the first field and all fields.
+fn repeated_record(
+    alloc: Global,
+    first: &Word<'_>,
+    words: &[Word<'_>],
+    end: usize,
+    before: &Before,
+) -> Result<Record, EntryError>
+    requires { All IsZoneRecord before.now.records }
+    ensures { IfOk result (IsRecordEntry before.now true words.now) }
+{
+    let name = last_owner(first, before.records.as_slice())?;
+    record_behind(alloc, first, name, words, end, before)
+}
+
+/// The record of an entry that begins with its owner name, and the fields behind it.
+fn named_record(
+    alloc: Global,
+    owner: &Word<'_>,
+    behind: &[Word<'_>],
+    end: usize,
+    before: &Before,
+) -> Result<Record, EntryError>
+    requires { IsDirective owner.now → ⊥ }
+    ensures { IfOk result (IsRecordEntry before.now false (owner.now ∷ behind.now)) }
+{
+    let name = absolute_name(alloc, owner, Some(&before.origin))?;
+    record_behind(alloc, owner, name, behind, end, before)
+}
+
+/// The field behind that of a directive, which is the last one.
+fn only_field<'a, 'w>(behind: &'w [Word<'a>], end: usize) -> Result<&'w Word<'a>, EntryError>
+    ensures { IfOk result (λ word. behind.now ≡ word.now ∷ []) }
+{
+    match behind {
+        [] => Err(EntryError::from(fault_at(end, TextFault::MissingField))),
+        [word] => Ok(word),
+        [_, more, ..] => Err(EntryError::from(more.fault(TextFault::TooMuchText))),
+    }
+}
+
+/// The directive that an entry is of this field and those behind it.
 fn read_directive(
     alloc: Global,
     first: &Word<'_>,
-    words: &mut Words<'_>,
-    origin: &Name,
+    behind: &[Word<'_>],
+    end: usize,
+    before: &Before,
 ) -> Result<Entry, EntryError>
-    ensures { IfOk result IsNoRecord }
+    requires { first.now.quoted ≡ false }
+    ensures { IfOk result (IsEntry before.now false (first.now ∷ behind.now)) }
 {
-    let entry = if first.bytes.eq_ignore_ascii_case(b"$ORIGIN") {
-        Entry::Origin(next_name(alloc, words, Some(origin))?)
-    } else if first.bytes.eq_ignore_ascii_case(b"$TTL") {
-        Entry::DefaultTtl(seconds_of(&words.field()?)?)
-    } else if first.bytes.eq_ignore_ascii_case(b"$INCLUDE") {
+    if first.bytes.eq_ignore_ascii_case(b"$ORIGIN") {
+        let word = only_field(behind, end)?;
+        let name = absolute_name(alloc, word, Some(&before.origin))?;
+        return Ok(Entry::Origin(name));
+    }
+    if first.bytes.eq_ignore_ascii_case(b"$TTL") {
+        let word = only_field(behind, end)?;
+        let seconds = seconds_of(word)?;
+        return Ok(Entry::DefaultTtl(seconds));
+    }
+    if first.bytes.eq_ignore_ascii_case(b"$INCLUDE") {
         return Err(fault_of(first, ZoneFileFault::IncludeNotTaken));
-    } else {
-        return Err(fault_of(first, ZoneFileFault::UnknownDirective));
-    };
-    words.end()?;
-    Ok(entry)
+    }
+    Err(fault_of(first, ZoneFileFault::UnknownDirective))
 }
 
 /// Whether a field is written as a directive.
-fn is_directive(word: &Word<'_>) -> bool {
-    !word.quoted && word.bytes.starts_with(b"$")
+fn is_directive(word: &Word<'_>) -> bool
+    ensures { IsTrue result ↔ IsDirective word.now }
+{
+    match word.bytes {
+        [b'$', ..] => !word.quoted,
+        _ => false,
+    }
 }
 
-/// The entry of which these are the fields.
+/// The entry of which these are the fields, whose line begins with a blank or does not. `end` is the place behind the fields.
 pub(crate) fn read_entry(
     alloc: Global,
-    words: Words<'_>,
+    begins_blank: bool,
+    words: &[Word<'_>],
+    end: usize,
     before: &Before,
 ) -> Result<Entry, EntryError>
     requires { All IsZoneRecord before.now.records }
-    ensures { IfOk result (λ entry. IsEntryAt words.entry.text.now words.entry.place before.now.records entry) }
+    ensures { IfOk result (IsEntry before.now begins_blank words.now) }
 {
-    let mut ahead = words;
-    let Some(first) = ahead.next()? else {
-        return Ok(Entry::Blank);
+    let (first, behind) = match words.split_first() {
+        Some(parts) => parts,
+        None => return Ok(Entry::Blank),
     };
-    if !words.begins_blank() && is_directive(&first) {
-        read_directive(alloc, &first, &mut ahead, &before.origin)
-    } else {
-        let record = read_zone_record(alloc, &first, words, ahead, before)?;
-        Ok(Entry::Record(record))
+    if begins_blank {
+        let record = repeated_record(alloc, first, words, end, before)?;
+        return Ok(Entry::Record(record));
+    }
+    if is_directive(first) {
+        return read_directive(alloc, first, behind, end, before);
+    }
+    let record = named_record(alloc, first, behind, end, before)?;
+    Ok(Entry::Record(record))
+}
+
+impl Before {
+    /// What is left to the entry behind this one. Where memory is refused, nothing is said of what is left.
+    pub(crate) fn take(&mut self, entry: Entry) -> Result<(), AllocError>
+        ensures { OnOk result (self.new ≡ after self.old entry) }
+    {
+        match entry {
+            Entry::Blank => {}
+            Entry::Origin(name) => self.origin = name,
+            Entry::DefaultTtl(ttl) => self.default_ttl = Some(ttl),
+            Entry::Record(record) => self.records.push(record)?,
+        }
+        Ok(())
     }
 }

@@ -1,5 +1,13 @@
-use Rattle.std.proofs.Common.{◌-◌, length}
+use Rattle.std.proofs.Common.{◌≤◌, ◌-◌, length}
+use Rattle.zone_text.specs.Words.{IsRun, ends_quoted}
 use Rattle.zone_text.proofs.words.quote_place.Given as goal
+
+abbrev pub invariant-bytes : goal.invariant-bytes
+invariant-bytes l = record {
+  on : l.start ≤ l.place;
+  within : l.place ≤ length l.text;
+  run : IsRun ends_quoted l.text l.start l.place;
+}
 
 abbrev pub decreases-bytes : goal.decreases-bytes
 decreases-bytes l = length l.text - l.place

@@ -1,16 +1,44 @@
-use Rattle.std.proofs.Common.{All, sym, subst}
+use Rattle.std.proofs.Common.{◌≡◌, ◌+◌, ◌<◌, ℕ, List, [], ◌∷◌, ◌++◌, Bool, None, All, length, sym, subst, arith}
 use Rattle.std.proofs.lemmas.List.Elements.{All-push}
-use Rattle.zone_text.specs.ZoneFiles.{IsEntryAt, IsZoneRecord}
-use Rattle.zone_text.proofs.zone_file.read_entries.Goals.{in-Blank, in-Origin+in-Long-1, in-Origin+in-Short-1, in-DefaultTtl, in-Record+in_ok-push-in-Record}
+use Rattle.wire_messages.specs.declared.rr.rdata.RData.{RData}
+use Rattle.wire_messages.specs.declared.rr.record.Record.{Record}
+use Rattle.wire_names.specs.rr.domain.DomainName.{DomainName}
+use Rattle.zone_text.specs.declared.words.Word.{Word}
+use Rattle.zone_text.specs.declared.zone_file.entry.Before.{Before}
+use Rattle.zone_text.specs.declared.zone_file.entry.Entry.{Entry}
+use Rattle.zone_text.specs.declared.zone_file.entry.Entry.TheVariants as entry
+use Rattle.zone_text.specs.ZoneFiles.{IsEntry, IsEntryFrom, IsFront, IsRecordEntry, IsZoneRecord, after, first_entry}
+use Rattle.zone_text.specs.ZoneFiles.AreEntries.{none, more}
+use Rattle.zone_text.specs.ZoneFiles.IsEntry.{blank, origin_of, default_ttl_of, record_of}
+use Rattle.zone_text.specs.ZoneFiles.IsRecordEntry.{repeated, named}
 use Rattle.zone_text.proofs.zone_file.read_entries.Goals as goal
 
+no_entries : (text : List ℕ) (origin o : DomainName) (records : List (Record RData)) (place : ℕ) → place ≡ first_entry text → o ≡ origin → records ≡ [] → IsFront origin text place (record { origin = o; default_ttl = None; records = records })
+no_entries text origin o records place e f g = rw (e, f, g) none
+
+kept_record : (before : Before) (begins_blank : Bool) (words : List Word) (r : Record RData) → IsRecordEntry before begins_blank words r → IsZoneRecord r
+kept_record before begins_blank words r (repeated owner behind) = behind.kept
+kept_record before begins_blank words r (named plain owner behind) = behind.kept
+
+kept_after : (before : Before) (begins_blank : Bool) (words : List Word) (e : Entry) → All IsZoneRecord before.records → IsEntry before begins_blank words e → All IsZoneRecord (after before e).records
+kept_after before begins_blank words e all blank = all
+kept_after before begins_blank words e all (origin_of k name) = all
+kept_after before begins_blank words e all (default_ttl_of k ttl) = all
+kept_after before begins_blank words e all (record_of {r = r} h) = All-push IsZoneRecord before.records r all (kept_record before begins_blank words r h)
+
+one_more : (origin : DomainName) (text : List ℕ) (place end : ℕ) (before next : Before) (e : Entry) → IsFront origin text place before → place < length text → IsEntryFrom text place before e end → next ≡ after before e → IsFront origin text (end + 1) next
+one_more origin text place end before next e front within is left = rw left (more front within is)
+
+pub entries-init : goal.entries-init
+entries-init c = record {
+  front = no_entries c.args.text.now c.args.origin.now c.in_ok-clone.field-0 c.new.result c.first_entry-place.result c.first_entry-place.ensures.mark c.in_ok-clone.ensures.cases c.new.ensures;
+  records = subst (All IsZoneRecord) (sym c.new.ensures) (λ k d below. absurd (omega arith));
+}
+
 pub entries-preserved : goal.entries-preserved
-entries-preserved c = elim c.match-branch-3.branch [
-  | in-Blank w ↦ rw w.before-is c.entries.invariant
-  | in-Origin+in-Long-1 w ↦ rw w.before-is c.entries.invariant
-  | in-Origin+in-Short-1 w ↦ rw w.before-is c.entries.invariant
-  | in-DefaultTtl w ↦ rw w.before-is c.entries.invariant
-  | in-Record+in_ok-push-in-Record w ↦ rw w.before-is (
-      let kept : IsZoneRecord w.in-Record.record = (subst (IsEntryAt c.entry-words.result.text.now c.entry-words.result.place c.entries.before.records) w.in-Record.is c.in_ok-read_entry.ensures).0 in
-      subst (All IsZoneRecord) (sym w.in_ok-push-in-Record.ensures.ok) (All-push IsZoneRecord c.entries.before.records w.in-Record.record c.entries.invariant kept))
-]
+entries-preserved c =
+    let kept : All IsZoneRecord (after c.entries.before c.in_ok-entry.entry).records = kept_after c.entries.before _ c.in_ok-entry.ensures.entry.words c.in_ok-entry.entry c.entries.invariant.records c.in_ok-entry.ensures.entry.is in
+    record {
+      front = one_more c.args.origin.now c.args.text.now c.entries.place c.in_ok-entry.end c.entries.before c.take.new.self c.in_ok-entry.entry c.entries.invariant.front c.entries-test.true c.in_ok-entry.ensures.entry c.in_ok-take.ensures;
+      records = subst (λ (b : Before). All IsZoneRecord b.records) (sym c.in_ok-take.ensures) kept;
+    }

@@ -1,11 +1,13 @@
-use Rattle.std.proofs.Common.{◌≡◌, ◌-◌, length}
+use Rattle.std.proofs.Common.{◌≡◌, ◌≤◌, ◌-◌, length}
 use Rattle.zone_text.specs.Words.{AreWords}
 use Rattle.zone_text.proofs.words.Words.rest.Given as goal
 
 abbrev pub invariant-fields : goal.invariant-fields
 invariant-fields l = record {
   text : l.self.text ≡ l.initial.self.text;
-  words : AreWords l.initial.self.text.now l.initial.self.place l.fields.items l.self.place;
+  kind : l.self.kind ≡ l.initial.self.kind;
+  on : l.initial.self.place ≤ l.self.place;
+  words : AreWords l.initial.self.kind l.initial.self.text.now l.initial.self.place l.initial.self.depth l.fields.items l.self.place l.self.depth;
 }
 
 abbrev pub decreases-fields : goal.decreases-fields

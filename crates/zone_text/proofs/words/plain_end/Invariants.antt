@@ -1,10 +1,12 @@
 use Rattle.std.proofs.Common.{◌≤◌, ◌-◌, length}
-use Rattle.zone_text.proofs.words.Words.skip_in_entry.Given as goal
+use Rattle.zone_text.specs.Words.{IsRun, ends_word}
+use Rattle.zone_text.proofs.words.plain_end.Given as goal
 
 abbrev pub invariant-bytes : goal.invariant-bytes
 invariant-bytes l = record {
-  on : l.self.place ≤ l.place;
+  on : l.start ≤ l.place;
   within : l.place ≤ length l.text;
+  run : IsRun (ends_word l.kind) l.text l.start l.place;
 }
 
 abbrev pub decreases-bytes : goal.decreases-bytes
