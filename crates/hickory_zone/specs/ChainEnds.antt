@@ -47,7 +47,7 @@ abbrev pub any_link : Records → Link
 any_link [] = link.End at.NoData
 any_link (r ∷ rs) = link.End at.Answer
 
--- These records were put behind those that were there, as all that a name has.
-pub record IsAllPut (rs old new : Records) (link : Link) : Type 0 where
-  pub put : new ≡ old ++ rs
+-- These records were put behind those that were there, for all that a name has.
+pub record IsAllPut (rs added old new : Records) (link : Link) : Type 0 where
+  pub put : new ≡ old ++ added
   pub ends : link ≡ any_link rs

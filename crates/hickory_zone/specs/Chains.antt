@@ -1,5 +1,5 @@
 -- Answers with CNAMEs followed (RFC 1034 sections 3.6.2 and 4.3.2, step 3a), and with names that are redirected (RFC 6672 section 3.2).
-use Rattle.std.specs.Prelude.{◌≡◌, Bool, ℕ, zero, suc, true, false, cond, ◌==◌, ◌&&◌, [], ◌∷◌, ◌++◌, map, Option, Some, None}
+use Rattle.std.specs.Prelude.{◌≡◌, Bool, ℕ, zero, suc, true, false, not, cond, ◌==◌, ◌&&◌, [], ◌∷◌, ◌++◌, filter, map, Option, Some, None}
 use Rattle.std.specs.List.{list_any}
 use Rattle.std.specs.Option.{IsSomeAnd}
 use Rattle.wire_names.specs.rr.domain.DomainName.{DomainName}
@@ -49,6 +49,14 @@ abbrev pub once : Records → Records → Records
 once before [] = []
 once before (r ∷ rs) = cond (owns_dname r.name before) [] (r ∷ rs)
 
+-- the records of a name but its DNAME
+abbrev pub without_dname : Records → Records
+without_dname rs = filter (λ r. not (is_dname r.rdata)) rs
+
+-- what a chain with these records gains by those of a name: its DNAME only where it does not stand there already, so that each record stands once (RFC 2181 section 5)
+abbrev pub not_yet : Records → DomainName → Records → Records
+not_yet before name rs = cond (owns_dname name before) (without_dname rs) rs
+
 -- the records of a wildcard as those of a name, which is spelled as it was asked (RFC 4592 section 3.3.1)
 abbrev pub owned_by : DomainName → Records → Records
 owned_by name rs = map {A = Record RData} {B = Record RData} (λ r. record r { name = name }) rs
@@ -73,7 +81,7 @@ redirect t name k put (r ∷ rs) = redirect_to t name k put r (target_in r.rdata
 
 -- what a chain gains at a name, with these records before, where the zone answers so
 abbrev pub step : ℕ → Records → DomainName → Outcome → Step
-step t before name (answer rs) = ends rs ended.answer
+step t before name (answer rs) = ends (not_yet before name rs) ended.answer
 step t before name (alias rs) = leads rs (canonical rs)
 step t before name (wild_answer rs) = ends (owned_by name rs) ended.answer
 step t before name (wild_alias rs) = leads (owned_by name rs) (canonical rs)

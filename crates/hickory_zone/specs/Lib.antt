@@ -7,6 +7,7 @@ pub mod FoundRecords
 pub mod Grown
 pub mod Handled
 pub mod KeysBeside
+pub mod Parents
 pub mod Redirections
 pub mod Replies
 pub mod WorkedRedirections

@@ -4,9 +4,10 @@ ghost use Rattle.std.specs.Prelude.{◌≡◌, ◌↔◌, Err, None, false, IfOk
 ghost use Rattle.hickory_base.specs.declared.errors.UpdateFault.TheVariants.{Code};
 ghost use Rattle.hickory_base.specs.declared.zone_store.lookup.LookupControlFlow.TheVariants.{Skip};
 ghost use Rattle.hickory_zone.specs.Handled.{LookedUp, Searched, TransferAnswered};
+ghost use Rattle.hickory_zone.specs.Replies.{RepliesTo, zone_of};
 ghost use Rattle.hickory_zone.specs.Zones.{AreOwners};
 
-use crate::answers::{are_owners, stored};
+use crate::answers::{are_owners, reply, stored};
 use crate::denials::denial_soa;
 use crate::features::{Features, features_of};
 use crate::handled::{records, transfer, whole};
@@ -14,9 +15,9 @@ use hickory_base::errors::{LookupError, UpdateFault};
 use hickory_base::server::{Request, RequestInfo};
 use hickory_base::zone_store::{
     AuthLookup, AxfrPolicy, InMemoryZoneHandler, LookupControlFlow, LookupOptions, Nsec3QueryInfo,
-    NxProofKind, StoredAnswer, ZoneHandler, ZoneTransfer, ZoneType,
+    NxProofKind, StoredAnswer, WholeReply, ZoneHandler, ZoneTransfer, ZoneType,
 };
-use hickory_wire::{LowerName, Record, RecordType, ResponseCode, TSigResponseContext};
+use hickory_wire::{LowerName, LowerQuery, Record, RecordType, ResponseCode, TSigResponseContext};
 use std::alloc::{AllocError, Global};
 use std::marker::Model;
 
@@ -67,6 +68,13 @@ impl AuthoritativeZone {
             has,
             soa,
         })
+    }
+
+    /// What the zone replies to a question, whole.
+    pub fn reply(&self, alloc: Global, query: &LowerQuery) -> Result<WholeReply, AllocError>
+        ensures { IfOk result (RepliesTo (zone_of self.now) query.now) }
+    {
+        reply(alloc, &self.zone, query, self.has, self.soa.as_slice())
     }
 }
 

@@ -6,7 +6,7 @@ ghost use Rattle.hickory_base.specs.zone_store.ZoneRecords.{is_at};
 ghost use Rattle.hickory_base.specs.zone_store.ZoneSets.{sets_of};
 ghost use Rattle.wire_names.specs.rr.domain.NameOrder.{Encloses, lower_name};
 ghost use Rattle.hickory_zone.specs.Zones.{AreOwners, Sets};
-ghost use Rattle.hickory_zone.specs.Chains.{IsIn, canonical, is_cname, owned_by, owns_cname};
+ghost use Rattle.hickory_zone.specs.Chains.{IsIn, canonical, is_cname, is_dname, not_yet, owned_by, owns_cname, without_dname};
 ghost use Rattle.hickory_zone.specs.Features.{AreFeatures};
 ghost use Rattle.hickory_zone.specs.ChainEnds.{Chased, IsAllPut, Linked, ending_of};
 ghost use Rattle.hickory_zone.specs.declared.chains.ChainEnd.TheVariants.{Answer, NoData};
@@ -14,7 +14,7 @@ ghost use Rattle.hickory_zone.specs.declared.chains.Link.TheVariants.{End};
 
 use crate::features::Features;
 use crate::find::{Found, look_up};
-use crate::redirections::append_redirection;
+use crate::redirections::{append_redirection, is_dname, owns_dname};
 use hickory_base::zone_store::RecordSet;
 use hickory_wire::{LowerName, Name, RData, Record, RecordType, RrKey};
 use std::alloc::{AllocError, Global};
@@ -52,6 +52,30 @@ pub(crate) fn append_owned(
         all.push(owned_copy(q, owner)?)?;
     }
     Ok(())
+}
+
+/// Puts copies of the records but DNAMEs last. Where memory is refused, those of a front of them may have been put.
+fn append_without_dname(all: &mut Vec<Record>, records: &[Record]) -> Result<(), AllocError>
+    ensures { OnOk result (all.new.items ≡ all.old.items ++ without_dname records.now) }
+{
+    for q in records {
+        if !is_dname(q) {
+            all.push(q.clone()?)?;
+        }
+    }
+    Ok(())
+}
+
+/// Puts copies of the records of a name last, of its DNAME only where it does not stand there already (RFC 2181 section 5). Where
+/// memory is refused, those of a front of them may have been put.
+fn append_once(all: &mut Vec<Record>, name: &Name, records: &[Record]) -> Result<(), AllocError>
+    ensures { OnOk result (all.new.items ≡ all.old.items ++ not_yet all.old.items name.now records.now) }
+{
+    if owns_dname(name, all.as_slice()) {
+        append_without_dname(all, records)
+    } else {
+        append_copies(all, records)
+    }
 }
 
 /// How the chain of CNAMEs of a name ends.
@@ -110,15 +134,37 @@ fn end_at_all<'z>(has_some: bool) -> Link<'z>
     }
 }
 
-/// Puts copies of all records of the key's name last. No type is below that of the key.
-fn append_all<'z>(
+/// Puts copies of all records of the key's name but its DNAME last. No type is below that of the key.
+fn append_rest<'z>(
+    alloc: Global,
     sets: &BTreeMap<RrKey, Rc<RecordSet>>,
     first: &RrKey,
     answers: &mut Vec<Record>,
 ) -> Result<Link<'z>, AllocError>
     requires { first.now.record_type ≡ 0 }
-    ensures { IfOk result (IsAllPut (records_at first.now.name (sets_of sets.now)) answers.old.items answers.new.items) }
+    ensures { let all = records_at first.now.name (sets_of sets.now) in IfOk result (IsAllPut all (without_dname all) answers.old.items answers.new.items) }
 {
+    let mut own = Vec::new(alloc);
+    append_name(sets, first, &mut own)?;
+    append_without_dname(answers, own.as_slice())?;
+    Ok(end_at_all(!own.is_empty()))
+}
+
+/// Puts copies of all records of the key's name last, of its DNAME only where it does not stand there already. No type is below that of
+/// the key.
+fn append_all<'z>(
+    alloc: Global,
+    sets: &BTreeMap<RrKey, Rc<RecordSet>>,
+    name: &Name,
+    first: &RrKey,
+    answers: &mut Vec<Record>,
+) -> Result<Link<'z>, AllocError>
+    requires { first.now.record_type ≡ 0 }
+    ensures { let all = records_at first.now.name (sets_of sets.now) in IfOk result (IsAllPut all (not_yet answers.old.items name.now all) answers.old.items answers.new.items) }
+{
+    if owns_dname(name, answers.as_slice()) {
+        return append_rest(alloc, sets, first, answers);
+    }
     let before = answers.len();
     append_name(sets, first, answers)?;
     Ok(end_at_all(before < answers.len()))
@@ -149,7 +195,7 @@ fn append_all_owned<'z>(
     owner: &Name,
     answers: &mut Vec<Record>,
 ) -> Result<Link<'z>, AllocError>
-    ensures { IfOk result (IsAllPut (owned_by owner.now (records_at key.now.name (sets_of sets.now))) answers.old.items answers.new.items) }
+    ensures { let all = owned_by owner.now (records_at key.now.name (sets_of sets.now)) in IfOk result (IsAllPut all all answers.old.items answers.new.items) }
 {
     let before = answers.len();
     append_name_owned(alloc, sets, key, owner, answers)?;
@@ -192,14 +238,14 @@ fn append_link<'z>(
 {
     match look_up(alloc, origin, sets, first, record_type, has)? {
         Found::Answer(records) => {
-            append_copies(answers, records)?;
+            append_once(answers, name, records)?;
             Ok(Link::End(ChainEnd::Answer))
         }
         Found::WildAnswer(records) => {
             append_owned(answers, name, records)?;
             Ok(Link::End(ChainEnd::Answer))
         }
-        Found::Every => append_all(sets, first, answers),
+        Found::Every => append_all(alloc, sets, name, first, answers),
         Found::WildEvery(key) => append_all_owned(alloc, sets, key, name, answers),
         Found::Alias(records) => {
             append_copies(answers, records)?;

@@ -32,10 +32,7 @@ fn for_denial(soa: &Record) -> Result<Record, AllocError>
 }
 
 /// The zone's SOA record as it stands in denials, if the zone has one.
-pub(crate) fn denial_soa(
-    alloc: Global,
-    zone: &InMemoryZoneHandler,
-) -> Result<Vec<Record>, AllocError>
+pub fn denial_soa(alloc: Global, zone: &InMemoryZoneHandler) -> Result<Vec<Record>, AllocError>
     ensures { IfOk result (λ soa. soa.items ≡ denial_soa (zone_of zone.now)) }
 {
     let mut all = Vec::new(alloc);

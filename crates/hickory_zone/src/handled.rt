@@ -21,7 +21,7 @@ use hickory_wire::{
 use std::alloc::{AllocError, Global};
 
 /// The whole reply to a question. `soa` is the zone's SOA record as it stands in denials.
-pub(crate) fn whole(
+pub fn whole(
     alloc: Global,
     zone: &InMemoryZoneHandler,
     query: &LowerQuery,
@@ -86,7 +86,7 @@ fn records_of(alloc: Global, reply: WholeReply) -> Result<AuthLookup, LookupErro
 }
 
 /// The records by which the catalog completes a reply.
-pub(crate) fn records(
+pub fn records(
     alloc: Global,
     zone: &InMemoryZoneHandler,
     name: &LowerName,

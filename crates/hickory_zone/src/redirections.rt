@@ -191,18 +191,25 @@ fn substituted(
     Ok(Some(labels.to_name(alloc, target.is_fqdn())?))
 }
 
-/// Whether a record is a DNAME that this name owns.
-fn is_dname_of(name: &Name, q: &Record) -> bool
-    ensures { result ≡ (is_at name.now q.now && is_dname q.now.rdata) }
+/// Whether a record is a DNAME.
+pub(crate) fn is_dname(q: &Record) -> bool
+    ensures { result ≡ is_dname q.now.rdata }
 {
     match &q.rdata {
-        RData::Unknown { code, .. } => code.value() == DNAME && name == &q.name,
+        RData::Unknown { code, .. } => code.value() == DNAME,
         _ => false,
     }
 }
 
+/// Whether a record is a DNAME that this name owns.
+fn is_dname_of(name: &Name, q: &Record) -> bool
+    ensures { result ≡ (is_at name.now q.now && is_dname q.now.rdata) }
+{
+    is_dname(q) && name == &q.name
+}
+
 /// Whether the name owns a DNAME among the records.
-fn owns_dname(name: &Name, records: &[Record]) -> bool
+pub(crate) fn owns_dname(name: &Name, records: &[Record]) -> bool
     ensures { result ≡ owns_dname name.now records.now }
 {
     records.iter().any(|q| is_dname_of(name, q))

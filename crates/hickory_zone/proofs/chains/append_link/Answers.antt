@@ -2,18 +2,18 @@ use Rattle.std.proofs.Common.{[], refl, sym}
 use Rattle.std.proofs.lemmas.List.{append-nil}
 use Rattle.hickory_base.specs.zone_store.ZoneSets.{sets_of}
 use Rattle.hickory_base.specs.zone_store.ZoneAnswers.{records_at}
-use Rattle.hickory_zone.specs.Chains.{owned_by}
+use Rattle.hickory_zone.specs.Chains.{not_yet, owned_by}
 use Rattle.hickory_zone.proofs.lemmas.replies.AllPut.{all_linked, all_owned_linked, linked, redirected_linked}
 use Rattle.hickory_zone.proofs.lemmas.zones.Outcomes.{if_ok}
 use Rattle.hickory_zone.specs.Zones.{Answers, Records, Zone, answer, any_of, by_wildcard, no_data, no_name, referral, wild_answer}
 use Rattle.hickory_zone.proofs.chains.append_link.Goals as goal
 
-pub returns-in_ok-append_copies-in-Answer : goal.returns-in_ok-append_copies-in-Answer
-returns-in_ok-append_copies-in-Answer c =
+pub returns-in_ok-append_once-in-Answer : goal.returns-in_ok-append_once-in-Answer
+returns-in_ok-append_once-in-Answer c =
     let zone : Zone = record { origin = c.args.origin.now; sets = sets_of c.args.sets.now } in
     let rs : Records = c.in-Answer.records.now in
     linked zone c.args.record_type c.args.name.now c.args.first.now.name c.requires.spelled c.args.answers.now.items _ _ (answer rs) (rw c.in-Answer.is at c.in_ok-records.ensures)
-    (record { added = rs; put = c.in_ok-append_copies-in-Answer.ensures; is = refl })
+    (record { added = not_yet c.args.answers.now.items c.args.name.now rs; put = c.in_ok-append_once-in-Answer.ensures; is = refl })
 
 pub returns-in_ok-append_owned-in-WildAnswer : goal.returns-in_ok-append_owned-in-WildAnswer
 returns-in_ok-append_owned-in-WildAnswer c =

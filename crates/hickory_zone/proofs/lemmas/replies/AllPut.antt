@@ -6,7 +6,7 @@ use Rattle.std.proofs.lemmas.List.{length-map}
 use Rattle.wire_names.specs.rr.domain.DomainName.{DomainName}
 use Rattle.wire_names.specs.rr.domain.NameOrder.{lower_label, lower_name}
 use Rattle.hickory_zone.specs.declared.redirections.Redirection.{Redirection}
-use Rattle.hickory_zone.specs.Chains.{once, owned_by, redirect, step}
+use Rattle.hickory_zone.specs.Chains.{not_yet, once, owned_by, owns_dname, redirect, step, without_dname}
 use Rattle.hickory_zone.specs.declared.chains.ChainEnd.TheVariants as at
 use Rattle.hickory_zone.specs.declared.chains.Link.{Link}
 use Rattle.hickory_zone.specs.declared.chains.Link.TheVariants as link
@@ -19,18 +19,22 @@ ends_as [] old new false e m = refl
 ends_as (r ∷ rs) old new true e m = refl
 ends_as (r ∷ rs) old new false e m = absurd (grind (arith, nat_tests, ap length e, length-append old (r ∷ rs)))
 
-pub all_put : (rs old new : Records) (more : Bool) (end : Link) → new ≡ old ++ rs → more ≡ nat_lt (length old) (length new) → end ≡ cond more (link.End at.Answer) (link.End at.NoData) → IsAllPut rs old new end
+pub all_put : (rs old new : Records) (more : Bool) (end : Link) → new ≡ old ++ rs → more ≡ nat_lt (length old) (length new) → end ≡ cond more (link.End at.Answer) (link.End at.NoData) → IsAllPut rs rs old new end
 all_put rs old new more end put m is = record { put = put; ends = is ∙ ends_as rs old new more put m }
 
 module _ (zone : Zone) (t : ℕ) (name low : DomainName) (spelled : low ≡ lower_name name) (old new : Records) (end : Link) where
   pub linked : (outcome : Outcome) → Answers zone low t outcome → IsStep (step t old name outcome) old new end → Linked zone t name old new end
   linked outcome says gained = record { outcome = outcome; says = subst (λ (n : DomainName). Answers zone n t outcome) spelled says; gained = gained }
 
-  pub all_linked : (rs : Records) → Answers zone low t (any_of rs) → IsAllPut rs old new end → Linked zone t name old new end
-  all_linked [] says h = linked no_data says (record { added = []; put = h.put; is = sym (ap (step_by []) h.ends) })
-  all_linked (r ∷ rs) says h = linked (answer (r ∷ rs)) says (record { added = r ∷ rs; put = h.put; is = sym (ap (step_by (r ∷ rs)) h.ends) })
+  nothing_yet : (seen : Bool) → cond seen (without_dname []) [] ≡ []
+  nothing_yet true = refl
+  nothing_yet false = refl
 
-  pub all_owned_linked : (rs : Records) → Answers zone low t (by_wildcard (any_of rs)) → IsAllPut (owned_by name rs) old new end → Linked zone t name old new end
+  pub all_linked : (rs : Records) → Answers zone low t (any_of rs) → IsAllPut rs (not_yet old name rs) old new end → Linked zone t name old new end
+  all_linked [] says h = linked no_data says (record { added = []; put = h.put ∙ ap (λ x. old ++ x) (nothing_yet (owns_dname name old)); is = sym (ap (step_by []) h.ends) })
+  all_linked (r ∷ rs) says h = linked (answer (r ∷ rs)) says (record { added = not_yet old name (r ∷ rs); put = h.put; is = sym (ap (step_by (not_yet old name (r ∷ rs))) h.ends) })
+
+  pub all_owned_linked : (rs : Records) → Answers zone low t (by_wildcard (any_of rs)) → IsAllPut (owned_by name rs) (owned_by name rs) old new end → Linked zone t name old new end
   all_owned_linked [] says h = linked no_data says (record { added = []; put = h.put; is = sym (ap (step_by []) h.ends) })
   all_owned_linked (r ∷ rs) says h = linked (wild_answer (r ∷ rs)) says (record { added = owned_by name (r ∷ rs); put = h.put; is = sym (ap (step_by (owned_by name (r ∷ rs))) h.ends) })
 
