@@ -76,7 +76,7 @@ module _ {S H : Type 0} (handler : Ghosts H) (signature_for : S → Signer) (acc
   module _ (same : (bytes : List ℕ) (m n : Message) → Reads bytes m → Reads bytes n → m ≡ n) (no_fault : (bytes : List ℕ) (m : Message) (e : DecodeError) → Reads bytes m → Fault bytes e → ⊥)
       (served : ServedAlone handler signature_for) (others : OthersStay handler signature_for) (apexes : ApexesStay handler signature_for) (one_chain : OneChain H) (decided : OfZoneIsDecided H) where
     -- a message is read as requests of the same questions
-    of_zone_too : (zones : List (DomainName × List H)) (message : Incoming) (request : ReceivedRequest) (chain : List H) → IsRequestOf message request → IsToZone access zones (apex, chain) message → IsOfZone zones request (apex, chain)
+    pub of_zone_too : (zones : List (DomainName × List H)) (message : Incoming) (request : ReceivedRequest) (chain : List H) → IsRequestOf message request → IsToZone access zones (apex, chain) message → IsOfZone zones request (apex, chain)
     of_zone_too zones message request chain is to =
         let messages : message_of request.message ≡ message_of to.request.message = same message.bytes.items (message_of request.message) (message_of to.request.message) is.reads to.is_request.reads in
         let queries : request.message.queries.queries ≡ to.request.message.queries.queries = ap (λ (m : Message). m.queries) messages in

@@ -1,4 +1,9 @@
+pub mod BytesServed
 pub mod DecodedOutcomes
 pub mod Isolation
 pub mod MadeReplies
+pub mod Refusals
+pub mod Results
+pub mod RuleLaws
 pub mod Runs
+pub mod Sent

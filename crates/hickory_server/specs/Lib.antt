@@ -1,5 +1,9 @@
 pub mod DecodedOutcomes
 pub mod Isolation
+pub mod Ruling
+pub mod ServedBy
+pub mod ServedLaws
 pub mod Serving
+pub mod Written
 pub mod ZoneOfText
 pub mod ZoneReplies

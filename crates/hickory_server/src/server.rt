@@ -1,10 +1,18 @@
 //! Requests, and what replies are handed to.
 
+pub mod answer;
+mod datagrams;
 mod no_keys;
+pub mod rule_laws;
+pub mod rules;
 pub mod serve;
+pub mod service;
 
+pub use answer::Answer;
 pub use hickory_base::encoding_sink::EncodingSink;
 pub use hickory_base::server::{
     RecordRef, Request, RequestHandler, RequestInfo, ResponseHandler, ResponseInfo, encode_response,
 };
 pub use no_keys::NoKeys;
+pub use rules::{Rules, Ruling};
+pub use service::Server;

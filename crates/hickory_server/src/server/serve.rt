@@ -93,7 +93,7 @@ fn hand_over<S: ReplySigner, H: ZoneHandler>(
 }
 
 /// The bytes of the replies to a request, in their order.
-fn replies_to<S: ReplySigner, H: ZoneHandler>(
+pub(crate) fn replies_to<S: ReplySigner, H: ZoneHandler>(
     alloc: Global,
     catalog: &mut Catalog<S, H>,
     request: &Request,

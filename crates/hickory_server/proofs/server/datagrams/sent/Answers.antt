@@ -1,0 +1,10 @@
+use Rattle.std.proofs.Common.{◌≡◌, ◌≤◌, ℕ, List, All, length, rules}
+use Rattle.wire_messages.specs.declared.protocol.Protocol.TheVariants.{Udp}
+use Rattle.hickory_server.proofs.Sent.{sent_framed, sent_within}
+use Rattle.hickory_server.proofs.server.datagrams.sent.Goals as goal
+
+pub returns-in-Udp : goal.returns-in-Udp
+returns-in-Udp c =
+    let udp : c.args.request.now.protocol ≡ Udp = search rules in
+    let all : All (λ (bytes : List ℕ). length bytes ≤ c.args.limit) c.args.replies = search rules in
+    rw udp (sent_within c.args.limit c.args.replies all)

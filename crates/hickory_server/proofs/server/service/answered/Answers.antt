@@ -1,0 +1,12 @@
+use Rattle.hickory_catalog.specs.Server.{server_of}
+use Rattle.hickory_server.proofs.Results.{leaves_all}
+use Rattle.hickory_server.proofs.server.service.answered.Goals as goal
+
+pub returns-in-Refuse-clause-err : goal.returns-in-Refuse-clause-err
+returns-in-Refuse-clause-err g c =
+    leaves_all (server_of g.H.ZoneHandler g.S.ReplySigner.signature_for c.args.catalog.now) c.args.request.now c.args.now c.unhandled.result c.unhandled.ensures.err
+
+pub returns-in-Truncate-clause-err : goal.returns-in-Truncate-clause-err
+returns-in-Truncate-clause-err g c =
+    leaves_all (server_of g.H.ZoneHandler g.S.ReplySigner.signature_for c.args.catalog.now) c.args.request.now c.args.now c.unhandled-in-Truncate.result
+    c.unhandled-in-Truncate.ensures.err

@@ -1,0 +1,221 @@
+//! Replies over UDP: none is longer than the server's own limit, and none has records in answer to a transfer.
+
+ghost use Rattle.std.specs.Prelude.{◌≡◌, ◌≤◌, [], All, IfOk, IsTrue, None, Some, length, max};
+ghost use Rattle.std.specs.Option.{option_copied};
+ghost use Rattle.wire_messages.specs.serialize.writing.Reply.{size_limit};
+ghost use Rattle.wire_messages.specs.declared.op.header.Header.{Header};
+ghost use Rattle.hickory_wire.specs.serialize.writing.ReplyParts.{ReplyEncoded};
+ghost use Rattle.hickory_base.specs.responses.EncodingSinks.{IsEncodingOf};
+ghost use Rattle.hickory_catalog.specs.ReplyEdns.{reply_edns};
+ghost use Rattle.hickory_server.specs.Ruling.{truncation};
+ghost use Rattle.hickory_server.specs.ServedBy.{AreSent, IsBounded};
+ghost use Rattle.hickory_server.specs.Written.{said};
+
+use hickory_base::message_request::MessageRequest;
+use hickory_base::server::Request;
+use hickory_wire::encoder_laws::what_is_written_keeps_the_limit;
+use hickory_wire::{
+    Edns, Items, MessageType, Metadata, Octets, OpCode, ProtoError, Protocol, Record, ReplyParts,
+    encode_message_parts,
+};
+use std::alloc::{AllocError, Global};
+use std::net::SocketAddr;
+
+/// What a reply says. Its SOA record, if it has one, is among the authorities.
+#[derive(Drop)]
+pub(crate) struct Contents<'a> {
+    metadata: Metadata,
+    question: &'a [u8],
+    question_count: u16,
+    edns: Option<&'a Edns>,
+    answers: &'a [Record],
+    authorities: &'a [Record],
+    additionals: &'a [Record],
+}
+
+/// A reply without records.
+fn without_records<'a>(
+    metadata: Metadata,
+    question: &'a [u8],
+    question_count: u16,
+    edns: Option<&'a Edns>,
+) -> Contents<'a>
+    ensures { said result ≡ record { metadata = metadata; question = question.now; question_count = question_count; edns = option_copied edns.entry; answers = []; authorities = []; soa = []; additionals = []; signature = None } }
+{
+    Contents {
+        metadata,
+        question,
+        question_count,
+        edns,
+        answers: &[],
+        authorities: &[],
+        additionals: &[],
+    }
+}
+
+/// The bytes of a reply, with as many records as fit the limit.
+fn encoded(alloc: Global, contents: &Contents<'_>, limit: u16) -> Result<Octets, AllocError>
+    ensures reply { IfOk result (λ bytes. (header : Header) × ReplyEncoded limit (said contents.now) bytes header) }
+    ensures within { IfOk result (λ bytes. length bytes ≤ max limit 12) }
+{
+    what_is_written_keeps_the_limit();
+    let nothing: &[Record] = &[];
+    let parts = ReplyParts {
+        metadata: contents.metadata,
+        question: contents.question,
+        question_count: contents.question_count,
+        edns: contents.edns,
+        answers: contents.answers.iter(),
+        authorities: contents.authorities.iter(),
+        soa: nothing.iter(),
+        additionals: contents.additionals.iter(),
+        signature: None,
+    };
+    match encode_message_parts(alloc, limit, parts) {
+        Ok(made) => Ok(Octets::from_vec(made.1)),
+        Err(_) => Err(AllocError),
+    }
+}
+
+/// What the OPT record of a reply says to one that says this (RFC 6891 section 7).
+fn answered_edns(alloc: Global, asked: &Edns) -> Edns
+    ensures { Some result ≡ reply_edns None (Some asked.now) }
+{
+    let mut edns = Edns::new(alloc);
+    edns.set_max_payload(asked.max_payload());
+    edns.set_dnssec_ok(asked.dnssec_ok());
+    edns
+}
+
+/// What the OPT record of a reply says, where its request has one.
+fn edns_of(alloc: Global, message: &MessageRequest) -> Option<Edns>
+    ensures { result ≡ reply_edns None message.now.edns }
+{
+    match &message.edns {
+        None => None,
+        Some(asked) => Some(answered_edns(alloc, asked)),
+    }
+}
+
+/// How many bytes a reply over UDP may have that has this OPT record.
+fn payload(edns: Option<&Edns>) -> u16
+    ensures { result ≡ size_limit Protocol.Udp (option_copied edns.entry) }
+{
+    match edns {
+        None => 512,
+        Some(edns) => edns.max_payload(),
+    }
+}
+
+/// The reply to a request over UDP that says no more than that the whole is to be had over TCP: TC, its questions, and its OPT record.
+pub(crate) fn truncated(alloc: Global, request: &Request) -> Result<Octets, AllocError>
+    ensures { IfOk result (IsEncodingOf Protocol.Udp (truncation request.now)) }
+{
+    let message = request.message();
+    let mut metadata = Metadata::response_from_request(&message.metadata);
+    metadata.truncation = true;
+    let edns = edns_of(alloc, message);
+    let count = message.queries.len() as u16;
+    let contents = without_records(metadata, message.queries.as_bytes(), count, edns.as_ref());
+    let reply = encoded(alloc, &contents, payload(edns.as_ref()));
+    drop(edns);
+    reply
+}
+
+/// The bytes of a reply that was read, with as many records as fit the limit. A signature over the longer one would not hold, so there is none.
+fn shortened(alloc: Global, reply: &MessageRequest, limit: u16) -> Result<Octets, AllocError>
+    requires { 12 ≤ limit }
+    ensures { IfOk result (λ bytes. length bytes ≤ limit) }
+{
+    let count = reply.queries.len() as u16;
+    let edns = reply.edns.as_ref();
+    let contents = Contents {
+        metadata: reply.metadata,
+        question: reply.queries.as_bytes(),
+        question_count: count,
+        edns,
+        answers: reply.answers.as_slice(),
+        authorities: reply.authorities.as_slice(),
+        additionals: reply.additionals.as_slice(),
+    };
+    encoded(alloc, &contents, limit)
+}
+
+/// The header of a reply to the message of this identifier that has no room: TC, and nothing else.
+fn header_alone(alloc: Global, id: u16, limit: u16) -> Result<Octets, AllocError>
+    requires { 12 ≤ limit }
+    ensures { IfOk result (λ bytes. length bytes ≤ limit) }
+{
+    let mut metadata = Metadata::new(id, MessageType::Response, OpCode::QUERY);
+    metadata.truncation = true;
+    encoded(alloc, &without_records(metadata, &[], 0, None), limit)
+}
+
+/// A reply within the limit: itself, or with as many records as fit.
+fn bounded(alloc: Global, reply: Octets, src: SocketAddr, limit: u16) -> Result<Octets, AllocError>
+    requires { 12 ≤ limit }
+    ensures { IfOk result (IsBounded limit reply) }
+{
+    if reply.len() <= usize::from(limit) {
+        return Ok(reply);
+    }
+    let id = match reply.as_slice() {
+        [high, low, ..] => 256 * u16::from(*high) + u16::from(*low),
+        _ => 0,
+    };
+    let read = Request::from_bytes(alloc, reply.into_vec(), src, Protocol::Udp);
+    let shorter = match &read {
+        Ok(reply) => shortened(alloc, reply.message(), limit),
+        Err(ProtoError::Memory) => Err(AllocError),
+        // A record stands in it that no answer section is read with, as SIG.
+        Err(_) => header_alone(alloc, id, limit),
+    };
+    drop(read);
+    shorter
+}
+
+/// Replies within the limit, each itself, or with as many records as fit.
+fn bounded_replies(
+    alloc: Global,
+    replies: Items<Octets>,
+    src: SocketAddr,
+    limit: u16,
+) -> Result<Items<Octets>, AllocError>
+    requires { 12 ≤ limit }
+    ensures { IfOk result (AreSent Protocol.Udp limit replies) }
+{
+    let mut within = Items::new(alloc);
+    for reply in replies.into_vec() {
+        within.push(bounded(alloc, reply, src, limit)?)?;
+    }
+    Ok(within)
+}
+
+/// Whether all replies are within the limit.
+fn are_within(replies: &[Octets], limit: u16) -> bool
+    ensures { IsTrue result → All (λ bytes. length bytes ≤ limit) replies.now }
+{
+    for reply in replies {
+        if reply.len() > usize::from(limit) {
+            return false;
+        }
+    }
+    true
+}
+
+/// What is sent of replies to a request: over UDP each within the limit, and over a stream each as it is. It takes no memory where all are within it.
+pub(crate) fn sent(
+    alloc: Global,
+    request: &Request,
+    limit: u16,
+    replies: Items<Octets>,
+) -> Result<Items<Octets>, AllocError>
+    requires { 12 ≤ limit }
+    ensures { IfOk result (AreSent request.now.protocol limit replies) }
+{
+    match request.protocol() {
+        Protocol::Udp if are_within(replies.as_slice(), limit) => Ok(replies),
+        Protocol::Udp => bounded_replies(alloc, replies, request.src(), limit),
+        _ => Ok(replies),
+    }
+}

@@ -1,0 +1,129 @@
+//! What a server holds every message to.
+
+ghost use Rattle.std.specs.Prelude.{◌≡◌, ◌↔◌, ℕ, Contains, IsTrue, MatchOption};
+ghost use Rattle.wire_messages.specs.declared.op.query.Query.{Query};
+ghost use Rattle.access_control.specs.Access.{Network};
+ghost use Rattle.hickory_server.specs.Ruling.{IsOfServedClass, IsQuery, IsResponse, IsRuling, IsTransfer, udp_limit};
+
+use hickory_base::access::AccessControl;
+use hickory_base::message_request::MessageRequest;
+use hickory_base::server::Request;
+use hickory_wire::{DNSClass, LowerQuery, MessageType, OpCode, Protocol, RecordType};
+use std::alloc::Global;
+
+/// What a server holds every message to.
+#[derive(Drop)]
+pub struct Rules {
+    /// Who may use the server.
+    pub access: AccessControl,
+    /// Who of those may have a zone transferred.
+    pub transfers: AccessControl,
+    /// How many bytes a reply over UDP has at most, where the client takes as many. Less than 512 is 512.
+    pub max_udp: u16,
+}
+
+/// What the rules make of a request.
+#[derive(Clone, Copy, Debug, PartialEq, Eq)]
+pub enum Ruling {
+    /// It is answered Refused, and no zone is asked.
+    Refuse,
+    /// It is answered with TC and no records, and no zone is asked.
+    Truncate,
+    /// It is for the zones.
+    Pass,
+}
+
+/// Whether a message is itself a response: QR is set, the highest bit of its third byte (RFC 1035 section 4.1.1).
+pub(crate) fn is_response(bytes: &[u8]) -> bool
+    ensures { IsTrue result ↔ IsResponse bytes.now }
+{
+    match bytes.get(2) {
+        Some(flags) => *flags >= 128,
+        None => false,
+    }
+}
+
+/// The question of a query, if it has just one and its version of EDNS is known.
+fn question_of(message: &MessageRequest) -> Option<&LowerQuery>
+    ensures { MatchOption result ((query : Query) → ¬ (IsQuery message.now query)) (λ query. IsQuery message.now query.now) }
+{
+    if message.version() != 0 || message.metadata.message_type != MessageType::Query {
+        return None;
+    }
+    if message.metadata.op_code != OpCode::QUERY {
+        return None;
+    }
+    match message.queries.queries() {
+        [query] => Some(query),
+        _ => None,
+    }
+}
+
+/// Whether a question is of a class that is served: IN, or ANY.
+fn is_of_served_class(query: &LowerQuery) -> bool
+    ensures { IsTrue result ↔ IsOfServedClass query.now }
+{
+    query.query_class() == DNSClass::IN || query.query_class() == DNSClass::ANY
+}
+
+/// Whether a question asks for a whole zone or for what changed in it.
+fn is_transfer(query: &LowerQuery) -> bool
+    ensures { IsTrue result ↔ IsTransfer query.now }
+{
+    query.query_type() == RecordType::AXFR || query.query_type() == RecordType::IXFR
+}
+
+impl Rules {
+    /// Everybody may use the server and have transfers, and a reply over UDP has at most 1,232 bytes: what IPv6 carries in one piece
+    /// everywhere, of which 48 bytes are headers (RFC 8200 sections 3 and 5, RFC 768).
+    pub fn new(alloc: Global) -> Rules
+        ensures deny { (network : Network) → ¬ (Contains result.access.deny network) }
+        ensures allow { (network : Network) → ¬ (Contains result.access.allow network) }
+        ensures no_transfers { (network : Network) → ¬ (Contains result.transfers.deny network) }
+        ensures transfers { (network : Network) → ¬ (Contains result.transfers.allow network) }
+        ensures limit { result.max_udp ≡ 1232 }
+    {
+        Rules {
+            access: AccessControl::new(alloc),
+            transfers: AccessControl::new(alloc),
+            max_udp: 1232,
+        }
+    }
+
+    /// How many bytes a reply over UDP has at most, whatever the client takes.
+    pub fn udp_limit(&self) -> u16
+        ensures { result ≡ udp_limit self.now }
+    {
+        self.max_udp.max(512)
+    }
+
+    /// What becomes of a query whose one question this is.
+    fn ruling_of(&self, request: &Request, query: &LowerQuery) -> Ruling
+        requires { IsQuery request.now.message query.now }
+        ensures { IsRuling self.now request.now result }
+    {
+        if !is_of_served_class(query) {
+            return Ruling::Refuse;
+        }
+        if !is_transfer(query) {
+            return Ruling::Pass;
+        }
+        if !self.transfers.allow(request.src().ip()) {
+            return Ruling::Refuse;
+        }
+        match request.protocol() {
+            Protocol::Udp => Ruling::Truncate,
+            _ => Ruling::Pass,
+        }
+    }
+
+    /// What the rules make of a request.
+    pub fn ruling(&self, request: &Request) -> Ruling
+        ensures { IsRuling self.now request.now result }
+    {
+        match question_of(request.message()) {
+            Some(query) => self.ruling_of(request, query),
+            None => Ruling::Pass,
+        }
+    }
+}

@@ -1,0 +1,232 @@
+//! A server: the rules that it holds messages to, and the zones that it answers for.
+
+ghost use Rattle.std.specs.Prelude.{◌≡◌, ◌∷◌, [], List, ℕ, IfErr, IfOk, Ok};
+ghost use Rattle.std.specs.List.{AllZip};
+ghost use Rattle.std.specs.Net.Socket.{socket_ip};
+ghost use Rattle.std.specs.Option.{option_copied};
+ghost use Rattle.wire_messages.specs.declared.op.query.Query.{Query};
+ghost use Rattle.hickory_base.specs.responses.EncodingSinks.{EncodedReplies, IsEncodingOf};
+ghost use Rattle.hickory_catalog.specs.Replies.{error_reply};
+ghost use Rattle.hickory_catalog.specs.ReplyEdns.{reply_edns};
+ghost use Rattle.hickory_catalog.specs.Server.{server_of};
+ghost use Rattle.hickory_server.specs.Ruling.{IsQuery, IsRuling, refusal, udp_limit};
+ghost use Rattle.hickory_server.specs.ServedBy.{AreSent, BytesServed, LeavesBytes, RequestServed};
+ghost use Rattle.hickory_server.specs.Serving.{LeavesRequest};
+
+use crate::server::answer::Answer;
+use crate::server::datagrams::{sent, truncated};
+use crate::server::no_keys::NoKeys;
+use crate::server::rules::{Rules, Ruling, is_response};
+use crate::server::serve::{ServeError, replies_to};
+use hickory_base::server::Request;
+use hickory_base::zone_store::{InMemoryZoneHandler, ZoneHandler};
+use hickory_catalog::catalog::Catalog;
+use hickory_catalog::signer::ReplySigner;
+use hickory_wire::{Items, NSIDPayload, Octets, ProtoError, Protocol};
+use std::alloc::{AllocError, Global};
+use std::net::{IpAddr, Ipv4Addr, SocketAddr};
+
+/// How many bytes the header of a message has (RFC 1035 section 4.1.1).
+const HEADER_LEN: usize = 12;
+
+/// A copy of an identifier.
+fn copied(alloc: Global, nsid: Option<&NSIDPayload>) -> Result<Option<NSIDPayload>, AllocError>
+    ensures { IfOk result (λ copy. copy ≡ option_copied nsid.entry) }
+{
+    let Some(payload) = nsid else {
+        return Ok(None);
+    };
+    match NSIDPayload::new(payload.as_slice().to_vec(alloc)?) {
+        Ok(copy) => Ok(Some(copy)),
+        Err(_) => Err(AllocError),
+    }
+}
+
+/// The reply to a query that is refused. It is that of a catalog without zones.
+fn refused(
+    alloc: Global,
+    nsid: Option<&NSIDPayload>,
+    request: &Request,
+    now: u64,
+) -> Result<Items<Octets>, AllocError>
+    requires { (query : Query) × IsQuery request.now.message query }
+    ensures { IfOk result (λ encoded. (bytes : List ℕ) × (encoded ≡ bytes ∷ []) ×
+        IsEncodingOf request.now.protocol (error_reply request.now.message (reply_edns (option_copied nsid.entry) request.now.message.edns) 5) bytes) }
+{
+    let mut nothing: Catalog<NoKeys, InMemoryZoneHandler> = Catalog::new(alloc, NoKeys);
+    nothing.set_nsid(copied(alloc, nsid)?);
+    match replies_to(alloc, &mut nothing, request, now) {
+        Ok(replies) => Ok(replies),
+        Err(_) => Err(AllocError),
+    }
+}
+
+/// What is sent to a request that is refused.
+fn refuse<S: ReplySigner, H: ZoneHandler>(
+    alloc: Global,
+    rules: &Rules,
+    catalog: &Catalog<S, H>,
+    request: &Request,
+    now: u64,
+) -> Result<Items<Octets>, AllocError>
+    requires { IsRuling rules.now request.now Ruling.Refuse }
+    ensures { IfOk result (λ sent. (encoded : List (List ℕ)) ×
+        RequestServed rules.now (server_of H.ZoneHandler S.signature_for catalog.now) request.now now encoded catalog.now.zones ×
+        AreSent request.now.protocol (udp_limit rules.now) encoded sent) }
+{
+    let replies = refused(alloc, catalog.nsid(), request, now)?;
+    sent(alloc, request, rules.udp_limit(), replies)
+}
+
+/// What is sent to a request that is truncated.
+fn truncate<S: ReplySigner, H: ZoneHandler>(
+    alloc: Global,
+    rules: &Rules,
+    catalog: &Catalog<S, H>,
+    request: &Request,
+    now: u64,
+) -> Result<Items<Octets>, AllocError>
+    requires { IsRuling rules.now request.now Ruling.Truncate }
+    ensures { IfOk result (λ sent. (encoded : List (List ℕ)) ×
+        RequestServed rules.now (server_of H.ZoneHandler S.signature_for catalog.now) request.now now encoded catalog.now.zones ×
+        AreSent request.now.protocol (udp_limit rules.now) encoded sent) }
+{
+    let mut replies = Items::new(alloc);
+    replies.push(truncated(alloc, request)?)?;
+    sent(alloc, request, rules.udp_limit(), replies)
+}
+
+/// Want of memory before anything was handled.
+fn unhandled<T: Drop>(made: Result<T, AllocError>) -> Result<T, ServeError>
+    ensures ok { IfOk result (λ value. made ≡ Ok value) }
+    ensures err { IfErr result (λ e. e ≡ ServeError.Memory) }
+{
+    match made {
+        Ok(value) => Ok(value),
+        Err(_) => Err(ServeError::Memory),
+    }
+}
+
+/// What is sent to a request that passes.
+fn passed<S: ReplySigner, H: ZoneHandler>(
+    alloc: Global,
+    rules: &Rules,
+    catalog: &mut Catalog<S, H>,
+    request: &Request,
+    now: u64,
+) -> Result<Items<Octets>, ServeError>
+    requires { IsRuling rules.now request.now Ruling.Pass }
+    ensures others { catalog.new ≡ record catalog.old { zones = catalog.new.zones } }
+    ensures ok { IfOk result (λ sent. (encoded : List (List ℕ)) ×
+        RequestServed rules.now (server_of H.ZoneHandler S.signature_for catalog.old) request.now now encoded catalog.new.zones ×
+        AreSent request.now.protocol (udp_limit rules.now) encoded sent) }
+    ensures err { IfErr result (λ e. (sink : EncodedReplies) ×
+        LeavesRequest (server_of H.ZoneHandler S.signature_for catalog.old) request.now now sink e catalog.new.zones) }
+{
+    let replies = replies_to(alloc, catalog, request, now)?;
+    match sent(alloc, request, rules.udp_limit(), replies) {
+        Ok(sent) => Ok(sent),
+        Err(_) => Err(ServeError::MemoryAfterHandling),
+    }
+}
+
+/// What is sent to a request.
+fn answered<S: ReplySigner, H: ZoneHandler>(
+    alloc: Global,
+    rules: &Rules,
+    catalog: &mut Catalog<S, H>,
+    request: &Request,
+    now: u64,
+) -> Result<Items<Octets>, ServeError>
+    ensures others { catalog.new ≡ record catalog.old { zones = catalog.new.zones } }
+    ensures ok { IfOk result (λ sent. (encoded : List (List ℕ)) ×
+        RequestServed rules.now (server_of H.ZoneHandler S.signature_for catalog.old) request.now now encoded catalog.new.zones ×
+        AreSent request.now.protocol (udp_limit rules.now) encoded sent) }
+    ensures err { IfErr result (λ e. (sink : EncodedReplies) ×
+        LeavesRequest (server_of H.ZoneHandler S.signature_for catalog.old) request.now now sink e catalog.new.zones) }
+{
+    match rules.ruling(request) {
+        Ruling::Pass => passed(alloc, rules, catalog, request, now),
+        Ruling::Refuse => unhandled(refuse(alloc, rules, catalog, request, now)),
+        Ruling::Truncate => unhandled(truncate(alloc, rules, catalog, request, now)),
+    }
+}
+
+/// A request without a question, in whose place others are read.
+fn empty_request(alloc: Global) -> Result<Request, AllocError> {
+    let bytes = vec![in alloc; 0; HEADER_LEN]?;
+    let source = SocketAddr::new(IpAddr::V4(Ipv4Addr::LOCALHOST), 53);
+    match Request::from_bytes(alloc, bytes, source, Protocol::Udp) {
+        Ok(request) => Ok(request),
+        Err(_) => Err(AllocError),
+    }
+}
+
+/// A server: what it holds messages to, what it serves, and the request that it read last, in whose place it reads the next.
+#[derive(Drop)]
+pub struct Server<S: ReplySigner, H: ZoneHandler> {
+    /// What it holds every message to.
+    pub rules: Rules,
+    /// What it serves.
+    pub catalog: Catalog<S, H>,
+    request: Request,
+}
+
+impl<S: ReplySigner, H: ZoneHandler> Server<S, H> {
+    /// A server of these zones, by these rules.
+    pub fn new(
+        alloc: Global,
+        rules: Rules,
+        catalog: Catalog<S, H>,
+    ) -> Result<Server<S, H>, AllocError>
+        ensures rules { IfOk result (λ server. server.rules ≡ rules) }
+        ensures catalog { IfOk result (λ server. server.catalog ≡ catalog) }
+    {
+        Ok(Server {
+            rules,
+            catalog,
+            request: empty_request(alloc)?,
+        })
+    }
+
+    /// Serves one message, which came from this address over this transport, at this moment in seconds since 1970: what becomes of it.
+    /// Only an update changes the catalog.
+    ///
+    /// A message whose address may not use the server is denied; one that is shorter than a header, or begins with no message, is
+    /// unreadable; one with QR set is a response. None of these has a reply. A query of another class than IN and ANY is answered
+    /// Refused, and so is one for a transfer (AXFR, IXFR) from an address that may have none; any other transfer over UDP is answered
+    /// with TC and no records (RFC 5936 section 4.2). Over UDP no reply is longer than the client takes, nor than the limit of the rules.
+    ///
+    /// `Memory` says that the catalog is as before, and `MemoryAfterHandling` that the message was handled and its replies are missing.
+    pub fn serve(
+        &mut self,
+        alloc: Global,
+        bytes: &[u8],
+        src: SocketAddr,
+        protocol: Protocol,
+        now: u64,
+    ) -> Result<Answer, ServeError>
+        ensures rules { self.new.rules ≡ self.old.rules }
+        ensures others { self.new.catalog ≡ record self.old.catalog { zones = self.new.catalog.zones } }
+        ensures ok { IfOk result (λ answer. BytesServed self.old.rules (server_of H.ZoneHandler S.signature_for self.old.catalog) bytes.now src protocol now answer self.new.catalog.zones) }
+        ensures err { IfErr result (λ e. LeavesBytes self.old.rules (server_of H.ZoneHandler S.signature_for self.old.catalog) bytes.now src protocol now e self.new.catalog.zones) }
+    {
+        if !self.rules.access.allow(src.ip()) {
+            return Ok(Answer::Denied);
+        }
+        if bytes.len() < HEADER_LEN {
+            return Ok(Answer::Unreadable);
+        }
+        if is_response(bytes) {
+            return Ok(Answer::Response);
+        }
+        match self.request.read_in_place(alloc, bytes, src, protocol) {
+            Ok(()) => match answered(alloc, &self.rules, &mut self.catalog, &self.request, now) {
+                Ok(sent) => Ok(Answer::Replies(sent)),
+                Err(e) => Err(e),
+            },
+            Err(ProtoError::Memory) => Err(ServeError::Memory),
+            Err(_) => Ok(Answer::Unreadable),
+        }
+    }
+}
