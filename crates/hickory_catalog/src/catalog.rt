@@ -160,9 +160,9 @@ impl<S: ReplySigner, H: ZoneHandler> Catalog<S, H> {
     /// Where there is not just one question of type SOA the reply is FormErr, where its name is not itself the apex of a
     /// zone NotAuth (RFC 2136 section 3.1), and where the zone has no handlers ServFail. The class of the zone is not looked
     /// at. Else the first handler of the zone decides alone: a secondary one is answered NotImp, an external one NotAuth, and
-    /// a primary one makes the update or says why not. Nothing is forwarded (section 6). The reply has the id of the request
-    /// and opcode Update, no other flag than QR, the code and no records (section 3.8). It is signed as those of `lookup`
-    /// are.
+    /// a primary one makes the update or says why not. Nothing is forwarded (section 6). The reply has the id of the request,
+    /// opcode Update, the code and no records (section 3.8); of what a handler answered it has no other flag than QR, of what
+    /// the catalog answers itself the request's RD and CD too. It is signed as those of `lookup` are.
     ///
     /// Where the sink fails the answer tells of ServFail, and an update that was made stands. `Memory` says that nothing
     /// changed and no reply was handed over, `MemoryAfterUpdate` that the handler made the update, which stands, and no
