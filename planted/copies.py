@@ -8,6 +8,8 @@ import threading
 
 import crates
 import edits
+import functions
+import holes
 import verdicts
 
 # The groups of the processes that run now, each of which ends with this driver, and whether it is about to end.
@@ -42,14 +44,15 @@ class Copy:
 
     def __init__(self, name, texts, room, words, output, tell, kept=None):
         self.name, self.texts, self.room, self.words, self.output, self.tell = name, texts, room, words, output, tell
-        self.checks = 0
+        self.proofs, self.checks = holes.paths_of(functions.functions_in(texts)), 0
         if kept and os.path.isdir(kept):
             shutil.copytree(kept, f"{room}/kept")
         else:
             os.makedirs(f"{room}/kept")
 
-    def write(self, batch):
-        """Writes the crate's files anew, with the edits of a batch in them."""
+    def write(self, batch, is_whole):
+        """Writes the crate's files anew, with the edits of a batch in them, and unless it is to be proved whole with holes in the place of all proofs but
+        those that judge these edits."""
         shutil.rmtree(f"{self.room}/crate", ignore_errors=True)
         for part in crates.PARTS:
             if os.path.isdir(f"{crates.ROOT}/crates/{self.name}/{part}"):
@@ -57,10 +60,13 @@ class Copy:
         for path, text in edits.with_edits(self.texts, batch).items():
             with open(f"{self.room}/crate/{path}", "w", encoding="utf-8") as file:
                 file.write(text)
+        if not is_whole:
+            judges = {path for edit in batch for path in edit.judges}
+            holes.leave_open(f"{self.room}/crate", self.name, self.proofs - judges - set(map(holes.of_itself, judges)))
 
-    def check(self, batch, more):
+    def check(self, batch, is_whole, more):
         """Returns what the prover says of the crate with the edits of a batch in it."""
-        self.write(batch)
+        self.write(batch, is_whole)
         output, status = output_in(f"{self.room}/crate", [*self.words, "--incremental", f"{self.room}/kept", *more])
         self.checks += 1
         if self.output:
@@ -69,12 +75,18 @@ class Copy:
         return verdicts.read_output(output, status)
 
     def prove(self, batch, is_whole):
-        """Checks the whole crate with these edits, or what judges them and what that calls."""
+        """Checks the whole crate with these edits, or what judges them, against the contracts of all that this calls."""
         # (The proof of a cycle of calls belongs to no one function: the functions of the edits bring it along.)
         asked = sorted({path for edit in batch for path in edit.judges if not path.startswith("proofs/") and "+" not in path})
-        self.tell(f"-- {self.name}: {len(batch)} tried together{'' if is_whole else f', by {len(asked)} functions'}")
-        return self.check(batch, [] if is_whole else [word for path in asked for word in ("--only", path)])
+        self.tell(f"-- {self.name}: {len(batch)} tried {'in the whole crate' if is_whole else f'together, by {len(asked)} functions'}")
+        more = [] if is_whole else ["--allow-holes", *(word for path in asked for word in ("--only", path))]
+        said = self.check(batch, is_whole, more)
+        # (that a function calls itself is the prover's to know: it says so in seconds)
+        while said.misplaced & self.proofs:
+            self.proofs = {holes.of_itself(it) if it in said.misplaced else it for it in self.proofs}
+            said = self.check(batch, is_whole, more)
+        return said
 
     def reads(self, batch):
         """Asks the front end alone, in seconds."""
-        return self.check(batch, ["--only", ""])
+        return self.check(batch, True, ["--only", ""])

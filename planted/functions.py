@@ -5,12 +5,14 @@ from dataclasses import dataclass
 
 @dataclass
 class Function:
-    """A function: its path below the crate, its first and last line, from 0, and the path of the proof of the cycle of calls that it is in, if it is in one."""
+    """A function: its path below the crate, its first and last line, from 0, the path of the proof of the cycle of calls that it is in, if it is in one, and
+    whether it has a body, which a trait's method may lack."""
 
     path: str
     first: int
     last: int
     cycle: str = ""
+    has_body: bool = True
 
 
 CYCLE = re.compile(r" *#\[cycle\((\w+)\)\]")
@@ -80,6 +82,11 @@ def ends_at(rows, first, indent):
     return len(rows) - 1
 
 
+def has_body(rows, indent):
+    """Returns whether the function of these lines has a body: one that ends at the function's own indent, or stands in its line."""
+    return any(re.match(rf"{indent}(?!//)\S", it) and it.rstrip().endswith("}") for it in rows)
+
+
 def cycle_above(rows, at, module):
     """Returns the path of the proof of the cycle that the attributes right above a function name, or nothing."""
     while at and rows[at - 1].lstrip().startswith("#["):
@@ -114,7 +121,8 @@ def functions_of(path, text, homes, generic):
             until = min(ends_at(rows, at, start[1]), blocks[-1].last if blocks else len(rows))
             above = blocks[-1].path if blocks else "::".join(module_of(path))
             cycle = cycle_above(rows, at, module_of(path))
-            found.append(Function(f"{above}::{start[2]}".removeprefix("::"), at, until, cycle))
+            path_below = f"{above}::{start[2]}".removeprefix("::")
+            found.append(Function(path_below, at, until, cycle, has_body(rows[at : until + 1], start[1])))
         elif at > until and block:
             name, is_own = block[2] or block[3], True
             if not name:

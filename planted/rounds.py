@@ -2,10 +2,6 @@
 from dataclasses import dataclass
 
 
-# The first round of a crate proves it whole where one in so many of its functions is changed.
-PART = 4
-
-
 @dataclass
 class Answer:
     """What became of an edit: whether the prover refuses it, as it must, and where, or what is wrong with it."""
@@ -13,12 +9,6 @@ class Answer:
     edit: str
     is_refused: bool
     text: str
-
-
-def begins_whole(edits, count):
-    """Whether the first round proves the whole of a crate of so many functions: where most of it is asked for sooner or later, the later rounds then find it
-    proved. For a few edits less is proved by asking for their functions, which brings along what these call."""
-    return len({path for edit in edits for path in edit.functions}) * PART >= count
 
 
 def together(edits, most):
@@ -67,8 +57,8 @@ def answer_alone(edit, said):
 
 
 class Rounds:
-    """Tries edits. `prove(batch, is_whole)` checks the crate with the edits of a batch, the whole of it or what judges them, and `reads(batch)` asks the
-    front end alone."""
+    """Tries edits. `prove(batch, is_whole)` checks the crate with the edits of a batch, the whole of it or what judges them alone, and `reads(batch)` asks
+    the front end."""
 
     def __init__(self, prove, reads, tell):
         self.prove, self.reads, self.tell = prove, reads, tell
@@ -102,19 +92,18 @@ class Rounds:
             return []
         return [it for it in batch if it not in [edit for edit, _ in bad]]
 
-    def run(self, edits, is_whole):
-        """Returns an answer for each of the edits. Where `is_whole` is set, the first round checks the whole crate."""
+    def run(self, edits):
+        """Returns an answer for each of the edits."""
         for edit in edits:
             if edit.fault:
                 self.answer(Answer(edit.name, False, edit.fault))
-        # (those that are tried by themselves come last: what the others have proved is kept by then)
         left, most = sorted((it for it in edits if not it.fault), key=lambda it: it.is_apart), len(edits)
         while left:
             batch = together(left, most)
-            said = self.prove(batch, is_whole and len(batch) > 1)
+            said = self.prove(batch, False)
             left = [it for it in left if it not in batch]
             if said.is_judged:
-                left, is_whole = left + self.judged(batch, said), False
+                left = left + self.judged(batch, said)
             else:
                 rest = self.rejected(batch, said)
                 most = most if len(rest) < len(batch) else max(1, len(batch) // 2)
