@@ -44,25 +44,27 @@ class Copy:
 
     def __init__(self, name, texts, room, words, output, tell, kept=None):
         self.name, self.texts, self.room, self.words, self.output, self.tell = name, texts, room, words, output, tell
-        self.proofs, self.checks = holes.paths_of(functions.functions_in(texts)), 0
+        self.functions, self.checks = functions.functions_in(texts), 0
         if kept and os.path.isdir(kept):
             shutil.copytree(kept, f"{room}/kept")
         else:
             os.makedirs(f"{room}/kept")
 
     def write(self, batch, is_whole):
-        """Writes the crate's files anew, with the edits of a batch in them, and unless it is to be proved whole with holes in the place of all proofs but
-        those that judge these edits."""
+        """Writes the crate's files anew, with the edits of a batch in them, and unless it is to be proved whole with all functions left open but those whose
+        proofs judge these edits."""
         shutil.rmtree(f"{self.room}/crate", ignore_errors=True)
         for part in crates.PARTS:
             if os.path.isdir(f"{crates.ROOT}/crates/{self.name}/{part}"):
                 shutil.copytree(f"{crates.ROOT}/crates/{self.name}/{part}", f"{self.room}/crate/{part}")
-        for path, text in edits.with_edits(self.texts, batch).items():
+        texts, left = edits.with_edits(self.texts, batch), {}
+        if not is_whole:
+            left = holes.open_in(self.functions, {path for edit in batch for path in edit.judges})
+            texts = {path: holes.without_bodies(texts.get(path, text), left[path]) for path, text in self.texts.items()}
+        for path, text in texts.items():
             with open(f"{self.room}/crate/{path}", "w", encoding="utf-8") as file:
                 file.write(text)
-        if not is_whole:
-            judges = {path for edit in batch for path in edit.judges}
-            holes.leave_open(f"{self.room}/crate", self.name, self.proofs - judges - set(map(holes.of_itself, judges)))
+        holes.leave_open(f"{self.room}/crate", self.name, [it for found in left.values() for it in found])
 
     def check(self, batch, is_whole, more):
         """Returns what the prover says of the crate with the edits of a batch in it."""
@@ -80,12 +82,7 @@ class Copy:
         asked = sorted({path for edit in batch for path in edit.judges if not path.startswith("proofs/") and "+" not in path})
         self.tell(f"-- {self.name}: {len(batch)} tried {'in the whole crate' if is_whole else f'together, by {len(asked)} functions'}")
         more = [] if is_whole else ["--allow-holes", *(word for path in asked for word in ("--only", path))]
-        said = self.check(batch, is_whole, more)
-        # (that a function calls itself is the prover's to know: it says so in seconds)
-        while said.misplaced & self.proofs:
-            self.proofs = {holes.of_itself(it) if it in said.misplaced else it for it in self.proofs}
-            said = self.check(batch, is_whole, more)
-        return said
+        return self.check(batch, is_whole, more)
 
     def reads(self, batch):
         """Asks the front end alone, in seconds."""

@@ -1,20 +1,40 @@
-"""Holes in the place of proofs. A function is judged against the contracts of what it calls, so where one is edited the proofs of all others can be left
-open: the prover then takes them by their contracts, and proves none of them."""
+"""Holes in the place of proofs. A function is judged against the contracts of what it calls, so where one is edited all others can be left open: without a
+body, and with a hole for a proof. The prover takes them by their contracts, and neither proves them nor looks at what they call."""
 import os
+import re
 
 PROOFS = ("Answers", "Invariants", "Proof")
+# The body of a function that is left open.
+NOTHING = "unreachable!()"
 
 
-def paths_of(functions):
-    """Returns the paths of all that has a proof, of the functions of a crate by file: functions, and the cycles of calls that some of them are in."""
-    every = [it for found in functions.values() for it in found if it.has_body]
-    return {it.cycle or it.path for it in every}
+def open_in(functions, judges):
+    """Returns the functions of a crate, by file, that have a body and are not among those whose proofs judge edits."""
+    return {path: [it for it in found if it.has_body and not {it.path, it.cycle} & judges] for path, found in functions.items()}
 
 
 def of_itself(path):
     """Returns the path of the cycle that a function which calls itself makes alone."""
     above, found, name = path.rpartition("::")
     return f"{above}{found}+{name}"
+
+
+def body_in(rows, function):
+    """Returns the first line of a function's body and the line behind its last, where the braces around it end or are lines at the function's own indent."""
+    indent = re.match(" *", rows[function.first])[0]
+    opens = [at for at in range(function.first, function.last) if re.match(rf"{indent}(?:(?!//)\S.* )?{{$", rows[at])]
+    return (opens[0] + 1, function.last) if opens and rows[function.last] == indent + "}" else (0, 0)
+
+
+def without_bodies(text, functions):
+    """Returns the text of a file with nothing in the bodies of these functions of it, and all other lines where they were. One that a constant may call, or
+    that is in a cycle of calls, keeps its body."""
+    rows = text.split("\n")
+    for it in functions:
+        first, end = body_in(rows, it)
+        if first < end and not it.cycle and "const fn" not in rows[it.first]:
+            rows[first:end] = [NOTHING] + [""] * (end - first - 1)
+    return "\n".join(rows)
 
 
 def text_of(crate, path):
@@ -25,13 +45,20 @@ def text_of(crate, path):
     return f"use {home}.{{statement}}\n\npub {name}_spec : {{M : Type 1}} → statement M\n{name}_spec 𝓤 𝓛 𝓜 𝓡 wired = ?\n"
 
 
-def leave_open(folder, crate, paths):
-    """Puts holes in the place of the proofs of these functions and cycles of a crate that stands in a folder."""
-    for path in paths:
+def remove_proof(folder, path):
+    for name in PROOFS:
+        file = os.path.join(folder, "proofs", *path.split("::"), f"{name}.antt")
+        if os.path.isfile(file):
+            os.remove(file)
+
+
+def leave_open(folder, crate, functions):
+    """Puts holes in the place of the proofs of these functions of a crate that stands in a folder, and of the cycles that they are in."""
+    for path in {it.cycle or it.path for it in functions}:
+        remove_proof(folder, path)
+        # (without its body a function calls itself no more)
+        remove_proof(folder, of_itself(path))
         home = os.path.join(folder, "proofs", *path.split("::"))
         os.makedirs(home, exist_ok=True)
-        for name in PROOFS:
-            if os.path.isfile(f"{home}/{name}.antt"):
-                os.remove(f"{home}/{name}.antt")
         with open(f"{home}/Proof.antt", "w", encoding="utf-8") as file:
             file.write(text_of(crate, path))

@@ -88,7 +88,7 @@ class Rounds:
         for edit, why in bad:
             self.answer(Answer(edit.name, False, f"DOES NOT READ: {why.first}"))
         if not bad and len(batch) == 1:
-            self.answer(Answer(batch[0].name, False, f"NOT TRIED: {said.first}"))
+            self.alone += batch
             return []
         return [it for it in batch if it not in [edit for edit, _ in bad]]
 

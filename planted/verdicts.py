@@ -10,8 +10,6 @@ FUNCTION = re.compile(r"fn \w+::(\S+): (.*)")
 # What a proof file says where the edit took away a name that it cites: this shows nothing of a contract.
 NAMES_ALONE = re.compile(r"was not admitted|is not in scope|has no field|has no `|is no name|(is|was) not found")
 UNREAD = re.compile(r"(?:\./)?(?:src|specs)/\S+?:\d+:\d+: error")
-# What is said where a proof stands at the path of a function that calls itself: the proof of its cycle of calls stands elsewhere.
-MISPLACED = re.compile(r"(?:\./)?proofs/(\S+)/Proof\.antt: error\[reserved-name\]")
 VERDICT = re.compile(r"logic=(proved|not-proved)\b|only=\d+ (proved|holes)=\d+")
 # What is said of a function that is proved, also where a proof that it stands on was left open.
 HOLDS = re.compile(r"proved$|no holes$|depends on a hole in ")
@@ -33,8 +31,6 @@ class Said:
     # Of each function that only the borrow checker holds up: the line that says so.
     uncovered: dict = field(default_factory=dict)
     proved: set = field(default_factory=set)
-    # The functions whose proofs stand at a wrong place, since they call themselves.
-    misplaced: set = field(default_factory=set)
     first: str = ""
 
 
@@ -91,7 +87,6 @@ def read_output(output, status):
     said.is_rejected = status == 1 and not said.is_judged
     for message in joined(lines):
         read_message(said, message)
-    said.misplaced = {found[1].replace("/", "::") for found in map(MISPLACED.match, lines) if found}
     told = [it for it in lines if TOLD.match(it)]
     # (a note on how a proof is written says least of why the check ended as it did)
     said.first = next((it for it in told if ": note: " not in it), next(iter(told), lines[0] or "it said nothing"))
