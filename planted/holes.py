@@ -9,8 +9,10 @@ NOTHING = "unreachable!()"
 
 
 def open_in(functions, judges):
-    """Returns the functions of a crate, by file, that have a body and are not among those whose proofs judge edits."""
-    return {path: [it for it in found if it.has_body and not {it.path, it.cycle} & judges] for path, found in functions.items()}
+    """Returns the functions of a crate, by file, that have a body and are not among those whose proofs judge edits. A program's `main` is none of them: nothing
+    calls it, so it is not looked at."""
+    left = lambda it: it.has_body and it.path != "main" and not {it.path, it.cycle} & judges
+    return {path: list(filter(left, found)) for path, found in functions.items()}
 
 
 def of_itself(path):
