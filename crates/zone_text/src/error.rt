@@ -1,5 +1,6 @@
 //! Why a text could not be read.
 
+use crate::zone_file::fault::FaultWord;
 use std::alloc::{AllocError, AllocFailed};
 use thiserror::Error;
 
@@ -141,11 +142,15 @@ pub enum ZoneFileFault {
 #[derive(Clone, Copy, Debug, PartialEq, Eq, Error)]
 pub enum ZoneFileError {
     /// Something is wrong with the file.
-    #[error("line {line}: {fault}")]
+    #[error("line {line}, column {column}: {fault}{word}")]
     At {
-        /// Which line the wrong field begins on; the first is 1. Where a field is missing, the line that ends the entry; where a quote or a
-        /// parenthesis is not closed, the line where it opens.
+        /// Which line it begins on; the first is 1. Where a field is missing, the line that ends the entry; where a quote or a parenthesis is
+        /// not closed, the line where it opens.
         line: usize,
+        /// Which byte of the line it begins with; the first is 1. Where a field is missing, the one behind the last.
+        column: usize,
+        /// The field from there on, as the file has it; none where a field is missing.
+        word: FaultWord,
         /// What is wrong.
         fault: ZoneFileFault,
     },

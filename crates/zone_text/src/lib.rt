@@ -20,4 +20,5 @@ pub use error::{TextError, TextFault, ZoneFileError, ZoneFileFault};
 pub use message::MessageText;
 pub use names::read_name;
 pub use record::read_record;
+pub use zone_file::fault::FaultWord;
 pub use zone_file::read_zone_file;

@@ -292,6 +292,27 @@ fn quoted_word<'a>(text: &'a [u8], start: usize) -> Result<(Word<'a>, usize), Te
     Ok((word, end + 1))
 }
 
+/// Where the field ends of which the byte stands at this place of a zone file: a parenthesis is a field of one byte, and at a blank or the end of the
+/// text there is none.
+pub(crate) fn field_end(text: &[u8], place: usize) -> usize
+    requires { place ≤ length text.now }
+    ensures on { place ≤ result }
+    ensures within { result ≤ length text.now }
+{
+    if place == text.len() || is_blank(text[place]) {
+        return place;
+    }
+    if place > 0 && text[place - 1] == b'"' {
+        if let Some(end) = quote_place(text, place) {
+            return end;
+        }
+    }
+    if ends_field(TextKind::ZoneFile, text[place]) {
+        return place + 1;
+    }
+    plain_end(TextKind::ZoneFile, text, place)
+}
+
 impl<'a> Words<'a> {
     /// The front of a line.
     pub(crate) fn new(line: &'a str) -> Words<'a>

@@ -1,7 +1,7 @@
 //! Zone files (RFC 1035 section 5.1).
 
 mod entry;
-mod fault;
+pub(crate) mod fault;
 
 ghost use Rattle.std.specs.Prelude.{◌≡◌, ◌≤◌, ◌<◌, length, All, IfOk};
 ghost use Rattle.zone_text.specs.ZoneFiles.{IsEntryFrom, IsZoneFile, IsZoneRecord, first_entry};
@@ -70,12 +70,12 @@ fn read_entries(alloc: Global, text: &[u8], origin: &Name) -> Result<Items<Recor
 /// blank, or `$ORIGIN` and a name, or `$TTL` and a TTL (RFC 2308 section 4), or a record: owner name, TTL, class, type and data. A line
 /// that begins with a blank has the owner name of the record before. TTL and class stand in either order, and either may be left out; the
 /// class is IN. A record without a TTL has that of the last `$TTL`, else that of the record before; an SOA record that has neither has its own
-/// minimum. A TTL is a number of seconds, or numbers with a unit behind each, one of `s`, `m`, `h`, `d` and `w` in either letter case. Names, in the data too, that have no dot at
-/// their end are relative to the origin, at first the one that is given, which is taken as fully qualified; `@` is the origin itself. What
-/// data are made of is told at [`read_data`](crate::read_data).
+/// minimum. A TTL is a number of seconds, or numbers with a unit behind each, one of `s`, `m`, `h`, `d` and `w` in either letter case. Names, in the
+/// data too, that have no dot at their end are relative to the origin, at first the one that is given, which is taken as fully qualified; `@` is the
+/// origin itself. What data are made of is told at [`read_data`](crate::read_data).
 ///
-/// The first fault ends it, with its line; `$INCLUDE` is one. Nothing is asked of the records together: that they make one zone, at the
-/// origin or below it, is for those who use them.
+/// The first fault ends it, with its line and column and the field; `$INCLUDE` is one. Nothing is asked of the records together: that they make
+/// one zone, at the origin or below it, is for those who use them.
 pub fn read_zone_file(
     alloc: Global,
     text: &str,

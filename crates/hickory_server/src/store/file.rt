@@ -53,7 +53,7 @@ fn records_fault(e: RecordsError) -> ZoneError
 
 /// The zone of this apex that a text has, as [`read_zone_file`] reads it and [`zone_of_records`] makes it of the records.
 ///
-/// The first entry that is wrong is told with its line. Where all can be read, the first record is told that is wrong in the zone, by its
+/// The first entry that is wrong is told with line, column and field. Where all can be read, the first record is told that is wrong in the zone, by its
 /// number, and then whether there is no SOA record at the apex, or more than one.
 pub fn read_zone(
     alloc: Global,
