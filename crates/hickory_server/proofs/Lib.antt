@@ -1,4 +1,5 @@
 pub mod DecodedOutcomes
 pub mod Isolation
+pub mod KeptZones
 pub mod MadeReplies
 pub mod Runs

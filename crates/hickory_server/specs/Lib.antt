@@ -1,5 +1,6 @@
 pub mod DecodedOutcomes
 pub mod Isolation
+pub mod KeptZones
 pub mod Serving
 pub mod ZoneOfText
 pub mod ZoneReplies
