@@ -2,7 +2,7 @@
 use Rattle.std.proofs.Common.{◌≡◌, ℕ, ◌+◌, ◌-◌, ◌≤◌, List, [], ◌∷◌, length, take, drop, Option, ap, sym, subst, arith}
 use Rattle.std.proofs.lemmas.List.{length-take}
 use Rattle.std.specs.List.{AllByRecursion, AllZip}
-use Rattle.wire_names.specs.rr.domain.DomainName.{DomainName, name_len}
+use Rattle.wire_names.specs.rr.domain.DomainName.{name_len}
 use Rattle.wire_messages.specs.op.EdnsFields.{EdnsFields}
 use Rattle.wire_messages.specs.declared.op.query.Query.{Query}
 use Rattle.wire_messages.specs.declared.protocol.Protocol.{Protocol}
@@ -12,7 +12,6 @@ use Rattle.wire_messages.specs.serialize.layout.NameLayout.LabelsAt.{at_end, at_
 use Rattle.wire_messages.specs.serialize.layout.QuestionLayout.{QuestionAt}
 use Rattle.wire_messages.specs.serialize.writing.Reply.{Reply, size_limit}
 use Rattle.wire_reading.specs.serialize.layout.WholeMessage.{MessageAt}
-use Rattle.access_control.specs.Access.{AccessSets}
 use Rattle.hickory_base.specs.requests.RepeatableQuestions.{AreRepeatable, HasRepeatableQuestions}
 use Rattle.hickory_base.specs.requests.RequestReading.{IsQuestionSection, message_of}
 use Rattle.hickory_base.specs.requests.Requests.{ReceivedRequest}
@@ -20,15 +19,9 @@ use Rattle.hickory_base.specs.responses.EncodingSinks.{IsEncodingOf}
 use Rattle.hickory_base.specs.declared.zone_store.handler.ZoneHandler.{Ghosts}
 use Rattle.hickory_catalog.specs.DecodedReplies.{CatalogReplyDecodes, RepliesTo, ReplyEdnsFits, RequestRepliesFit}
 use Rattle.hickory_catalog.specs.ReplyEdns.{reply_edns, with_high_code}
-use Rattle.hickory_catalog.specs.Requests.{RequestAnswered}
-use Rattle.hickory_catalog.specs.Server.{server_of}
 use Rattle.hickory_catalog.specs.Signing.{Signer}
-use Rattle.hickory_catalog.specs.declared.catalog.Catalog.{Catalog}
-use Rattle.hickory_server.specs.DecodedOutcomes.{AnswersReadBack, IsReadBack, OneQuestionHasRoom, OutcomeReadsBack, StepsReadBack}
-use Rattle.hickory_server.specs.Serving.{Step, denied, handled, unreadable}
-use Rattle.hickory_server.specs.declared.server.serve.Incoming.{Incoming}
-use Rattle.hickory_server.specs.declared.server.serve.Outcome.{Outcome}
-use Rattle.hickory_server.specs.declared.server.serve.Outcome.TheVariants.{Denied, Replies, Unreadable}
+use Rattle.hickory_server.specs.DecodedOutcomes.{AnswersReadBack, IsReadBack, OneQuestionHasRoom, StepsReadBack}
+use Rattle.hickory_server.specs.Serving.{denied, handled, unreadable}
 
 -- the questions of a request that was read can be repeated
 abbrev pub Repeats : Type 0

@@ -86,7 +86,7 @@ module _ {S H : Type 0} (handler : Ghosts H) (signature_for : S → Signer) (acc
           nearest = to.of_zone.nearest;
         }
 
-    step_alone : (zones between : List (DomainName × List H)) (message : Incoming) (outcome : Outcome) (chain : List H) → AreInOrder zones → IsToZone access zones (apex, chain) message
+    pub step_alone : (zones between : List (DomainName × List H)) (message : Incoming) (outcome : Outcome) (chain : List H) → AreInOrder zones → IsToZone access zones (apex, chain) message
         → Step access (record server { zones = zones }) message outcome between
         → (chain' : List H) × Step access (record server { zones = (apex, chain) ∷ [] }) message outcome ((apex, chain') ∷ []) × Contains between (apex, chain')
     step_alone zones between message outcome chain sorted to (denied refuses _ _) = absurd (refuses to.allowed)
@@ -99,7 +99,7 @@ module _ {S H : Type 0} (handler : Ghosts H) (signature_for : S → Signer) (acc
     keeps : (zones between : List (DomainName × List H)) (chain : List H) → between ≡ zones → Contains zones (apex, chain) → Contains between (apex, chain)
     keeps zones between chain kept among = subst (λ (zs : List (DomainName × List H)). Contains zs (apex, chain)) (sym kept) among
 
-    step_stays : (zones between : List (DomainName × List H)) (message : Incoming) (outcome : Outcome) (chain : List H) → Contains zones (apex, chain) → ¬ (IsToZone access zones (apex, chain) message)
+    pub step_stays : (zones between : List (DomainName × List H)) (message : Incoming) (outcome : Outcome) (chain : List H) → Contains zones (apex, chain) → ¬ (IsToZone access zones (apex, chain) message)
         → Step access (record server { zones = zones }) message outcome between → Contains between (apex, chain)
     step_stays zones between message outcome chain among other (denied _ _ kept) = keeps zones between chain kept among
     step_stays zones between message outcome chain among other (unreadable _ _ _ kept) = keeps zones between chain kept among

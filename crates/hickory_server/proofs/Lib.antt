@@ -1,6 +1,7 @@
 pub mod BytesServed
 pub mod DecodedOutcomes
 pub mod Isolation
+pub mod KeptZones
 pub mod MadeReplies
 pub mod Refusals
 pub mod Results

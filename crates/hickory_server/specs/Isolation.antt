@@ -5,7 +5,7 @@ use Rattle.wire_names.specs.rr.domain.DomainName.{DomainName}
 use Rattle.access_control.specs.Access.{AccessSets, IsAllowed}
 use Rattle.hickory_base.specs.requests.Requests.{ReceivedRequest}
 use Rattle.hickory_base.specs.declared.zone_store.handler.ZoneHandler.{Ghosts}
-use Rattle.hickory_catalog.specs.Alone.{IsOfZone}
+use Rattle.hickory_catalog.specs.Alone.{IsOfZone, alone}
 use Rattle.hickory_catalog.specs.Server.{Server, server_of}
 use Rattle.hickory_catalog.specs.Signing.{Signer}
 use Rattle.hickory_catalog.specs.Zones.{AreInOrder}
@@ -20,6 +20,19 @@ pub record IsToZone {V : Type 0} (access : AccessSets) (zones : List (DomainName
   pub request : ReceivedRequest
   pub is_request : IsRequestOf message request
   pub of_zone : IsOfZone zones request zone
+
+-- What becomes of a message to a zone, and the zone after it, is what becomes of it at a server of that zone alone.
+abbrev pub StepIsAlone : {S H : Type 0} → Ghosts H → (S → Signer) → Type 0
+StepIsAlone {S} {H} handler signature_for = (access : AccessSets) (catalog : Catalog S H) (zone : DomainName × List H) (message : Incoming) (outcome : Outcome) (after : List (DomainName × List H))
+    → AreInOrder catalog.zones → IsToZone access catalog.zones zone message
+    → Step access (server_of handler signature_for catalog) message outcome after
+    → (chain : List H) × Step access (alone (server_of handler signature_for catalog) zone) message outcome ((zone.0, chain) ∷ []) × Contains after (zone.0, chain)
+
+-- A message that is not to a zone leaves it as it was.
+abbrev pub StepLeavesOthers : {S H : Type 0} → Ghosts H → (S → Signer) → Type 0
+StepLeavesOthers {S} {H} handler signature_for = (access : AccessSets) (catalog : Catalog S H) (zone : DomainName × List H) (message : Incoming) (outcome : Outcome) (after : List (DomainName × List H))
+    → Contains catalog.zones zone → ¬ (IsToZone access catalog.zones zone message)
+    → Step access (server_of handler signature_for catalog) message outcome after → Contains after zone
 
 -- What becomes of messages, one after the other, and which of them are to the zone of this apex, with what becomes of those.
 pub data RunBeside {H : Type 0} (access : AccessSets) (server : Server H) (apex : DomainName)

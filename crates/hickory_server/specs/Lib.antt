@@ -1,5 +1,6 @@
 pub mod DecodedOutcomes
 pub mod Isolation
+pub mod KeptZones
 pub mod Ruling
 pub mod ServedBy
 pub mod ServedLaws

@@ -8,7 +8,7 @@ ghost use Rattle.hickory_catalog.specs.Requests.{RequestAnswered};
 ghost use Rattle.hickory_catalog.specs.Server.{server_of};
 ghost use Rattle.hickory_catalog.specs.Zones.{AreInOrder};
 ghost use Rattle.hickory_server.specs.DecodedOutcomes.{AnswersReadBack, OneQuestionHasRoom, StepsReadBack};
-ghost use Rattle.hickory_server.specs.Isolation.{BesideIsARun, EachRunIsBeside, EachRunIsIsolated, OneWayBeside, ZonesAreIsolated};
+ghost use Rattle.hickory_server.specs.Isolation.{BesideIsARun, EachRunIsBeside, EachRunIsIsolated, OneWayBeside, StepIsAlone, StepLeavesOthers, ZonesAreIsolated};
 ghost use Rattle.hickory_server.specs.Serving.{LeavesRequest, LeavesUnserved, Run, RunFailed, Step};
 
 use hickory_base::access::AccessControl;
@@ -197,8 +197,10 @@ pub fn replies_read_back<S: ReplySigner, H: ZoneHandler>()
 
 /// Each zone of a server is served as if it were the only one: what becomes of the messages to it, and the zone after them, is what becomes of them
 /// where they come alone to a server of that zone alone, with the same identifier and signer. Which messages of a run these are
-/// is decided, and in one way.
+/// is decided, and in one way. So it is of one message (`step`), and one that is not to a zone leaves the zone as it was (`stays`).
 pub fn zones_are_isolated<S: ReplySigner, H: ZoneHandler>()
+    ensures step { StepIsAlone H.ZoneHandler S.signature_for }
+    ensures stays { StepLeavesOthers H.ZoneHandler S.signature_for }
     ensures isolated { ZonesAreIsolated H.ZoneHandler S.signature_for }
     ensures run { BesideIsARun H.ZoneHandler S.signature_for }
     ensures beside { EachRunIsBeside H.ZoneHandler S.signature_for }
