@@ -1,6 +1,7 @@
 mod Catalogs
 mod Networks
 mod Results
+mod Said
 mod Sent
 mod ServedLines
 mod Streams

@@ -1,5 +1,8 @@
 //! What the program is started with.
 
+ghost use Rattle.std.specs.Prelude.{◌≡◌, [], IfOk, IfSome, OnOk, map, string_bytes};
+ghost use Rattle.zone_serve.specs.Arguments.{ArgumentsSay, IsBound, IsZoneText, OptionsSay, Takes, mode_word};
+
 use hickory_server::access::{IpNet, IpNetTextError};
 use std::alloc::{AllocError, AllocFailed, Global};
 use thiserror::Error;
@@ -157,7 +160,9 @@ pub struct Settings<'a> {
 }
 
 /// The mode of this name.
-fn mode_named(name: &str) -> Option<Mode> {
+fn mode_named(name: &str) -> Option<Mode>
+    ensures { IfSome result (λ mode. name.now ≡ mode_word mode) }
+{
     match name {
         "udp" => Some(Mode::Udp),
         "tcp" => Some(Mode::Tcp),
@@ -209,16 +214,30 @@ fn network<'a>(text: &str, place: usize) -> Result<IpNet, ArgumentFault<'a>> {
 }
 
 /// The bound on replies over UDP that an argument spells.
-fn max_udp<'a>(text: &str, place: usize) -> Result<u16, ArgumentFault<'a>> {
+fn max_udp<'a>(text: &str, place: usize) -> Result<u16, ArgumentFault<'a>>
+    ensures { IfOk result (IsBound text.now) }
+{
     match text.parse::<u16>() {
         Ok(size) if size >= 512 => Ok(size),
         _ => Err(ArgumentFault::MaxUdp { place }),
     }
 }
 
+/// The zone that an argument tells.
+fn zone_argument<'a>(text: &'a str, place: usize) -> Result<ZoneArgument<'a>, ArgumentFault<'a>>
+    ensures { IfOk result (IsZoneText text.now) }
+{
+    match text.split_once('=') {
+        Some((name, file)) => Ok(ZoneArgument { name, file, place }),
+        None => Err(ArgumentFault::NoFile { place }),
+    }
+}
+
 impl<'a> Settings<'a> {
     /// No options.
-    fn new(alloc: Global) -> Settings<'a> {
+    fn new(alloc: Global) -> Settings<'a>
+        ensures { OptionsSay [] result }
+    {
         Settings {
             zones: Vec::new(alloc),
             blocklists: Vec::new(alloc),
@@ -230,25 +249,13 @@ impl<'a> Settings<'a> {
         }
     }
 
-    /// Puts a zone behind the others.
-    fn put_zone(&mut self, text: &'a str, place: usize) -> Result<(), ArgumentFault<'a>> {
-        let Some((name, file)) = text.split_once('=') else {
-            return Err(ArgumentFault::NoFile { place });
-        };
-        self.zones.push(ZoneArgument { name, file, place })?;
-        Ok(())
-    }
-
     /// Takes the option at this place and what stands behind it.
-    fn put(
-        &mut self,
-        option: &'a str,
-        text: &'a str,
-        place: usize,
-    ) -> Result<(), ArgumentFault<'a>> {
+    fn put(&mut self, option: &'a str, text: &'a str, place: usize) -> Result<(), ArgumentFault<'a>>
+        ensures { OnOk result (Takes option.now text.now self.old self.new) }
+    {
         let behind = place.saturating_add(1);
         match option {
-            "--zone" => self.put_zone(text, behind)?,
+            "--zone" => self.zones.push(zone_argument(text, behind)?)?,
             "--blocklist" => self.blocklists.push(text)?,
             "--allow" => self.allowed.push(network(text, behind)?)?,
             "--deny" => self.denied.push(network(text, behind)?)?,
@@ -261,7 +268,9 @@ impl<'a> Settings<'a> {
     }
 
     /// What arguments say: options, each with what stands behind it, and then the mode.
-    pub fn read(alloc: Global, arguments: &'a [String]) -> Result<Settings<'a>, ArgumentFault<'a>> {
+    pub fn read(alloc: Global, arguments: &'a [String]) -> Result<Settings<'a>, ArgumentFault<'a>>
+        ensures { IfOk result (ArgumentsSay (map string_bytes arguments.now)) }
+    {
         let mut settings = Settings::new(alloc);
         let mut rest = arguments;
         let mut place = 1usize;

@@ -1,0 +1,203 @@
+-- What options say, one after the other.
+use Rattle.std.proofs.Common.{◌≡◌, ◌∙◌, ◌++◌, ◌∷◌, ◌+◌, [], ℕ, List, Bool, true, false, cond, length, map, refl, sym, ap, subst, arith, Bor, Option, Some, None}
+use Rattle.std.proofs.lemmas.List.{append-nil, length-append, map-append}
+use Rattle.std.specs.Prelude.{Contains, codes, is_some, nat_eq, option_map}
+use Rattle.std.specs.Cmp.Lexicographic.{pointwise}
+use Rattle.std.specs.List.{AllByRecursion, AllZip, filter}
+use Rattle.std.specs.Option.{option_to_list}
+use Rattle.access_control.specs.Access.{Network}
+use Rattle.zone_serve.specs.Arguments.{IsBound, IsZoneText, Options, OptionsSay, behind, bounds_of, files_of, identifiers_of, option_names, words_of}
+use Rattle.zone_serve.specs.declared.arguments.Settings.{Settings}
+use Rattle.zone_serve.specs.declared.arguments.ZoneArgument.{ZoneArgument}
+
+abbrev pub Text : Type 0
+Text = List ℕ
+
+-- the text, where the option is of this name
+abbrev pub given : Text → Text → Text → List Text
+given name option text = cond (pointwise nat_eq option name) (text ∷ []) []
+
+behind_more : (name : Text) (options : Options) (option text : Text) → behind name (options ++ (option, text) ∷ []) ≡ behind name options ++ given name option text
+behind_more name [] option text = last (pointwise nat_eq option name) where
+  last : (b : Bool) → map (λ (o : Text × Text). o.1) (cond b ((option, text) ∷ []) []) ≡ cond b (text ∷ []) []
+  last true = refl
+  last false = refl
+behind_more name (o ∷ options) option text = step (pointwise nat_eq o.0 name) (behind_more name options option text) where
+  step : (b : Bool) → behind name (options ++ (option, text) ∷ []) ≡ behind name options ++ given name option text
+      → map (λ (p : Text × Text). p.1) (cond b (o ∷ filter (λ (p : Text × Text). pointwise nat_eq p.0 name) (options ++ (option, text) ∷ [])) (filter (λ (p : Text × Text). pointwise nat_eq p.0 name) (options ++ (option, text) ∷ [])))
+      ≡ map (λ (p : Text × Text). p.1) (cond b (o ∷ filter (λ (p : Text × Text). pointwise nat_eq p.0 name) options) (filter (λ (p : Text × Text). pointwise nat_eq p.0 name) options)) ++ given name option text
+  step true more = ap (λ (l : List Text). o.1 ∷ l) more
+  step false more = more
+
+pub words_more : (options : Options) (option text : Text) → words_of (options ++ (option, text) ∷ []) ≡ words_of options ++ option ∷ text ∷ []
+words_more [] option text = refl
+words_more (o ∷ options) option text = ap (λ (l : List Text). o.0 ∷ o.1 ∷ l) (words_more options option text)
+
+known_more : (options : Options) (option text : Text) → AllByRecursion (λ (o : Text × Text). Contains option_names o.0) options → Contains option_names option
+    → AllByRecursion (λ (o : Text × Text). Contains option_names o.0) (options ++ (option, text) ∷ [])
+known_more [] option text all one = (one, tt)
+known_more (o ∷ options) option text all one = (all.0, known_more options option text all.1 one)
+
+zip_more : {A B : Type 0} (R : A → B → Type 0) (xs more : List A) (ys others : List B) → AllZip R xs ys → AllZip R more others → AllZip R (xs ++ more) (ys ++ others)
+zip_more R [] more [] others all behind_them = behind_them
+zip_more R [] more (y ∷ ys) others all behind_them = absurd all
+zip_more R (x ∷ xs) more [] others all behind_them = absurd all
+zip_more R (x ∷ xs) more (y ∷ ys) others all behind_them = (all.0, zip_more R xs more ys others all.1 behind_them)
+
+-- how the settings grow by an option
+pub record Gives (option text : Text) (old new : Settings) : Type 0 where
+  pub known : Contains option_names option
+  pub more_zones : List ZoneArgument
+  pub zones_are : new.zones.items ≡ old.zones.items ++ more_zones
+  pub zones : AllZip IsZoneText (given (codes "--zone") option text) more_zones
+  pub files : files_of new ≡ files_of old ++ given (codes "--blocklist") option text
+  pub allowed : length new.allowed.items ≡ length old.allowed.items + length (given (codes "--allow") option text)
+  pub denied : length new.denied.items ≡ length old.denied.items + length (given (codes "--deny") option text)
+  pub identifiers : identifiers_of new ≡ identifiers_of old ++ given (codes "--nsid") option text
+  pub more_bounds : List ℕ
+  pub bounds_are : bounds_of new ≡ bounds_of old ++ more_bounds
+  pub bounds : AllZip IsBound (given (codes "--max-udp") option text) more_bounds
+
+kept : {X : Type 0} (xs ys : List X) → ys ≡ xs → ys ≡ xs ++ []
+kept xs ys same = same ∙ sym (append-nil xs)
+
+none_more : {X : Type 0} (xs ys : List X) → ys ≡ xs → length ys ≡ length xs + 0
+none_more xs ys same = omega (arith, ap length same)
+
+one_more : {X : Type 0} (xs ys : List X) (x : X) → ys ≡ xs ++ x ∷ [] → length ys ≡ length xs + 1
+one_more xs ys x same = omega (arith, ap length same, length-append xs (x ∷ []))
+
+pub file_more : (files grown : List (Bor Text)) (file : Bor Text) → grown ≡ files ++ file ∷ [] → map (λ (f : Bor Text). f.now) grown ≡ map (λ (f : Bor Text). f.now) files ++ file.now ∷ []
+file_more files grown file is = ap (map (λ (f : Bor Text). f.now)) is ∙ map-append (λ (f : Bor Text). f.now) files (file ∷ [])
+
+-- a setting that is there once stands alone
+pub first_one : {X Y : Type 0} (was : Option X) (of : X → Y) (now : Y) → is_some was ≡ false → now ∷ [] ≡ option_to_list (option_map of was) ++ now ∷ []
+first_one None of now none = refl
+first_one (Some x) of now none = absurd cc
+
+pub first_bound : (was : Option ℕ) (now : ℕ) → is_some was ≡ false → now ∷ [] ≡ option_to_list was ++ now ∷ []
+first_bound None now none = refl
+first_bound (Some x) now none = absurd cc
+
+-- What each option gives: one thing more, where nothing else changes.
+module _ (text : Text) (old new : Settings) where
+  pub zone_gives : (zone : ZoneArgument) → IsZoneText text zone → new.zones.items ≡ old.zones.items ++ zone ∷ [] → files_of new ≡ files_of old → new.allowed.items ≡ old.allowed.items
+      → new.denied.items ≡ old.denied.items → identifiers_of new ≡ identifiers_of old → bounds_of new ≡ bounds_of old → Gives (codes "--zone") text old new
+  zone_gives zone spelled is f a d i b = record {
+    known = (0, omega arith, refl);
+    more_zones = zone ∷ [];
+    zones_are = is;
+    zones = (spelled, tt);
+    files = kept _ _ f;
+    allowed = none_more _ _ a;
+    denied = none_more _ _ d;
+    identifiers = kept _ _ i;
+    more_bounds = [];
+    bounds_are = kept _ _ b;
+    bounds = tt;
+  }
+
+  pub blocklist_gives : files_of new ≡ files_of old ++ text ∷ [] → new.zones.items ≡ old.zones.items → new.allowed.items ≡ old.allowed.items
+      → new.denied.items ≡ old.denied.items → identifiers_of new ≡ identifiers_of old → bounds_of new ≡ bounds_of old → Gives (codes "--blocklist") text old new
+  blocklist_gives is z a d i b = record {
+    known = (1, omega arith, refl);
+    more_zones = [];
+    zones_are = kept _ _ z;
+    zones = tt;
+    files = is;
+    allowed = none_more _ _ a;
+    denied = none_more _ _ d;
+    identifiers = kept _ _ i;
+    more_bounds = [];
+    bounds_are = kept _ _ b;
+    bounds = tt;
+  }
+
+  pub allow_gives : (network : Network) → new.allowed.items ≡ old.allowed.items ++ network ∷ [] → new.zones.items ≡ old.zones.items → files_of new ≡ files_of old
+      → new.denied.items ≡ old.denied.items → identifiers_of new ≡ identifiers_of old → bounds_of new ≡ bounds_of old → Gives (codes "--allow") text old new
+  allow_gives network is z f d i b = record {
+    known = (2, omega arith, refl);
+    more_zones = [];
+    zones_are = kept _ _ z;
+    zones = tt;
+    files = kept _ _ f;
+    allowed = one_more _ _ network is;
+    denied = none_more _ _ d;
+    identifiers = kept _ _ i;
+    more_bounds = [];
+    bounds_are = kept _ _ b;
+    bounds = tt;
+  }
+
+  pub deny_gives : (network : Network) → new.denied.items ≡ old.denied.items ++ network ∷ [] → new.zones.items ≡ old.zones.items → files_of new ≡ files_of old
+      → new.allowed.items ≡ old.allowed.items → identifiers_of new ≡ identifiers_of old → bounds_of new ≡ bounds_of old → Gives (codes "--deny") text old new
+  deny_gives network is z f a i b = record {
+    known = (3, omega arith, refl);
+    more_zones = [];
+    zones_are = kept _ _ z;
+    zones = tt;
+    files = kept _ _ f;
+    allowed = none_more _ _ a;
+    denied = one_more _ _ network is;
+    identifiers = kept _ _ i;
+    more_bounds = [];
+    bounds_are = kept _ _ b;
+    bounds = tt;
+  }
+
+  pub nsid_gives : identifiers_of new ≡ identifiers_of old ++ text ∷ [] → new.zones.items ≡ old.zones.items → files_of new ≡ files_of old
+      → new.allowed.items ≡ old.allowed.items → new.denied.items ≡ old.denied.items → bounds_of new ≡ bounds_of old → Gives (codes "--nsid") text old new
+  nsid_gives is z f a d b = record {
+    known = (4, omega arith, refl);
+    more_zones = [];
+    zones_are = kept _ _ z;
+    zones = tt;
+    files = kept _ _ f;
+    allowed = none_more _ _ a;
+    denied = none_more _ _ d;
+    identifiers = is;
+    more_bounds = [];
+    bounds_are = kept _ _ b;
+    bounds = tt;
+  }
+
+  pub max_udp_gives : (bound : ℕ) → IsBound text bound → bounds_of new ≡ bounds_of old ++ bound ∷ [] → new.zones.items ≡ old.zones.items → files_of new ≡ files_of old
+      → new.allowed.items ≡ old.allowed.items → new.denied.items ≡ old.denied.items → identifiers_of new ≡ identifiers_of old → Gives (codes "--max-udp") text old new
+  max_udp_gives bound spelled is z f a d i = record {
+    known = (5, omega arith, refl);
+    more_zones = [];
+    zones_are = kept _ _ z;
+    zones = tt;
+    files = kept _ _ f;
+    allowed = none_more _ _ a;
+    denied = none_more _ _ d;
+    identifiers = kept _ _ i;
+    more_bounds = bound ∷ [];
+    bounds_are = is;
+    bounds = (spelled, tt);
+  }
+
+module _ (options : Options) (option text : Text) (old new : Settings) (say : OptionsSay options old) (gives : Gives option text old new) where
+  zipped : {B : Type 0} (R : Text → B → Type 0) (name : Text) (were more are : List B) → are ≡ were ++ more → AllZip R (behind name options) were → AllZip R (given name option text) more
+      → AllZip R (behind name (options ++ (option, text) ∷ [])) are
+  zipped R name were more are same all one =
+      subst (λ (xs : List Text). AllZip R xs are) (sym (behind_more name options option text))
+      (subst (AllZip R (behind name options ++ given name option text)) (sym same) (zip_more R (behind name options) (given name option text) were more all one))
+
+  listed : (name : Text) (were are : List Text) → were ≡ behind name options → are ≡ were ++ given name option text → are ≡ behind name (options ++ (option, text) ∷ [])
+  listed name were are was is = is ∙ ap (λ (l : List Text). l ++ given name option text) was ∙ sym (behind_more name options option text)
+
+  counted : (name : Text) (was is : ℕ) → was ≡ length (behind name options) → is ≡ was + length (given name option text) → is ≡ length (behind name (options ++ (option, text) ∷ []))
+  counted name was is before now =
+      now ∙ ap (λ (n : ℕ). n + length (given name option text)) before ∙ sym (length-append (behind name options) (given name option text)) ∙ ap length (sym (behind_more name options option text))
+
+  pub say_more : OptionsSay (options ++ (option, text) ∷ []) new
+  say_more = record {
+    known = known_more options option text say.known gives.known;
+    zones = zipped IsZoneText (codes "--zone") old.zones.items gives.more_zones new.zones.items gives.zones_are say.zones gives.zones;
+    blocklists = listed (codes "--blocklist") _ _ say.blocklists gives.files;
+    allowed = counted (codes "--allow") _ _ say.allowed gives.allowed;
+    denied = counted (codes "--deny") _ _ say.denied gives.denied;
+    identifier = listed (codes "--nsid") _ _ say.identifier gives.identifiers;
+    max_udp = zipped IsBound (codes "--max-udp") (bounds_of old) gives.more_bounds (bounds_of new) gives.bounds_are say.max_udp gives.bounds;
+  }
