@@ -2,14 +2,14 @@
 
 ghost use Rattle.hickory_store.specs.UpdateLaws.{CnamesAlone, HasNs, HasOneSoa};
 ghost use Rattle.hickory_server.specs.KeptZones.{AreKept};
-ghost use Rattle.hickory_server.specs.ZoneReplies.{TheReplyIsMade};
+ghost use Rattle.hickory_server.specs.ZoneReplies.{TheReplyIsMade, TheReplyIsMadeBeside};
 
 use hickory_base::zone_store::ZoneHandler;
 use hickory_catalog::signer::ReplySigner;
 use hickory_store::sqlite::laws::{identities, updates_keep};
 use hickory_store::sqlite::{SqliteZoneHandler, Verifier};
 use hickory_wire::record_comparisons;
-use hickory_zone::AuthoritativeZone;
+use hickory_zone::{AuthoritativeZone, ZoneWithParent};
 
 /// A server that holds the zone says what the zone replies to the question, as one whole reply, whatever the zone gave for it: the reply, records that
 /// lie in it, or a denial that the catalog puts the SOA to.
@@ -31,3 +31,8 @@ pub fn zones_keep<S: ReplySigner, V: Verifier>()
     record_comparisons();
     updates_keep::<V>();
 }
+
+/// The same of a zone beside the zone above it: for the DS records of its apex the reply is that of the zone above (RFC 4035 section 3.1.4.1), else its own.
+pub fn replies_beside_a_parent()
+    ensures { TheReplyIsMadeBeside ⟦<ZoneWithParent as ZoneHandler>⟧ }
+{}
