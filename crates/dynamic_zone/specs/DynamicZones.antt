@@ -1,0 +1,34 @@
+-- What a zone that takes updates answers: what `hickory_zone` says of the zone that they leave, as long as each of its owner names may own records of it.
+use Rattle.std.specs.Prelude.{◌≡◌, ◌⊎◌, ℕ, Result, Ok, Err}
+use Rattle.wire_names.specs.rr.domain.DomainName.{DomainName}
+use Rattle.wire_messages.specs.declared.op.query.Query.{Query}
+use Rattle.hickory_base.specs.requests.Questions.{one_query}
+use Rattle.hickory_base.specs.requests.Requests.{ReceivedRequest}
+use Rattle.hickory_base.specs.zone_store.Lookups.{Flow}
+use Rattle.hickory_base.specs.zone_store.ZoneAnswers.{MemoryZone}
+use Rattle.hickory_base.specs.declared.errors.LookupError.{LookupError}
+use Rattle.hickory_base.specs.declared.errors.LookupError.TheVariants.{Memory}
+use Rattle.hickory_base.specs.declared.zone_store.lookup.AuthLookup.{AuthLookup}
+use Rattle.hickory_base.specs.declared.zone_store.lookup.LookupControlFlow.TheVariants.{Break, Continue}
+use Rattle.hickory_zone.specs.Handled.{IsLookedUp, StandsFor}
+use Rattle.hickory_zone.specs.Replies.{zone_of}
+use Rattle.hickory_zone.specs.Zones.{AreOwners}
+
+-- What stands for the reply of a zone.
+abbrev pub IsAnswered : MemoryZone → Query → Result AuthLookup LookupError → Type 0
+IsAnswered zone query result = AreOwners zone.origin zone.sets → StandsFor zone query result
+
+-- What a lookup gives in it.
+abbrev pub IsFound : MemoryZone → DomainName → ℕ → Result AuthLookup LookupError → Type 0
+IsFound zone name t result = AreOwners zone.origin zone.sets → IsLookedUp (zone_of zone) name t result
+
+-- a search: the one question of the request is replied to, but for want of memory
+abbrev pub SearchedFor : MemoryZone → Result Query LookupError → Flow → Type 0
+SearchedFor zone (Ok query) answer = (result : _) × (IsAnswered zone query result ⊎ (result ≡ Err Memory)) × (answer ≡ Continue result)
+SearchedFor zone (Err e) answer = answer ≡ Break (Err e)
+
+abbrev pub Searched : MemoryZone → ReceivedRequest → Flow → Type 0
+Searched zone request answer = SearchedFor zone (one_query request.message.queries.queries) answer
+
+abbrev pub LookedUp : MemoryZone → DomainName → ℕ → Flow → Type 0
+LookedUp zone name t answer = (result : _) × (IsFound zone name t result ⊎ (result ≡ Err Memory)) × (answer ≡ Continue result)

@@ -1,0 +1,257 @@
+//! A zone that takes dynamic updates (RFC 2136) and answers standard queries as an authoritative server does (RFC 1034 section 4.3.2).
+#![tactic(auto)]
+
+ghost use Rattle.std.specs.Prelude.{◌≡◌, ◌↔◌, ◌⊎◌, Err, IsTrue, None, false};
+ghost use Rattle.hickory_base.specs.declared.errors.LookupError.TheVariants.{Memory};
+ghost use Rattle.hickory_base.specs.declared.zone_store.lookup.LookupControlFlow.TheVariants.{Skip};
+ghost use Rattle.hickory_store.specs.Permission.{transfer_permission};
+ghost use Rattle.hickory_store.specs.TransferAnswers.{TransferredAs};
+ghost use Rattle.hickory_store.specs.UpdateAnswers.{AnswersUpdate};
+ghost use Rattle.hickory_zone.specs.Features.{AreFeatures};
+ghost use Rattle.hickory_zone.specs.Replies.{zone_of};
+ghost use Rattle.hickory_zone.specs.Zones.{AreOwners};
+ghost use Rattle.dynamic_zone.specs.DynamicZones.{IsAnswered, IsFound, LookedUp, Searched};
+
+use hickory_base::errors::{LookupError, UpdateFault};
+use hickory_base::server::{Request, RequestInfo};
+use hickory_base::zone_store::{
+    AuthLookup, AxfrPolicy, InMemoryZoneHandler, LookupControlFlow, LookupOptions, Nsec3QueryInfo,
+    NxProofKind, StoredAnswer, ZoneHandler, ZoneTransfer, ZoneType,
+};
+use hickory_store::sqlite::{SqliteZoneHandler, Verifier};
+use hickory_wire::{LowerName, LowerQuery, RecordType, ResponseCode, TSigResponseContext};
+use hickory_zone::denials::denial_soa;
+use hickory_zone::handled::{records, whole};
+use hickory_zone::{Features, are_owners, features_of, stored};
+use std::alloc::Global;
+use std::marker::Model;
+
+/// A zone that takes updates, and answers standard queries in the zone that they leave.
+#[derive(Drop)]
+pub struct DynamicZone<V: Verifier> {
+    alloc: Global,
+    updatable: SqliteZoneHandler<V>,
+    // What the zone has at all.
+    has: Features,
+    // Whether each owner name may own records of the zone.
+    is_owned: bool,
+}
+
+impl<V: Verifier> Model for DynamicZone<V> {
+    ghost use Rattle.std.specs.Prelude.{◌↔◌, IsTrue};
+    ghost use Rattle.hickory_store.specs.UpdatableZone.{UpdatableZone};
+    ghost use Rattle.hickory_zone.specs.Features.{AreFeatures};
+    ghost use Rattle.hickory_zone.specs.Replies.{zone_of};
+    ghost use Rattle.hickory_zone.specs.Zones.{AreOwners};
+
+    ghost Value = { UpdatableZone V };
+
+    ghost view = { λ z. z.updatable };
+
+    ghost invariant = { λ z. AreFeatures (zone_of z.updatable.zone) z.has × (IsTrue z.is_owned ↔ AreOwners z.updatable.zone.origin z.updatable.zone.sets) };
+}
+
+/// What the zone has at all, and whether each of its owner names may own records of it.
+fn seen(zone: &InMemoryZoneHandler) -> (Features, bool)
+    ensures has { AreFeatures (zone_of zone.now) result.0 }
+    ensures owned { IsTrue result.1 ↔ AreOwners zone.now.origin zone.now.sets }
+{
+    (
+        features_of(zone.origin(), zone.records()),
+        are_owners(zone.origin(), zone.records()),
+    )
+}
+
+impl<V: Verifier> DynamicZone<V> {
+    /// The zone that this handler keeps, which goes on to be updated. It takes no memory.
+    pub fn new(alloc: Global, updatable: SqliteZoneHandler<V>) -> DynamicZone<V>
+        ensures { result ≡ updatable }
+    {
+        let (has, is_owned) = seen(updatable.in_memory());
+        DynamicZone {
+            alloc,
+            updatable,
+            has,
+            is_owned,
+        }
+    }
+
+    /// The handler that it was made of, with the zone as its updates left it.
+    pub fn into_updatable(self) -> SqliteZoneHandler<V>
+        ensures { result ≡ self }
+    {
+        self.updatable
+    }
+
+    /// What the zone replies to a question. ServFail where an owner name lies outside it.
+    fn answer(&self, alloc: Global, query: &LowerQuery) -> Result<AuthLookup, LookupError>
+        ensures { IsAnswered self.now.zone query.now result ⊎ (result ≡ Err Memory) }
+    {
+        if !self.is_owned {
+            return Err(LookupError::ResponseCode(ResponseCode::SERV_FAIL));
+        }
+        let zone = self.updatable.in_memory();
+        let soa = denial_soa(alloc, zone)?;
+        whole(alloc, zone, query, self.has, soa.as_slice())
+    }
+
+    /// The records by which the catalog completes a reply. ServFail where an owner name lies outside the zone.
+    fn found(
+        &self,
+        alloc: Global,
+        name: &LowerName,
+        record_type: RecordType,
+    ) -> Result<AuthLookup, LookupError>
+        ensures { IsFound self.now.zone name.now record_type result ⊎ (result ≡ Err Memory) }
+    {
+        if self.is_owned {
+            let zone = self.updatable.in_memory();
+            let soa = denial_soa(alloc, zone)?;
+            return records(alloc, zone, name, record_type, self.has, soa.as_slice());
+        }
+        Err(LookupError::ResponseCode(ResponseCode::SERV_FAIL))
+    }
+}
+
+impl<V: Verifier> ZoneHandler for DynamicZone<V> {
+    ghost zone_type_of = { λ handler. handler.zone.zone_type };
+
+    ghost axfr_policy_of = { λ handler. handler.axfr_policy };
+
+    ghost origin_of = { λ handler. handler.zone.origin };
+
+    ghost validates_dnssec = { λ _. false };
+
+    ghost nx_proof_kind_of = { λ _. None };
+
+    ghost lookup_gives = { λ handler name record_type _ _ answer. LookedUp handler.zone name record_type answer };
+
+    ghost search_gives = { λ handler request _ answer context. Searched handler.zone request answer × (context ≡ None) };
+
+    ghost consult_gives = { λ _ _ _ _ _ last answer context. (answer ≡ last) × (context ≡ None) };
+
+    ghost transfer_gives = { λ handler request _ now answer. TransferredAs handler.zone (transfer_permission V.Verifier handler.verifier handler.axfr_policy request now) answer };
+
+    ghost nsec_gives = { λ _ _ _ answer. answer ≡ Skip };
+
+    ghost nsec3_gives = { λ _ _ _ answer. answer ≡ Skip };
+
+    ghost update_gives = { AnswersUpdate V.Verifier };
+
+    fn zone_type(&self) -> ZoneType {
+        self.updatable.zone_type()
+    }
+
+    fn axfr_policy(&self) -> AxfrPolicy {
+        self.updatable.axfr_policy()
+    }
+
+    fn origin(&self) -> &LowerName {
+        self.updatable.origin()
+    }
+
+    fn can_validate_dnssec(&self) -> bool {
+        false
+    }
+
+    fn nx_proof_kind(&self) -> Option<&NxProofKind> {
+        None
+    }
+
+    fn lookup(
+        &self,
+        alloc: Global,
+        name: &LowerName,
+        record_type: RecordType,
+        _info: Option<&RequestInfo<'_>>,
+        _options: LookupOptions,
+    ) -> LookupControlFlow<AuthLookup> {
+        LookupControlFlow::Continue(self.found(alloc, name, record_type))
+    }
+
+    fn search(
+        &self,
+        alloc: Global,
+        request: &Request,
+        _options: LookupOptions,
+    ) -> (LookupControlFlow<AuthLookup>, Option<TSigResponseContext>) {
+        let query = match request.request_info() {
+            Ok(info) => info.query,
+            Err(e) => return (LookupControlFlow::Break(Err(e)), None),
+        };
+        (LookupControlFlow::Continue(self.answer(alloc, query)), None)
+    }
+
+    fn stored_answer(
+        &self,
+        request: &Request,
+        _options: LookupOptions,
+    ) -> Option<StoredAnswer<'_>> {
+        match request.request_info() {
+            Ok(info) if self.is_owned => {
+                stored(self.alloc, self.updatable.in_memory(), info.query, self.has)
+            }
+            _ => None,
+        }
+    }
+
+    fn consult(
+        &self,
+        _alloc: Global,
+        _name: &LowerName,
+        _record_type: RecordType,
+        _info: Option<&RequestInfo<'_>>,
+        _options: LookupOptions,
+        last: LookupControlFlow<AuthLookup>,
+    ) -> (LookupControlFlow<AuthLookup>, Option<TSigResponseContext>) {
+        (last, None)
+    }
+
+    fn zone_transfer(
+        &self,
+        alloc: Global,
+        request: &Request,
+        options: LookupOptions,
+        now: u64,
+    ) -> Option<
+        (
+            Result<ZoneTransfer, LookupError>,
+            Option<TSigResponseContext>,
+        ),
+    > {
+        self.updatable.zone_transfer(alloc, request, options, now)
+    }
+
+    fn nsec_records(
+        &self,
+        _alloc: Global,
+        _name: &LowerName,
+        _options: LookupOptions,
+    ) -> LookupControlFlow<AuthLookup> {
+        LookupControlFlow::Skip
+    }
+
+    fn nsec3_records(
+        &self,
+        _alloc: Global,
+        _info: Nsec3QueryInfo<'_>,
+        _options: LookupOptions,
+    ) -> LookupControlFlow<AuthLookup> {
+        LookupControlFlow::Skip
+    }
+
+    fn update(
+        &mut self,
+        alloc: Global,
+        request: &Request,
+        now: u64,
+    ) -> (Result<bool, UpdateFault>, Option<TSigResponseContext>) {
+        let (answer, context) = self.updatable.update(alloc, request, now);
+        if matches!(answer, Ok(true)) {
+            let (has, is_owned) = seen(self.updatable.in_memory());
+            self.has = has;
+            self.is_owned = is_owned;
+        }
+        (answer, context)
+    }
+}
