@@ -4,3 +4,5 @@
 
 #[cfg(test)]
 mod blocklist;
+#[cfg(test)]
+mod dynamic;
