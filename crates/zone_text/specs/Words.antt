@@ -1,5 +1,5 @@
 -- The words of a text: of one line, or of an entry of a zone file (RFC 1035 section 5.1). Places count the bytes before them.
-use Rattle.std.specs.Prelude.{◌≡◌, ◌≢◌, ℕ, ◌+◌, ◌-◌, ◌<◌, ◌≤◌, ◌==◌, ◌⊎◌, ◌||◌, Bool, true, false, min, if◌then◌else◌, List, [], ◌∷◌, ◌++◌, length, get_or, take, drop, Option, Some, None}
+use Rattle.std.specs.Prelude.{◌≡◌, ◌≢◌, ℕ, ◌+◌, ◌-◌, ◌<◌, ◌≤◌, ◌==◌, ◌⊎◌, Bool, true, false, min, if◌then◌else◌, List, [], ◌∷◌, ◌++◌, length, get_or, take, drop, Option, Some, None}
 use Rattle.zone_text.specs.declared.words.TextKind.{TextKind}
 use Rattle.zone_text.specs.declared.words.TextKind.TheVariants.{Line, ZoneFile}
 use Rattle.zone_text.specs.declared.words.Word.{Word}

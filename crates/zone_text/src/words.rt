@@ -3,7 +3,8 @@
 ghost use Rattle.std.specs.Prelude.{◌≡◌, false, ◌+◌, ◌≤◌, ◌<◌, ◌-◌, ◌^◌, get_or, length, min, IfOk, IfSome, IsFalse, IsTrue, OnOk};
 ghost use Rattle.zone_text.specs.Spelling.{IsNumber};
 ghost use Rattle.zone_text.specs.declared.words.TextKind.TheVariants.{Line, ZoneFile};
-ghost use Rattle.zone_text.specs.Words.{AreWordsTo, CrossesLines, IsByteAt, IsComment, IsEndFrom, IsGap, IsNext, IsPiece, IsPlainWord, IsQuotedWord, IsRestOfLine, IsRunTo, IsWordFrom, ends_quoted, ends_word, is_blank};
+ghost use Rattle.zone_text.specs.Words.{AreWordsTo, CrossesLines, IsByteAt, IsComment, IsEndFrom, IsGap, IsNext, IsPiece};
+ghost use Rattle.zone_text.specs.Words.{IsPlainWord, IsQuotedWord, IsRestOfLine, IsRunTo, IsWordFrom, ends_quoted, ends_word, is_blank};
 
 use crate::error::{TextError, TextFault};
 use std::alloc::Global;

@@ -5,7 +5,8 @@ ghost use Rattle.wire_messages.specs.rr.RecordData.{type_of};
 ghost use Rattle.wire_messages.specs.serialize.writing.RecordSize.{data_len};
 ghost use Rattle.zone_text.specs.declared.words.Word.{Word as WordOf};
 ghost use Rattle.zone_text.specs.RecordText.{SpellsData, SpellsType};
-ghost use Rattle.zone_text.specs.ZoneFiles.{AreTtlAndClass, BeginsWith, IsBehindOwner, IsClassIn, IsDirective, IsEntry, IsRecordEntry, IsTtl, IsZoneRecord, IsZoneType, MayBeginWithTtl, after, last_owner, ttl_in_force, zone_minimum};
+ghost use Rattle.zone_text.specs.ZoneFiles.{AreTtlAndClass, BeginsWith, IsBehindOwner, IsClassIn, IsDirective, IsEntry, IsRecordEntry};
+ghost use Rattle.zone_text.specs.ZoneFiles.{IsTtl, IsZoneRecord, IsZoneType, MayBeginWithTtl, after, last_owner, ttl_in_force, zone_minimum};
 
 use crate::data::data_of_words;
 use crate::data::table::type_of;

@@ -1,4 +1,4 @@
-use Rattle.std.proofs.Common.{◌≡◌, ◌≢◌, ℕ, ◌≤◌, ◌<◌, ◌-◌, get_or, length}
+use Rattle.std.proofs.Common.{◌≢◌, ℕ, ◌≤◌, ◌<◌, ◌-◌, get_or, length}
 use Rattle.zone_text.proofs.words.line_end.Given as goal
 
 abbrev pub invariant-bytes : goal.invariant-bytes

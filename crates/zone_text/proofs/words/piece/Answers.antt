@@ -1,4 +1,4 @@
-use Rattle.std.proofs.Common.{◌≡◌, ◌∙◌, sym, refl, arith}
+use Rattle.std.proofs.Common.{◌∙◌, sym, refl}
 use Rattle.zone_text.specs.Words.IsPiece.{blank, line_feed, opened, closed, comment}
 use Rattle.zone_text.proofs.words.piece.Goals as goal
 

@@ -1,4 +1,4 @@
-use Rattle.std.proofs.Common.{◌≡◌, false, ◌==◌, get_or, refl, rules, arith}
+use Rattle.std.proofs.Common.{◌≡◌, false, get_or, refl, rules, arith}
 use Rattle.zone_text.specs.Words.{ends_quoted}
 use Rattle.zone_text.specs.Words.IsRun.{nothing, bare, escaped}
 use Rattle.zone_text.proofs.words.quote_place.Goals as goal

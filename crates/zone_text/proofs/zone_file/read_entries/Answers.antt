@@ -1,4 +1,4 @@
-use Rattle.std.proofs.Common.{◌≡◌, ◌+◌, ◌<◌, ℕ, List, [], ◌∷◌, ◌++◌, Bool, None, All, length, sym, subst, arith}
+use Rattle.std.proofs.Common.{◌≡◌, ◌+◌, ◌<◌, ℕ, List, [], Bool, None, All, length, sym, subst, arith}
 use Rattle.std.proofs.lemmas.List.Elements.{All-push}
 use Rattle.wire_messages.specs.declared.rr.rdata.RData.{RData}
 use Rattle.wire_messages.specs.declared.rr.record.Record.{Record}
@@ -6,7 +6,6 @@ use Rattle.wire_names.specs.rr.domain.DomainName.{DomainName}
 use Rattle.zone_text.specs.declared.words.Word.{Word}
 use Rattle.zone_text.specs.declared.zone_file.entry.Before.{Before}
 use Rattle.zone_text.specs.declared.zone_file.entry.Entry.{Entry}
-use Rattle.zone_text.specs.declared.zone_file.entry.Entry.TheVariants as entry
 use Rattle.zone_text.specs.ZoneFiles.{IsEntry, IsEntryFrom, IsFront, IsRecordEntry, IsZoneRecord, after, first_entry}
 use Rattle.zone_text.specs.ZoneFiles.AreEntries.{none, more}
 use Rattle.zone_text.specs.ZoneFiles.IsEntry.{blank, origin_of, default_ttl_of, record_of}

@@ -1,4 +1,4 @@
-use Rattle.std.proofs.Common.{◌≡◌, ℕ, List, Bor, ap, sym, subst, refl, arith}
+use Rattle.std.proofs.Common.{◌≡◌, ℕ, List, Bor, ap, subst, refl, arith}
 use Rattle.zone_text.specs.declared.words.TextKind.{TextKind}
 use Rattle.zone_text.specs.Words.{IsGap, IsPiece}
 use Rattle.zone_text.specs.Words.IsGap.{nothing, more}

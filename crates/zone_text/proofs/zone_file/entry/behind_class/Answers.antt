@@ -1,4 +1,3 @@
-use Rattle.std.proofs.Common.{refl}
 use Rattle.zone_text.proofs.zone_file.entry.behind_class.Goals as goal
 
 pub returns-then-branch : goal.returns-then-branch

@@ -1,4 +1,4 @@
-use Rattle.std.proofs.Common.{◌≡◌, ℕ, List, [], ◌∷◌, length, refl, arith}
+use Rattle.std.proofs.Common.{◌≡◌, List, [], ◌∷◌, length, refl, arith}
 use Rattle.zone_text.specs.declared.words.Word.{Word}
 use Rattle.zone_text.specs.ZoneFiles.IsEntry.{blank, record_of}
 use Rattle.zone_text.proofs.zone_file.entry.read_entry.Goals as goal

@@ -1,4 +1,4 @@
-use Rattle.std.proofs.Common.{◌≡◌, List, ◌∷◌, Result, Ok, Err, Option, Some, ap, sym, subst, true, false}
+use Rattle.std.proofs.Common.{◌≡◌, List, Result, Ok, Err, Some, sym, subst, true}
 use Rattle.std.specs.Prelude.{IfOk}
 use Rattle.wire_messages.specs.declared.rr.rdata.RData.{RData}
 use Rattle.wire_messages.specs.declared.rr.record.Record.{Record}
