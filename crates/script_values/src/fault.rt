@@ -7,7 +7,7 @@ use std::alloc::{AllocError, AllocFailed};
 use std::net::AddrParseError;
 use std::num::ParseIntError;
 use std::{fmt, io};
-use zone_text::{TextError, TextFault, ZoneFileError};
+use zone_text::{TextError, TextFault, ZoneFileError, ZoneFileFault};
 
 /// Why a line is not obeyed, or the script ends: the last two end it, after any other it goes on.
 #[derive(Clone, Copy)]
@@ -46,7 +46,14 @@ pub enum Fault {
     /// A zone file is not UTF-8.
     FileNotText,
     /// An entry of a zone file is wrong.
-    InFile(ZoneFileError),
+    InFile {
+        /// Which line of the file; the first is 1.
+        line: usize,
+        /// Which byte of the line; the first is 1.
+        column: usize,
+        /// What is wrong there.
+        fault: ZoneFileFault,
+    },
     /// A record of a zone file has no place in the zone.
     OfRecord {
         /// Which record of the file it is; the first is 1.
@@ -139,7 +146,11 @@ impl fmt::Display for Fault {
             Fault::Text(fault) | Fault::At { fault, .. } => write!(f, "{fault}"),
             Fault::Code(e) => write!(f, "{e}"),
             Fault::Message(e) => write!(f, "{e}"),
-            Fault::InFile(e) => write!(f, "in the file, {e}"),
+            Fault::InFile {
+                line,
+                column,
+                fault,
+            } => write!(f, "in the file, line {line}, column {column}: {fault}"),
             Fault::OfRecord { number, text } => write!(f, "record {number} of the file: {text}"),
             other => f.write_str(other.text()),
         }
@@ -208,7 +219,16 @@ impl From<ZoneFileError> for Fault {
     fn from(e: ZoneFileError) -> Fault {
         match e {
             ZoneFileError::Memory => Fault::Memory,
-            fault => Fault::InFile(fault),
+            ZoneFileError::At {
+                line,
+                column,
+                fault,
+                ..
+            } => Fault::InFile {
+                line,
+                column,
+                fault,
+            },
         }
     }
 }
