@@ -4,5 +4,3 @@
 
 #[cfg(test)]
 mod blocklist;
-#[cfg(test)]
-mod dynamic;
