@@ -7,11 +7,11 @@ ghost use Rattle.std.specs.Prelude.{◌≡◌, ◌≤◌, ◌<◌, length, All, 
 ghost use Rattle.zone_text.specs.ZoneFiles.{IsEntryFrom, IsZoneFile, IsZoneRecord, first_entry};
 
 use crate::error::ZoneFileError;
-use crate::words::Words;
 use crate::zone_file::entry::{Before, Entry, read_entry};
 use crate::zone_file::fault::EntryError;
 use hickory_wire::{Items, Name, Record};
 use std::alloc::Global;
+use text_words::Words;
 
 /// Where the first entry begins: behind a byte order mark, if there is one (RFC 3629 section 6).
 fn first_entry(text: &[u8]) -> usize

@@ -3,21 +3,17 @@
 ghost use Rattle.std.specs.Prelude.{◌≡◌, ◌↔◌, ◌≤◌, ◌++◌, ◌⊎◌, [], ◌∷◌, All, List, Some, None, false, true, IfOk, IfSome, IsTrue, OnOk};
 ghost use Rattle.wire_messages.specs.rr.RecordData.{type_of};
 ghost use Rattle.wire_messages.specs.serialize.writing.RecordSize.{data_len};
-ghost use Rattle.zone_text.specs.declared.words.Word.{Word as WordOf};
-ghost use Rattle.zone_text.specs.RecordText.{SpellsData, SpellsType};
+ghost use Rattle.text_words.specs.declared.words.Word.{Word as WordOf};
+ghost use Rattle.record_text.specs.RecordText.{SpellsData, SpellsType};
 ghost use Rattle.zone_text.specs.ZoneFiles.{AreTtlAndClass, BeginsWith, IsBehindOwner, IsClassIn, IsDirective, IsEntry, IsRecordEntry};
 ghost use Rattle.zone_text.specs.ZoneFiles.{IsTtl, IsZoneRecord, IsZoneType, MayBeginWithTtl, after, last_owner, ttl_in_force, zone_minimum};
 
-use crate::data::data_of_words;
-use crate::data::table::type_of;
-use crate::error::{TextFault, ZoneFileFault};
-use crate::names::absolute_name;
-use crate::record::class_of;
-use crate::ttl::seconds_of;
-use crate::words::{Word, fault_at, number_of_digits};
+use crate::error::ZoneFileFault;
 use crate::zone_file::fault::{EntryError, fault_of};
 use hickory_wire::{DNSClass, Items, Name, Proof, RData, Record, RecordType};
+use record_text::{class_of, data_of_words, type_of};
 use std::alloc::{AllocError, Global};
+use text_words::{TextFault, Word, absolute_name, fault_at, number_of_digits, seconds_of};
 
 /// What the entries before leave to an entry.
 #[derive(Drop)]

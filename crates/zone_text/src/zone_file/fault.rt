@@ -2,10 +2,10 @@
 
 ghost use Rattle.std.specs.Prelude.{◌≤◌, length};
 
-use crate::error::{TextError, ZoneFileError, ZoneFileFault};
-use crate::words::{Word, field_end};
+use crate::error::{ZoneFileError, ZoneFileFault};
 use std::alloc::{AllocError, AllocFailed};
 use std::fmt;
+use text_words::{TextError, Word, field_end};
 
 /// Why an entry could not be read.
 #[derive(Clone, Copy)]

@@ -1,5 +1,5 @@
 use Rattle.std.proofs.Common.{◌≡◌, List, [], ◌∷◌, length, refl, arith}
-use Rattle.zone_text.specs.declared.words.Word.{Word}
+use Rattle.text_words.specs.declared.words.Word.{Word}
 use Rattle.zone_text.specs.ZoneFiles.IsEntry.{blank, record_of}
 use Rattle.zone_text.proofs.zone_file.entry.read_entry.Goals as goal
 

@@ -3,7 +3,7 @@ use Rattle.std.specs.Prelude.{IfOk}
 use Rattle.wire_messages.specs.declared.rr.rdata.RData.{RData}
 use Rattle.wire_messages.specs.declared.rr.record.Record.{Record}
 use Rattle.wire_names.specs.rr.domain.DomainName.{DomainName}
-use Rattle.zone_text.specs.declared.words.Word.{Word}
+use Rattle.text_words.specs.declared.words.Word.{Word}
 use Rattle.zone_text.specs.declared.zone_file.entry.Before.{Before}
 use Rattle.zone_text.specs.declared.zone_file.fault.EntryError.{EntryError}
 use Rattle.zone_text.specs.ZoneFiles.{IsBehindOwner, IsRecordEntry, last_owner}

@@ -1,6 +1,6 @@
 use Rattle.std.proofs.Common.{◌≡◌, ◌∙◌, ℕ, List, [], ◌∷◌, ◌++◌, Option, Some, None, Result, Ok, Err, Bor, IfOk, ap, subst}
 use Rattle.std.specs.Prelude.{IfSome}
-use Rattle.zone_text.specs.declared.words.Word.{Word}
+use Rattle.text_words.specs.declared.words.Word.{Word}
 use Rattle.zone_text.specs.declared.zone_file.fault.EntryError.{EntryError}
 use Rattle.zone_text.specs.ZoneFiles.{AreTtlAndClass, BeginsWith, IsClassIn, MayBeginWithTtl}
 use Rattle.zone_text.specs.ZoneFiles.AreTtlAndClass.{neither, class, ttl, class_ttl, ttl_class}
