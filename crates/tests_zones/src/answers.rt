@@ -8,11 +8,12 @@ use hickory_server::server::{Answer, Server};
 use hickory_server::zone_handler::ZoneHandler;
 use std::alloc::{AllocError, Global};
 
-/// Puts a line for each reply behind a text.
+/// Puts a line for each reply behind a text, each whole or not at all.
 fn put_replies(alloc: Global, replies: &[Octets], text: &mut String) -> Result<(), AllocError> {
     for reply in replies {
-        text.push_str(&hex::encode(alloc, reply.as_slice())?)?;
-        text.push('\n')?;
+        let mut line = hex::encode(alloc, reply.as_slice())?;
+        line.push('\n')?;
+        text.push_str(&line)?;
     }
     Ok(())
 }
@@ -44,8 +45,7 @@ fn serve_line<H: ZoneHandler>(
     text: &mut String,
 ) -> Result<(), Fault> {
     if line.starts_with('#') {
-        text.push_str(line)?;
-        text.push('\n')?;
+        text.push_str(&format!(in alloc; "{line}\n")?)?;
         return Ok(());
     }
     let message = read_line(alloc, line)?;
