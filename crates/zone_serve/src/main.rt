@@ -8,10 +8,9 @@
 //! file is not taken.
 #![tactic(auto)]
 
-ghost use Rattle.std.specs.Prelude.{◌≡◌, IfOk, OnOk, option_map};
-ghost use Rattle.either.specs.declared.Either.TheVariants.{Left};
+ghost use Rattle.std.specs.Prelude.{IfOk, None, OnOk, option_map};
 ghost use Rattle.hickory_base.specs.zone_store.ZoneAnswers.{MemoryZone};
-ghost use Rattle.served_zones.specs.ServedZones.{IsLoaded, IsServedZone};
+ghost use Rattle.served_zones.specs.ServedZones.{IsLoaded, IsPlaced, IsServedZone};
 
 mod arguments;
 mod fault;
@@ -36,9 +35,9 @@ use hickory_server::proto::Name;
 use hickory_server::server::{NoKeys, Server};
 use hickory_server::store::blocklist::BlocklistZoneHandler;
 use hickory_server::zone_handler::Catalog;
-use hickory_server::zone_store::Either;
 use served_zones::chains::{chain, put_chain};
 use served_zones::handler::{Handler, Zones};
+use served_zones::parents::{alone, join_parent};
 use served_zones::zones::zone_of_file;
 use std::alloc::Global;
 use std::env::VarError;
@@ -89,10 +88,11 @@ fn load_zone<R: Files + Alloc<A = Global>>(
     apex: &Name,
     file: &str,
 ) -> Result<Handler, ZoneFileFault>
-    ensures { IfOk result (λ handler. (zone : MemoryZone) × (handler ≡ Left zone) × IsServedZone apex.now zone) }
+    ensures { IfOk result (λ handler. (zone : MemoryZone) × IsPlaced zone None handler × IsServedZone apex.now zone) }
 {
     let bytes = bytes_of(rt, file)?;
-    Ok(Either::Left(zone_of_file(rt.alloc(), apex, &bytes)?))
+    let zone = zone_of_file(rt.alloc(), apex, &bytes)?;
+    Ok(alone(rt.alloc(), zone)?)
 }
 
 /// Puts the zone of an argument into the catalog, the one at this place among the zones, with the list of blocked names behind it.
@@ -119,7 +119,22 @@ fn load<R: Files + Alloc<A = Global>>(
     }
 }
 
-/// Puts the zones of the arguments into the catalog, each with the list of blocked names behind it.
+/// Puts each zone of the arguments beside the zone above it, if there is one.
+fn join_parents(
+    alloc: Global,
+    catalog: &mut Zones,
+    settings: &Settings<'_>,
+    list: Option<&Rc<BlocklistZoneHandler>>,
+) -> Result<(), Fault> {
+    for place in 0..settings.zones.len() {
+        let argument = settings.zones[place];
+        let apex = apex_of(alloc, argument.name, argument.place)?;
+        join_parent(alloc, catalog, &apex, list)?;
+    }
+    Ok(())
+}
+
+/// Puts the zones of the arguments into the catalog, each beside the zone above it, with the list of blocked names behind them.
 fn load_zones<R: Files + Alloc<A = Global>>(
     rt: &R,
     catalog: &mut Zones,
@@ -129,7 +144,7 @@ fn load_zones<R: Files + Alloc<A = Global>>(
     for place in 0..settings.zones.len() {
         load(rt, catalog, settings.zones[place], place, list)?;
     }
-    Ok(())
+    join_parents(rt.alloc(), catalog, settings, list)
 }
 
 /// The catalog that the arguments ask for.

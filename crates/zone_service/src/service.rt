@@ -13,10 +13,10 @@ use hickory_server::server::serve::ServeError;
 use hickory_server::server::{Answer, NoKeys, Rules, Server};
 use hickory_server::store::blocklist::BlocklistZoneHandler;
 use hickory_server::zone_handler::{Catalog, ReplySigner, ZoneHandler};
-use hickory_server::zone_store::Either;
 use served_zones::chains::{chain, put_chain};
 use served_zones::handler::Handler;
 use served_zones::identifier::identifier;
+use served_zones::parents::alone;
 use served_zones::zones::zone_of_file;
 use std::alloc::{AllocError, Global};
 use std::net::SocketAddr;
@@ -82,7 +82,7 @@ impl Service {
         bytes: &[u8],
     ) -> Result<(), SettingFault> {
         let apex = zone_name(alloc, name)?;
-        let zone = Either::Left(zone_of_file(alloc, &apex, bytes)?);
+        let zone = alone(alloc, zone_of_file(alloc, &apex, bytes)?)?;
         let chain = chain(alloc, zone, self.list.as_ref())?;
         if put_chain(alloc, &mut self.server.catalog, &apex, chain)? {
             Ok(())
