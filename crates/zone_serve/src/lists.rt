@@ -2,10 +2,8 @@
 
 use crate::fault::Fault;
 use crate::files::{FileFault, bytes_of};
-use hickory_server::proto::Name;
-use hickory_server::store::blocklist::{
-    AddError, BlocklistConfig, BlocklistConsultAction, BlocklistZoneHandler, CountedReader,
-};
+use hickory_server::store::blocklist::{AddError, BlocklistZoneHandler};
+use served_zones::lists;
 use std::alloc::Global;
 use std::rc::Rc;
 use std::rt::Files;
@@ -50,15 +48,8 @@ fn add_list<R: Files + Alloc<A = Global>>(
     file: &str,
 ) -> Result<(), ListFault> {
     let bytes = bytes_of(rt, file)?;
-    list.add(&mut CountedReader::new(bytes.as_slice()))?;
+    lists::add_names(list, bytes.as_slice())?;
     Ok(())
-}
-
-/// What is done with blocked names: their addresses are 0.0.0.0 and `::`, whatever their zone has.
-fn blocking() -> BlocklistConfig {
-    let mut config = BlocklistConfig::default();
-    config.consult_action = BlocklistConsultAction::Enforce;
-    config
 }
 
 /// The list with the names of these files, if there are files.
@@ -69,7 +60,7 @@ pub fn blocklist<R: Files + Alloc<A = Global>>(
     if files.is_empty() {
         return Ok(None);
     }
-    let mut list = BlocklistZoneHandler::new(rt.alloc(), Name::root(), blocking())?;
+    let mut list = lists::blocklist(rt.alloc())?;
     for place in 0..files.len() {
         match add_list(rt, &mut list, files[place]) {
             Ok(()) => {}
