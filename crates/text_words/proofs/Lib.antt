@@ -1,3 +1,4 @@
+pub mod OneReading
 pub mod SameBytes
 pub mod SpellingSteps
 pub mod UnitSteps

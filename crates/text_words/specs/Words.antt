@@ -60,6 +60,10 @@ pub data IsGap (kind : TextKind) (text : List ℕ) (place depth : ℕ) : ℕ →
   nothing : IsGap kind text place depth place depth
   more : {middle middle_depth next next_depth : ℕ} → IsGap kind text place depth middle middle_depth → IsPiece kind text middle middle_depth next next_depth → IsGap kind text place depth next next_depth
 
+-- No piece stands here.
+abbrev pub IsGapEnd : TextKind → List ℕ → ℕ → ℕ → Type 0
+IsGapEnd kind text place depth = (next next_depth : ℕ) → IsPiece kind text place depth next next_depth → ⊥
+
 -- Bytes one behind the other, none of which ends them: each stands bare, or a backslash stands before it. A backslash may be the last byte of the text.
 pub data IsRun (ends : ℕ → Bool) (text : List ℕ) (start : ℕ) : ℕ → Type 0 where
   nothing : IsRun ends text start start
@@ -118,6 +122,10 @@ abbrev pub IsNext : TextKind → List ℕ → ℕ → ℕ → Option Word → �
 IsNext kind text place depth (Some word) next next_depth = IsWordFrom kind text place depth word next next_depth
 IsNext kind text place depth None next next_depth = IsEndFrom kind text place depth next × (next_depth ≡ 0)
 
+-- Neither a word nor an end stands next.
+abbrev pub HasNoNext : TextKind → List ℕ → ℕ → ℕ → Type 0
+HasNoNext kind text place depth = (found : Option Word) (next next_depth : ℕ) → IsNext kind text place depth found next next_depth → ⊥
+
 -- words one behind the other, from a place to a place
 pub data AreWords (kind : TextKind) (text : List ℕ) (place depth : ℕ) : List Word → ℕ → ℕ → Type 0 where
   none : AreWords kind text place depth [] place depth
@@ -129,3 +137,7 @@ pub record AreWordsTo (kind : TextKind) (text : List ℕ) (place depth : ℕ) (w
   pub next_depth : ℕ
   pub front : AreWords kind text place depth words next next_depth
   pub last : IsEndFrom kind text next next_depth end
+
+-- From a place on, no words stand to an end: a quote or a parenthesis is not closed, or a parenthesis closes none.
+abbrev pub HasNoWords : TextKind → List ℕ → ℕ → ℕ → Type 0
+HasNoWords kind text place depth = (words : List Word) (end : ℕ) → AreWordsTo kind text place depth words end → ⊥

@@ -1,5 +1,8 @@
 //! Why a text could not be read.
 
+ghost use Rattle.std.specs.Prelude.{◌≡◌};
+ghost use Rattle.text_words.specs.declared.error.TextError.TheVariants.{Memory};
+
 use std::alloc::{AllocError, AllocFailed};
 use thiserror::Error;
 
@@ -100,12 +103,16 @@ pub enum TextError {
 }
 
 impl From<AllocError> for TextError {
+    ghost from_gives = { λ _ e. e ≡ Memory };
+
     fn from(_e: AllocError) -> TextError {
         TextError::Memory
     }
 }
 
 impl<T: Drop> From<AllocFailed<T>> for TextError {
+    ghost from_gives = { λ _ e. e ≡ Memory };
+
     fn from(_e: AllocFailed<T>) -> TextError {
         TextError::Memory
     }

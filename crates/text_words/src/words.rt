@@ -1,8 +1,11 @@
 //! The fields of a line, and of an entry of a zone file.
 
-ghost use Rattle.std.specs.Prelude.{◌≡◌, false, ◌+◌, ◌≤◌, ◌<◌, ◌-◌, ◌^◌, get_or, length, min, IfOk, IfSome, IsFalse, IsTrue, OnOk};
+ghost use Rattle.std.specs.Prelude.{◌≡◌, ◌≢◌, ℕ, false, ◌+◌, ◌≤◌, ◌<◌, ◌-◌, ◌^◌, get_or, length, min, IfErr, IfNone, IfOk, IfSome, IsFalse, IsTrue, OnErr, OnOk};
+ghost use Rattle.text_words.specs.declared.error.TextError.TheVariants.{Memory};
+ghost use Rattle.text_words.specs.declared.words.Word.{Word as WordOf};
 ghost use Rattle.text_words.specs.Spelling.{IsNumber};
 ghost use Rattle.text_words.specs.declared.words.TextKind.TheVariants.{Line, ZoneFile};
+ghost use Rattle.text_words.specs.Words.{HasNoNext, HasNoWords, IsGapEnd};
 ghost use Rattle.text_words.specs.Words.{AreWordsTo, CrossesLines, IsByteAt, IsComment, IsEndFrom, IsGap, IsNext, IsPiece};
 ghost use Rattle.text_words.specs.Words.{IsPlainWord, IsQuotedWord, IsRestOfLine, IsRunTo, IsWordFrom, ends_quoted, ends_word, is_blank};
 
@@ -182,6 +185,7 @@ fn quote_place(text: &[u8], start: usize) -> Option<usize>
     ensures on { IfSome result (λ place. start ≤ place) }
     ensures quote { IfSome result (λ place. IsByteAt text.now place 34) }
     ensures run { IfSome result (λ place. IsRunTo ends_quoted text.now start place) }
+    ensures none { IfNone result (IsRunTo ends_quoted text.now start (length text.now)) }
 {
     let mut place = start;
     'bytes: while place < text.len() && text[place] != b'"' {
@@ -241,6 +245,7 @@ fn piece(kind: TextKind, text: &[u8], place: usize, depth: usize) -> Option<(usi
     ensures within { IfSome result (λ ends. ends.0 ≤ length text.now) }
     ensures counted { IfSome result (λ ends. ends.1 ≤ ends.0) }
     ensures piece { IfSome result (λ ends. IsPiece kind text.now place depth ends.0 ends.1) }
+    ensures none { IfNone result (IsGapEnd kind text.now place depth) }
 {
     let byte = text[place];
     if byte == b';' {
@@ -284,6 +289,7 @@ fn gap_end(kind: TextKind, text: &[u8], start: usize, depth: usize, opened: usiz
     ensures within { result.place ≤ length text.now }
     ensures counted { result.depth ≤ result.place }
     ensures gap { IsGap kind text.now start depth result.place result.depth }
+    ensures whole { IsGapEnd kind text.now result.place result.depth }
 {
     let mut end = GapEnd {
         place: start,
@@ -327,6 +333,7 @@ fn quoted_word<'a>(text: &'a [u8], start: usize) -> Result<(Word<'a>, usize), Te
     ensures on { IfOk result (λ found. start < found.1) }
     ensures within { IfOk result (λ found. found.1 ≤ length text.now) }
     ensures word { IfOk result (λ found. IsQuotedWord text.now start found.0 found.1) }
+    ensures none { OnErr result ((word : WordOf) (next : ℕ) → IsQuotedWord text.now start word next → ⊥) }
 {
     let Some(end) = quote_place(text, start + 1) else {
         return Err(fault_at(start, TextFault::UnclosedQuote));
@@ -407,6 +414,7 @@ impl<'a> Words<'a> {
         ensures kind { self.new.kind ≡ self.old.kind }
         ensures on { self.old.place ≤ self.new.place }
         ensures gap { IsGap self.old.kind self.old.text self.old.place self.old.depth self.new.place self.new.depth }
+        ensures whole { IsGapEnd self.new.kind self.new.text self.new.place self.new.depth }
     {
         let end = gap_end(self.kind, self.text, self.place, self.depth, self.opened);
         self.place = end.place;
@@ -421,6 +429,7 @@ impl<'a> Words<'a> {
         ensures on { self.old.place ≤ self.new.place }
         ensures next { IfOk result (λ found. IsNext self.old.kind self.old.text self.old.place self.old.depth found self.new.place self.new.depth) }
         ensures nearer { IfOk result (λ found. IfSome found (λ _. length self.new.text - self.new.place < length self.old.text - self.old.place)) }
+        ensures none { OnErr result (HasNoNext self.old.kind self.old.text self.old.place self.old.depth) }
     {
         self.skip();
         let start = self.place;
@@ -453,6 +462,7 @@ impl<'a> Words<'a> {
         ensures kind { self.new.kind ≡ self.old.kind }
         ensures on { self.old.place ≤ self.new.place }
         ensures words { IfOk result (λ words. AreWordsTo self.old.kind self.old.text self.old.place self.old.depth words.items self.new.place) }
+        ensures none { IfErr result (λ e. e ≢ Memory → HasNoWords self.old.kind self.old.text self.old.place self.old.depth) }
     {
         let mut fields = Vec::new(alloc);
         'fields: while let Some(word) = self.next()? {

@@ -1,1 +1,2 @@
+pub mod ZoneFaults
 pub mod ZoneFiles

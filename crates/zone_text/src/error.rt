@@ -1,6 +1,6 @@
 //! Why a zone file could not be read.
 
-use crate::zone_file::fault::FaultWord;
+use crate::zone_file::fault_word::FaultWord;
 use text_words::TextFault;
 use thiserror::Error;
 

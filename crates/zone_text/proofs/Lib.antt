@@ -1,0 +1,2 @@
+pub mod FieldFaults
+pub mod FirstFaults
