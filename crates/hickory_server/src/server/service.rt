@@ -1,6 +1,6 @@
 //! A server: the rules that it holds messages to, and the zones that it answers for.
 
-ghost use Rattle.std.specs.Prelude.{◌≡◌, ◌∷◌, [], List, ℕ, IfErr, IfOk, Ok};
+ghost use Rattle.std.specs.Prelude.{◌≡◌, ◌∷◌, [], List, ℕ, IfErr, IfOk, Ok, OnOk};
 ghost use Rattle.std.specs.List.{AllZip};
 ghost use Rattle.std.specs.Net.Socket.{socket_ip};
 ghost use Rattle.std.specs.Option.{option_copied};
@@ -100,6 +100,31 @@ fn truncate<S: ReplySigner, H: ZoneHandler>(
     sent(alloc, request, rules.udp_limit(), replies)
 }
 
+/// Hands the replies to a request by a transfer of the whole zone to a sink that has none.
+fn hand_transfer_over<S: ReplySigner, H: ZoneHandler>(
+    alloc: Global,
+    catalog: &Catalog<S, H>,
+    request: &Request,
+    now: u64,
+    sink: &mut EncodingSink,
+) -> Result<(), AllocError>
+    requires { sink.old ≡ record { protocol = request.now.protocol; replies = []; failures = 0 } }
+    ensures { OnOk result ((replies : List Reply) ×
+        TransferReplies (server_of H.ZoneHandler S.signature_for catalog.now) request.now (reply_edns catalog.now.nsid request.now.message.edns) now replies ×
+        AllZip (IsEncodingOf request.now.protocol) replies sink.new.replies) }
+{
+    match catalog.transfer(alloc, request, now, sink) {
+        Ok(_) => {}
+        Err(_) => return Err(AllocError),
+    }
+    // The sink fails only where it is refused the memory for a reply.
+    if sink.failures() > 0 {
+        return Err(AllocError);
+    }
+    replies_taken::<EncodingSink>();
+    Ok(())
+}
+
 /// The bytes of the replies to a request by a transfer of the whole zone, in their order.
 fn transfer_replies<S: ReplySigner, H: ZoneHandler>(
     alloc: Global,
@@ -112,15 +137,7 @@ fn transfer_replies<S: ReplySigner, H: ZoneHandler>(
         AllZip (IsEncodingOf request.now.protocol) replies encoded) }
 {
     let mut sink = EncodingSink::new(alloc, request.protocol());
-    match catalog.transfer(alloc, request, now, &mut sink) {
-        Ok(_) => {}
-        Err(_) => return Err(AllocError),
-    }
-    // The sink fails only where it is refused the memory for a reply.
-    if sink.failures() > 0 {
-        return Err(AllocError);
-    }
-    replies_taken::<EncodingSink>();
+    hand_transfer_over(alloc, catalog, request, now, &mut sink)?;
     Ok(sink.into_replies())
 }
 
