@@ -1,0 +1,5 @@
+pub mod Errors
+pub mod Frames
+pub mod JournalState
+pub mod Read
+pub mod Settled
