@@ -1,6 +1,7 @@
 -- What a crash leaves in each step of adding entries.
-use Rattle.std.proofs.Common.{◌≡◌, ℕ, ◌+◌, ◌<◌, List, [], ◌∷◌, ◌++◌, length, get_or, drop, sym, ◌∙◌, ap, subst, arith, append_assoc, length-append}
+use Rattle.std.proofs.Common.{◌≡◌, ◌≢◌, ◌⊎◌, inl, inr, ℕ, ◌+◌, ◌<◌, List, [], ◌∷◌, ◌++◌, length, get_or, drop, sym, ◌∙◌, ap, subst, arith, append_assoc, length-append}
 use Rattle.std.specs.Int.{w32, to_be_bytes}
+use Rattle.std.proofs.lemmas.Bool.{cases_eq}
 use Rattle.sqlite_disk.specs.Disk.{Holds, Torn, Follows}
 use Rattle.update_journal.specs.Frames.{frames, AreSmall, IsBeforeOrAfter, StandsFor}
 use Rattle.update_journal.specs.Settled.{behind_gate, IsAtRest, IsOpened, IsStaged}
@@ -62,3 +63,28 @@ module _ {D : Type 0} (seen : D → List ℕ) (may_leave : D → List ℕ → Ty
 
 pub behind_some : (first : List ℕ) (others : List (List ℕ)) (bytes : List ℕ) → bytes ≡ behind_gate first others → 0 < length bytes
 behind_some first others bytes are = omega (arith, ap length are, length-append ((to_be_bytes w32 (length first) ++ first) ++ frames others) (0 ∷ []))
+
+-- a write of the first byte, where there are entries
+module _ {D : Type 0} (seen : D → List ℕ) (may_leave : D → List ℕ → Type 0) (disk : D) (end : ℕ) where
+  -- the first gate is open
+  first_is : (entries : List (List ℕ)) → IsAtRest seen may_leave disk end entries → 0 < end → (rest : List ℕ) × (seen disk ≡ 1 ∷ rest)
+  first_is [] s some = absurd (omega (arith, s.place, some))
+  first_is (e ∷ entries) s some = (_, s.file)
+
+  pub clearing : (entries : List (List ℕ)) → IsAtRest seen may_leave disk end entries → 0 < end → (now : List ℕ → Type 0) → Follows (Torn 0 1) (may_leave disk) now → (c : List ℕ) → now c → StandsFor c entries ⊎ StandsFor c []
+  clearing entries s some now follows c left =
+      let from = follows c left in
+      let first = first_is entries s some in
+      let torn : Torn 0 1 (1 ∷ first.0) c = subst (λ f. Torn 0 1 f c) (s.durable from.0 from.1 ∙ first.1) from.2 in
+      let is : c ≡ get_or c 0 0 ∷ first.0 = one_byte 0 [] first.0 1 c (λ i. 0) torn in
+      by is first.1 (cases_eq (get_or c 0 0) 1)
+    where
+      by : {rest : List ℕ} → c ≡ get_or c 0 0 ∷ rest → seen disk ≡ 1 ∷ rest → (get_or c 0 0 ≡ 1) ⊎ (get_or c 0 0 ≢ 1) → StandsFor c entries ⊎ StandsFor c []
+      by {rest} is file (inl is_open) =
+          inl (subst (λ f. StandsFor f entries) (sym (is ∙ ap (λ (b : ℕ). b ∷ rest) is_open ∙ sym file ∙ s.file)) (stands_closed entries s.gate s.junk s.closed s.small))
+      by {rest} is file (inr closed) = inr (subst (λ f. StandsFor f []) (sym is) (stands_closed [] (get_or c 0 0) rest closed tt))
+
+  pub cleared : (entries : List (List ℕ)) (next : D) → IsAtRest seen may_leave disk end entries → 0 < end → Torn 0 1 (seen disk) (seen next) → Holds (seen next) 0 (0 ∷ []) → (junk : List ℕ) × (seen next ≡ 0 ∷ junk)
+  cleared entries next s some torn holds =
+      let first = first_is entries s some in
+      (first.0, one_byte_done 0 [] first.0 1 0 (seen next) (λ i. 0) (subst (λ f. Torn 0 1 f (seen next)) first.1 torn) holds)

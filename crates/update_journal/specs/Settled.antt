@@ -2,7 +2,7 @@
 use Rattle.std.specs.Prelude.{◌≡◌, ◌≢◌, ℕ, List, [], ◌∷◌, ◌++◌, length}
 use Rattle.std.specs.Int.{w32, to_be_bytes}
 use Rattle.sqlite_disk.specs.Disk.{Only}
-use Rattle.update_journal.specs.Frames.{frames, AreSmall}
+use Rattle.update_journal.specs.Frames.{frames, AreSmall, StandsFor}
 use Rattle.update_journal.specs.JournalState.{JournalState}
 
 module _ {D : Type 0} (seen : D → List ℕ) (may_leave : D → List ℕ → Type 0) where
@@ -20,6 +20,10 @@ module _ {D : Type 0} (seen : D → List ℕ) (may_leave : D → List ℕ → Ty
   -- The journal's file is so, up to its own closed gate.
   abbrev pub IsSettled : JournalState D → List (List ℕ) → Type 0
   IsSettled journal entries = IsAtRest journal.disk journal.end entries
+
+  -- Each file that a crash may leave of such a journal stands for these entries.
+  abbrev pub SettledEntriesStand : Type 0
+  SettledEntriesStand = (journal : JournalState D) (entries : List (List ℕ)) → IsSettled journal entries → (c : List ℕ) → may_leave journal.disk c → StandsFor c entries
 
 -- the first of some entries with its length, the frames of the others, and a closed gate, 0
 abbrev pub behind_gate : List ℕ → List (List ℕ) → List ℕ

@@ -8,7 +8,7 @@ ghost use Rattle.update_journal.specs.Errors.{is_of_disk};
 ghost use Rattle.update_journal.specs.declared.error.JournalError.TheVariants as journal_error;
 
 use crate::error::JournalError;
-use crate::writing::{are_small, behind_gate, write};
+use crate::writing::{are_small, behind_gate, close_first, write};
 use sqlite_disk::Disk;
 use std::alloc::Global;
 use std::marker::Model;
@@ -109,6 +109,38 @@ impl<D: Disk> Journal<D> {
             return Ok(());
         };
         self.add(alloc, first, others)
+    }
+
+    /// Takes all entries out. One sync; none where there are no entries.
+    ///
+    /// After `Disk` the file stands for the entries from before or for none, and the journal takes no entry any more; it has
+    /// to be recovered from its file. After every other error nothing was written.
+    pub fn clear(&mut self) -> Result<(), JournalError>
+        ensures cleared { OnOk result ((entries : List (List ℕ)) → IsSettled D.seen D.may_leave self.old entries → IsSettled D.seen D.may_leave self.new []) }
+        ensures opened { OnOk result ((self.old.is_open ≡ true) × (self.new.is_open ≡ true)) }
+        ensures unwritten { IfErr result (λ e. IsFalse (is_of_disk e) → self.new ≡ self.old) }
+        ensures failed { IfErr result (λ e. IsTrue (is_of_disk e) → (self.old.is_open ≡ true) × (self.new.is_open ≡ false) × MoreFaults (D.faults self.old.disk) (D.faults self.new.disk)) }
+        ensures shut { result ≡ Err journal_error.Shut → IsShut D.is_usable self.old }
+        ensures clean { D.is_clean self.new.disk ≡ D.is_clean self.old.disk }
+        // Whatever the answer, a crash leaves the entries from before, or none.
+        ensures crash { (entries : List (List ℕ)) → IsSettled D.seen D.may_leave self.old entries → (c : List ℕ) → D.may_leave self.new.disk c → StandsFor c entries ⊎ StandsFor c [] }
+    {
+        if !self.is_ready() {
+            return Err(JournalError::Shut);
+        }
+        if self.end == 0 {
+            return Ok(());
+        }
+        match close_first(&mut self.disk) {
+            Ok(()) => {
+                self.end = 0;
+                Ok(())
+            }
+            Err(e) => {
+                self.is_open = false;
+                Err(JournalError::Disk(e))
+            }
+        }
     }
 
     /// Whether an entry could be written now.

@@ -1,9 +1,10 @@
 //! Opening a journal that a crash may have left.
 
-ghost use Rattle.std.specs.Prelude.{true, ◌≡◌, ◌≢◌, ◌<◌, IsFalse, slice_index, List, ℕ, IfOk, IsTrue, OnOk, length};
+ghost use Rattle.std.specs.Prelude.{◌≡◌, ◌≢◌, ◌<◌, IsFalse, slice_index, List, ℕ, IfOk, IsTrue, OnOk, length};
 ghost use Rattle.sqlite_disk.specs.Disk.{Only};
 ghost use Rattle.update_journal.specs.Frames.{StandsFor};
-ghost use Rattle.update_journal.specs.Read.{contents, IsSplit};
+ghost use Rattle.update_journal.specs.Read.{IsSplit};
+ghost use Rattle.update_journal.specs.Recovery.{Recovers};
 ghost use Rattle.update_journal.specs.Settled.{IsAtRest};
 
 use crate::error::JournalError;
@@ -60,10 +61,7 @@ pub fn recover<D: Disk>(alloc: Global, disk: &mut D) -> Result<Recovered, Journa
     requires usable { IsTrue (D.is_usable disk.old) }
     // After a restart, what is read is what is on the disk.
     requires restarted { Only (D.seen disk.old) (D.may_leave disk.old) }
-    ensures found { IfOk result (λ found. IsTrue (D.is_clean disk.new) → StandsFor (D.seen disk.old) (contents found.entries.items)) }
-    ensures settled { IfOk result (λ found. IsTrue (D.is_clean disk.new) → IsAtRest D.seen D.may_leave disk.new found.end (contents found.entries.items)) }
-    // A crash at any of its calls leaves the same entries.
-    ensures crash { IsTrue (D.is_clean disk.new) → (entries : List (List ℕ)) → StandsFor (D.seen disk.old) entries → (c : List ℕ) → D.may_leave disk.new c → StandsFor c entries }
+    ensures { Recovers D.seen D.may_leave D.is_clean disk.old result disk.new }
 {
     let bytes = read_all(alloc, disk)?;
     let Ok(found) = read_frames(alloc, &bytes) else {

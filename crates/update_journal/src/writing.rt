@@ -1,6 +1,6 @@
 //! What is written of entries, and in which order.
 
-ghost use Rattle.std.specs.Prelude.{◌≡◌, ◌^◌, ◌<◌, ◌++◌, ◌∷◌, List, ℕ, IfOk, IsErr, IsTrue, OnOk, length};
+ghost use Rattle.std.specs.Prelude.{◌≡◌, ◌⊎◌, ◌^◌, ◌<◌, ◌++◌, ◌∷◌, [], List, ℕ, IfOk, IsErr, IsTrue, OnOk, length};
 ghost use Rattle.std.specs.Int.{w32, to_be_bytes};
 ghost use Rattle.sqlite_disk.specs.Disk.{CountsFault};
 ghost use Rattle.update_journal.specs.Frames.{AreSmall, IsBeforeOrAfter, IsSmall, StandsFor};
@@ -100,5 +100,19 @@ pub(crate) fn write<D: Disk>(disk: &mut D, end: usize, bytes: &[u8]) -> io::Resu
 {
     stage(disk, end, bytes)?;
     open_gate(disk, end)?;
+    Ok(())
+}
+
+/// Closes the first gate of a file that has entries.
+pub(crate) fn close_first<D: Disk>(disk: &mut D) -> io::Result<()>
+    requires usable { IsTrue (D.is_usable disk.old) }
+    ensures cleared { OnOk result ((end : ℕ) (entries : List (List ℕ)) → IsAtRest D.seen D.may_leave disk.old end entries → 0 < end → IsAtRest D.seen D.may_leave disk.new 0 []) }
+    ensures clean { D.is_clean disk.new ≡ D.is_clean disk.old }
+    ensures faults { CountsFault result (D.faults disk.old) (D.faults disk.new) }
+    // A crash leaves what was there before, or nothing.
+    ensures crash { (end : ℕ) (entries : List (List ℕ)) → IsAtRest D.seen D.may_leave disk.old end entries → 0 < end → (c : List ℕ) → D.may_leave disk.new c → StandsFor c entries ⊎ StandsFor c [] }
+{
+    disk.write_at(0, &[0])?;
+    disk.sync()?;
     Ok(())
 }

@@ -1,0 +1,4 @@
+pub mod DurableUpdates
+pub mod Journalling
+pub mod Redone
+pub mod Runs

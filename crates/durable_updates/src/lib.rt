@@ -1,0 +1,9 @@
+//! Dynamic updates (RFC 2136) that are on the disk before they are answered.
+#![tactic(auto)]
+
+pub mod laws;
+mod redoing;
+mod updating;
+
+pub use redoing::{RedoError, redo};
+pub use updating::update_durably;
