@@ -1,3 +1,4 @@
 pub mod Entries
 pub mod Untouched
 pub mod Histories
+pub mod Sameness
