@@ -17,7 +17,7 @@ use Rattle.hickory_store.specs.UpdateAnswers.{Outcome, applied, incremented, is_
 use Rattle.hickory_store.specs.UpdateLaws.{HasOneSoa, HoldsIn, IsOneSoa}
 use Rattle.hickory_store.proofs.ApexNs.{OfOneType, Records, Resource}
 use Rattle.hickory_store.proofs.OneSoa.{next_same, next_soa, one_fold, one_next, one_soa_same, only_soa, soa_respects}
-use Rattle.hickory_store.proofs.SameZones.{Identity, Respects, any_same, both_respect, fold_same, goes_respects, name_respects, newer_respects, not_respects, rrset_respects, same_respects, same_turned, same_via, some_ttl, type_respects}
+use Rattle.hickory_store.proofs.SameZones.{Identity, any_same, both_respect, fold_same, goes_respects, name_respects, newer_respects, not_respects, rrset_respects, same_respects, same_turned, same_via, some_ttl, type_respects}
 use Rattle.hickory_store.proofs.SerialSteps.{apex_next}
 use Rattle.durable_updates.specs.Redone.{Leaves, Makes, Redone, RedoesOne}
 

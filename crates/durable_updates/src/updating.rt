@@ -24,6 +24,7 @@ fn write<D: Disk>(
     request: &Request,
 ) -> Result<(), UpdateFault>
     ensures journals { Journals D.seen D.may_leave result request.now.bytes journal.old journal.new }
+    ensures clean { D.is_clean journal.new.disk ≡ D.is_clean journal.old.disk }
     ensures err { IfErr result IsWriteFault }
 {
     match journal.append(alloc, request.as_slice()) {
@@ -46,6 +47,7 @@ fn write_and_do<V: Verifier, D: Disk>(
     ensures made { OnOk result (Makes (update_of request.now.message).updates zone.old.zone zone.new.zone) }
     ensures untouched { IfOk result (λ changed. changed ≡ false → zone.new ≡ zone.old) }
     ensures journals { Journals D.seen D.may_leave result request.now.bytes journal.old journal.new }
+    ensures clean { D.is_clean journal.new.disk ≡ D.is_clean journal.old.disk }
 {
     write(journal, alloc, request)?;
     match zone.update_records(alloc, request.message().updates(), true) {
@@ -68,6 +70,7 @@ fn make<V: Verifier, D: Disk>(
     ensures made { OnOk result (Makes (update_of request.now.message).updates zone.old.zone zone.new.zone) }
     ensures untouched { IfOk result (λ changed. changed ≡ false → zone.new ≡ zone.old) }
     ensures journals { Journals D.seen D.may_leave result request.now.bytes journal.old journal.new }
+    ensures clean { D.is_clean journal.new.disk ≡ D.is_clean journal.old.disk }
 {
     match zone.verify_prerequisites(alloc, request.message().prerequisites()) {
         Err(fault) => Err(fault),
@@ -109,6 +112,7 @@ pub fn update_durably<V: Verifier, D: Disk>(
     ensures made { OnOk result.0 (Makes (update_of request.now.message).updates zone.old.zone zone.new.zone) }
     ensures kept { OnErr result.0 (zone.new ≡ zone.old) }
     ensures journals { Journals D.seen D.may_leave result.0 request.now.bytes journal.old journal.new }
+    ensures clean { D.is_clean journal.new.disk ≡ D.is_clean journal.old.disk }
 {
     let (permission, context) = zone.authorize_update(alloc, request, now);
     match permission {

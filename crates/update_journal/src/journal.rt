@@ -137,7 +137,7 @@ impl<D: Disk> Journal<D> {
                 Ok(())
             }
             Err(e) => {
-                self.is_open = false;
+                self.shut();
                 Err(JournalError::Disk(e))
             }
         }
@@ -179,7 +179,7 @@ impl<D: Disk> Journal<D> {
                 Ok(())
             }
             Err(e) => {
-                self.is_open = false;
+                self.shut();
                 Err(JournalError::Disk(e))
             }
         }

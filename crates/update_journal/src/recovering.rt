@@ -9,6 +9,7 @@ ghost use Rattle.update_journal.specs.Settled.{IsAtRest};
 
 use crate::error::JournalError;
 use crate::reading::{Recovered, read_frames};
+use crate::writing::put;
 use sqlite_disk::Disk;
 use std::alloc::Global;
 use std::io;
@@ -49,8 +50,7 @@ fn close<D: Disk>(disk: &mut D, bytes: &[u8], end: usize) -> io::Result<()>
     if is_closed(bytes, end) {
         return Ok(());
     }
-    disk.write_at(end, &[0])?;
-    disk.sync()?;
+    put(disk, end, &[0])?;
     Ok(())
 }
 

@@ -2,7 +2,7 @@
 
 ghost use Rattle.std.specs.Prelude.{◌≡◌, ◌⊎◌, ◌^◌, ◌<◌, ◌++◌, ◌∷◌, [], List, ℕ, IfOk, IsErr, IsTrue, OnOk, length};
 ghost use Rattle.std.specs.Int.{w32, to_be_bytes};
-ghost use Rattle.sqlite_disk.specs.Disk.{CountsFault};
+ghost use Rattle.sqlite_disk.specs.Disk.{CountsFault, Follows, Holds, Only, Torn};
 ghost use Rattle.update_journal.specs.Frames.{AreSmall, IsBeforeOrAfter, IsSmall, StandsFor};
 ghost use Rattle.update_journal.specs.Read.{contents};
 ghost use Rattle.update_journal.specs.Settled.{IsAtRest, IsOpened, IsStaged, behind_gate};
@@ -58,6 +58,22 @@ pub(crate) fn behind_gate(
     Ok(bytes)
 }
 
+/// Writes bytes at a place, on the disk.
+pub(crate) fn put<D: Disk>(disk: &mut D, at: usize, bytes: &[u8]) -> io::Result<()>
+    requires usable { IsTrue (D.is_usable disk.old) }
+    ensures written { OnOk result (0 < length bytes.now → Holds (D.seen disk.new) at bytes.now) }
+    ensures durable { OnOk result (Only (D.seen disk.new) (D.may_leave disk.new)) }
+    ensures others { Torn at (length bytes.now) (D.seen disk.old) (D.seen disk.new) }
+    ensures usable { OnOk result (IsTrue (D.is_usable disk.new)) }
+    ensures clean { D.is_clean disk.new ≡ D.is_clean disk.old }
+    ensures faults { CountsFault result (D.faults disk.old) (D.faults disk.new) }
+    ensures crash { Follows (Torn at (length bytes.now)) (D.may_leave disk.old) (D.may_leave disk.new) }
+{
+    disk.write_at(at, bytes)?;
+    disk.sync()?;
+    Ok(())
+}
+
 /// Puts entries behind the closed gate, on the disk.
 fn stage<D: Disk>(disk: &mut D, end: usize, bytes: &[u8]) -> io::Result<()>
     requires usable { IsTrue (D.is_usable disk.old) }
@@ -69,8 +85,7 @@ fn stage<D: Disk>(disk: &mut D, end: usize, bytes: &[u8]) -> io::Result<()>
     // A crash leaves what was there before.
     ensures crash { (entries : List (List ℕ)) → IsAtRest D.seen D.may_leave disk.old end entries → (c : List ℕ) → D.may_leave disk.new c → StandsFor c entries }
 {
-    disk.write_at(end + 1, bytes)?;
-    disk.sync()?;
+    put(disk, end + 1, bytes)?;
     Ok(())
 }
 
@@ -84,8 +99,7 @@ fn open_gate<D: Disk>(disk: &mut D, end: usize) -> io::Result<()>
     // A crash leaves what was there before, with these entries or without.
     ensures crash { (entries : List (List ℕ)) (first : List ℕ) (others : List (List ℕ)) → AreSmall (first ∷ others) → IsStaged D.seen D.may_leave disk.old end entries first others → (c : List ℕ) → D.may_leave disk.new c → IsBeforeOrAfter entries (first ∷ others) c }
 {
-    disk.write_at(end, &[1])?;
-    disk.sync()?;
+    put(disk, end, &[1])?;
     Ok(())
 }
 
@@ -112,7 +126,6 @@ pub(crate) fn close_first<D: Disk>(disk: &mut D) -> io::Result<()>
     // A crash leaves what was there before, or nothing.
     ensures crash { (end : ℕ) (entries : List (List ℕ)) → IsAtRest D.seen D.may_leave disk.old end entries → 0 < end → (c : List ℕ) → D.may_leave disk.new c → StandsFor c entries ⊎ StandsFor c [] }
 {
-    disk.write_at(0, &[0])?;
-    disk.sync()?;
+    put(disk, 0, &[0])?;
     Ok(())
 }

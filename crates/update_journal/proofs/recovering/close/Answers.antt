@@ -16,31 +16,26 @@ returns-then-is_closed-clause-settled g c = λ entries s seen only.
     let there = gate_there c.args.bytes.now entries c.args.end s tested.0 in
     record { gate = _; junk = there.0; closed = tested.1; file = seen ∙ there.1; place = s.place; small = s.small; durable = only }
 
-pub returns-in_err-write_at-clause-crash : goal.returns-in_err-write_at-clause-crash
-returns-in_err-write_at-clause-crash g c = λ entries s seen only file left.
-    let from = c.write_at.ensures.crash file left in
-    closing c.args.bytes.now entries c.args.end file s (c.is_closed.ensures.open c.if-is_closed.false) (subst (λ f. Torn c.args.end 1 f file) (only from.0 from.1 ∙ seen) from.2)
-
-pub returns-in_err-sync-clause-crash : goal.returns-in_err-sync-clause-crash
-returns-in_err-sync-clause-crash g c = λ entries s seen only file left.
-    let from = c.write_at.ensures.crash file (c.sync.ensures.crash file left) in
+pub returns-in_err-put-clause-crash : goal.returns-in_err-put-clause-crash
+returns-in_err-put-clause-crash g c = λ entries s seen only file left.
+    let from = c.put.ensures.crash file left in
     closing c.args.bytes.now entries c.args.end file s (c.is_closed.ensures.open c.if-is_closed.false) (subst (λ f. Torn c.args.end 1 f file) (only from.0 from.1 ∙ seen) from.2)
 
 pub returns-clause-crash : goal.returns-clause-crash
 returns-clause-crash g c = λ entries s seen only file left.
-    let from = c.write_at.ensures.crash file (c.sync.ensures.crash file left) in
+    let from = c.put.ensures.crash file left in
     closing c.args.bytes.now entries c.args.end file s (c.is_closed.ensures.open c.if-is_closed.false) (subst (λ f. Torn c.args.end 1 f file) (only from.0 from.1 ∙ seen) from.2)
 
 pub returns-clause-settled : goal.returns-clause-settled
 returns-clause-settled g c = λ entries s seen only.
-    let new = g.D.Disk.seen c.write_at.new.self in
-    let is = closed_by c.args.bytes.now entries c.args.end (g.D.Disk.seen c.write_at.new.self) s (subst (λ f. Torn c.args.end 1 f (g.D.Disk.seen c.write_at.new.self)) seen c.write_at.ensures.others) (c.in_ok-write_at.ensures.written (omega arith)) in
+    let new = g.D.Disk.seen c.put.new.disk in
+    let is = closed_by c.args.bytes.now entries c.args.end (g.D.Disk.seen c.put.new.disk) s (subst (λ f. Torn c.args.end 1 f (g.D.Disk.seen c.put.new.disk)) seen c.put.ensures.others) (c.in_ok-put.ensures.written (omega arith)) in
     record {
       gate = 0;
       junk = is.0;
       closed = zero_not_one 0 (λ i. 0);
-      file = c.sync.ensures.seen ∙ is.1;
+      file = is.1;
       place = s.place;
       small = s.small;
-      durable = subst (λ f. Only f (g.D.Disk.may_leave c.sync.new.self)) (sym c.sync.ensures.seen) c.in_ok-sync.ensures.durable;
+      durable = c.in_ok-put.ensures.durable;
     }

@@ -19,4 +19,4 @@ returns-in-Ok-clause-crash g c = λ entries s file left.
 pub returns-in-Err-clause-crash : goal.returns-in-Err-clause-crash
 returns-in-Err-clause-crash g c = λ entries s file left.
     let some : 0 < c.self.inside.end = omega arith in
-    c.close_first.ensures.crash c.self.inside.end entries (subst (λ (v : JournalState g.row.D.Denot). IsAtRest g.D.Disk.seen g.D.Disk.may_leave v.disk v.end entries) (sym c.self.view_is) s) some file left
+    c.close_first.ensures.crash c.self.inside.end entries (subst (λ (v : JournalState g.row.D.Denot). IsAtRest g.D.Disk.seen g.D.Disk.may_leave v.disk v.end entries) (sym c.self.view_is) s) some file (subst (λ (j : JournalState g.row.D.Denot). g.D.Disk.may_leave j.disk file) c.shut.ensures left)
