@@ -1,1 +1,5 @@
+mod Judgements
 mod SameBytes
+mod Signatures
+mod Skips
+mod Walks
