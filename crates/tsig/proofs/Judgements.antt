@@ -13,8 +13,7 @@ use Rattle.tsig.specs.Keys.{key_of}
 use Rattle.tsig.specs.Reading.{signature_of}
 use Rattle.tsig.specs.Standing.{SignedAt, UnsignedAt}
 use Rattle.tsig.specs.declared.judgement.Judgement.{Judgement}
-use Rattle.tsig.specs.declared.judgement.Judgement.TheVariants.{Unsigned, FormErr, Signed}
-use Rattle.tsig.specs.declared.judgement.Verdict.{Verdict}
+use Rattle.tsig.specs.declared.judgement.Judgement.TheVariants.{FormErr, Signed}
 use Rattle.tsig.specs.declared.judgement.Verdict.TheVariants.{Good, BadKey, BadSig, BadTime, BadTrunc}
 use Rattle.tsig.specs.declared.keys.Key.{Key}
 use Rattle.tsig.specs.declared.reading.PlacedSignature.{PlacedSignature}
@@ -50,9 +49,9 @@ module _ (keys : List Key) (bytes : List ℕ) (now n place : ℕ) (s : Record TS
       → By (cond b (judged_with key bytes now (found_at n place s)) (Signed s BadKey))
   by_algorithm key true f k e = by_len key (is_mac_len key.algorithm (length s.rdata.mac)) (record { fixed = f; found = k; algorithm = e }) refl
   by_algorithm key false f k e = bad_key f (λ (other : Key) (h : HasKey keys s other).
-    let same : key ≡ other = let g = h.found in cc in
-    let named : is_named key.algorithm s.rdata.algorithm ≡ true = subst (λ (q : Key). is_named q.algorithm s.rdata.algorithm ≡ true) (sym same) h.algorithm in
-    absurd cc)
+      let same : key ≡ other = let g = h.found in cc in
+      let named : is_named key.algorithm s.rdata.algorithm ≡ true = subst (λ (q : Key). is_named q.algorithm s.rdata.algorithm ≡ true) (sym same) h.algorithm in
+      absurd cc)
 
   by_key : (o : Option Key) → has_fixed_fields s ≡ true → key_of keys s.name ≡ o → By (judged_by o bytes now (found_at n place s))
   by_key None f e = bad_key f (λ (key : Key) (h : HasKey keys s key). let g = h.found in absurd cc)

@@ -1,4 +1,7 @@
+mod Appending
+mod HashLengths
 mod Judgements
+mod Replies
 mod SameBytes
 mod Signatures
 mod Skips

@@ -1,5 +1,5 @@
 -- The TSIG record that is found is the one that stands last, and none is found exactly where none stands.
-use Rattle.std.proofs.Common.{◌≡◌, ◌≢◌, ◌⊎◌, inl, inr, ℕ, zero, suc, ◌+◌, ◌-◌, ◌<◌, List, [], ◌∷◌, ◌++◌, length, length-append, Bool, true, false, cond, Option, Some, None, Result, Ok, Err, eqb, refl, sym, ap, subst, ◌∙◌, arith}
+use Rattle.std.proofs.Common.{◌≡◌, ◌≢◌, ◌⊎◌, inl, inr, ℕ, zero, suc, ◌+◌, ◌-◌, ◌<◌, List, [], ◌∷◌, ◌++◌, length, length-append, true, false, cond, Option, Some, None, Result, Ok, Err, eqb, refl, sym, ap, subst, ◌∙◌, arith}
 use Rattle.std.proofs.lemmas.Bool.{ne_eqb}
 use Rattle.std.proofs.lemmas.Bool.Decides.{eqb_tells}
 use Rattle.wire_names.specs.serialize.layout.Bytes.{AreBytes}
@@ -11,7 +11,6 @@ use Rattle.wire_messages.specs.serialize.layout.RecordLayout.{DataRead, RecordAt
 use Rattle.wire_messages.specs.serialize.reading.Reading.{Read, ◌>>=◌}
 use Rattle.wire_messages.specs.serialize.reading.RecordReading.{question, resource}
 use Rattle.wire_messages.specs.serialize.reading.SectionReading.{header, with_data}
-use Rattle.wire_messages.specs.declared.op.header.Header.{Header}
 use Rattle.wire_messages.specs.declared.op.header.HeaderCounts.{HeaderCounts}
 use Rattle.wire_messages.specs.declared.rr.rdata.RData.{RData}
 use Rattle.wire_messages.specs.declared.rr.rdata.RData.TheVariants as rdata
@@ -135,28 +134,32 @@ last_stands : (bytes : List ℕ) (counts : HeaderCounts) (place behind stop : �
     → ItemsAt (OtherAt bytes) place others behind → length others ≡ counts.answers + counts.authorities + (counts.additionals - 1) → RecordAt bytes behind last stop
     → (r : Option PlacedSignature) → placed counts.additionals behind last last.rdata ≡ r → Stands bytes r
 last_stands bytes counts place behind stop others last begin some stand count at None e =
-    let one : OtherAt bytes behind last stop = record { stands = at; other = none_placed counts.additionals behind bytes (at.middle + 10) stop last last.rdata at.rdata e } in
-    (stop, record {
-      counts = counts;
-      records_at = place;
-      records = others ++ last ∷ [];
-      begin = begin;
-      stand = items_end (OtherAt bytes) others last place behind stop stand one;
-      number = omega (arith, length-append others (last ∷ []));
-    })
+    let one : OtherAt bytes behind last stop = record { stands = at; other = none_placed counts.additionals behind bytes (at.middle + 10) stop last last.rdata at.rdata e } in (
+      stop,
+      record {
+        counts = counts;
+        records_at = place;
+        records = others ++ last ∷ [];
+        begin = begin;
+        stand = items_end (OtherAt bytes) others last place behind stop stand one;
+        number = omega (arith, length-append others (last ∷ []));
+      },
+    )
 last_stands bytes counts place behind stop others last begin some stand count at (Some p) e =
-    let is = found_placed counts.additionals behind last last.rdata p e in
-    (stop, record {
-      counts = counts;
-      records_at = place;
-      records = others;
-      begin = begin;
-      last = sym is.additionals;
-      some = subst (λ (n : ℕ). 0 < n) (sym is.additionals) some;
-      stand = subst (λ (n : ℕ). ItemsAt (OtherAt bytes) place others n) (sym is.at) stand;
-      number = omega (arith, is.additionals);
-      stands = subst (λ (n : ℕ). RecordAt bytes n (tsig_record p.signature) stop) (sym is.at) (subst (λ (x : Record RData). RecordAt bytes behind x stop) is.last at);
-    })
+    let is = found_placed counts.additionals behind last last.rdata p e in (
+      stop,
+      record {
+        counts = counts;
+        records_at = place;
+        records = others;
+        begin = begin;
+        last = sym is.additionals;
+        some = subst (λ (n : ℕ). 0 < n) (sym is.additionals) some;
+        stand = subst (λ (n : ℕ). ItemsAt (OtherAt bytes) place others n) (sym is.at) stand;
+        number = omega (arith, is.additionals);
+        stands = subst (λ (n : ℕ). RecordAt bytes n (tsig_record p.signature) stop) (sym is.at) (subst (λ (x : Record RData). RecordAt bytes behind x stop) is.last at);
+      },
+    )
 
 last_found : (bytes : List ℕ) (counts : HeaderCounts) (place : ℕ) (r : Option PlacedSignature) → AreBytes bytes → RecordsBegin bytes counts place → 0 < counts.additionals
     → last_of counts (here bytes place) ≡ Ok r → Stands bytes r
@@ -200,7 +203,7 @@ unfolding signature_of signature_behind
 begin_found bytes counts place a begin =
     let number : length begin.queries ≡ begin.header.counts.queries = begin.query_count ∙ ap (λ (c : HeaderCounts). c.queries) (sym begin.counted) in
     let q : skip question begin.header.counts.queries (here bytes 12) ≡ Ok (here bytes place) =
-        subst (λ (k : ℕ). skip question k (here bytes 12) ≡ Ok (here bytes place)) number (skip_here bytes question (QuestionRead bytes) (questions_reach bytes a) begin.queries 12 place begin.questions) in
+    subst (λ (k : ℕ). skip question k (here bytes 12) ≡ Ok (here bytes place)) number (skip_here bytes question (QuestionRead bytes) (questions_reach bytes a) begin.queries 12 place begin.questions) in
     rw (header_here bytes begin.header begin.stands, q) (ap (λ (c : HeaderCounts). cond (eqb c.additionals 0) (none_of c (here bytes place)) (last_of c (here bytes place))) begin.counted)
 
 -- A TSIG that stands last is found.
@@ -210,7 +213,7 @@ unfolding last_of
 signed_found bytes n place s stop a at =
     let number : length at.records ≡ at.counts.answers + at.counts.authorities + (at.counts.additionals - 1) = omega (arith, at.number, at.last, at.some) in
     let others : skip other (at.counts.answers + at.counts.authorities + (at.counts.additionals - 1)) (here bytes at.records_at) ≡ Ok (here bytes place) =
-        subst (λ (k : ℕ). skip other k (here bytes at.records_at) ≡ Ok (here bytes place)) number (skip_here bytes other (OtherAt bytes) (others_reach bytes a) at.records at.records_at place at.stand) in
+    subst (λ (k : ℕ). skip other k (here bytes at.records_at) ≡ Ok (here bytes place)) number (skip_here bytes other (OtherAt bytes) (others_reach bytes a) at.records at.records_at place at.stand) in
     let some : eqb at.counts.additionals 0 ≡ false = ne_eqb at.counts.additionals 0 (λ z. let l = at.last in let p = at.some in omega arith) in
     begin_found bytes at.counts at.records_at a at.begin
     ∙ rw (some, others, records_reach bytes a place (tsig_record s) stop at.stands) (ap (λ (k : ℕ). wrap (wrap_some (record { additionals = k; place = place; signature = s }))) at.last)
@@ -266,5 +269,5 @@ either_unsigned bytes counts place stop e (inr (t, some)) = rw t (last_unsigned 
 pub unsigned_found : (bytes : List ℕ) (stop : ℕ) → AreBytes bytes → UnsignedAt bytes stop → signature_of (front_of bytes) ≡ Ok None
 unsigned_found bytes stop a at =
     let all : skip other (at.counts.answers + at.counts.authorities + at.counts.additionals) (here bytes at.records_at) ≡ Ok (here bytes stop) =
-        subst (λ (k : ℕ). skip other k (here bytes at.records_at) ≡ Ok (here bytes stop)) at.number (skip_here bytes other (OtherAt bytes) (others_reach bytes a) at.records at.records_at stop at.stand) in
+    subst (λ (k : ℕ). skip other k (here bytes at.records_at) ≡ Ok (here bytes stop)) at.number (skip_here bytes other (OtherAt bytes) (others_reach bytes a) at.records at.records_at stop at.stand) in
     begin_found bytes at.counts at.records_at a at.begin ∙ either_unsigned bytes at.counts at.records_at stop all (eqb_tells at.counts.additionals 0)

@@ -1,5 +1,5 @@
 -- What a transaction signature is computed over (RFC 8945 section 4.3).
-use Rattle.std.specs.Prelude.{ℕ, ◌-◌, ◌%◌, ◌^◌, List, [], ◌∷◌, ◌++◌, length, drop, slice_range}
+use Rattle.std.specs.Prelude.{ℕ, ◌-◌, ◌%◌, ◌^◌, List, ◌++◌, length, drop, slice_range}
 use Rattle.std.specs.Int.{w16, w32, w64, to_be_bytes}
 use Rattle.wire_names.specs.rr.domain.DomainName.{DomainName}
 use Rattle.wire_names.specs.rr.domain.NameOrder.{lower_labels}

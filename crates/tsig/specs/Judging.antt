@@ -1,5 +1,5 @@
 -- How a message is judged by the signature that it carries (RFC 8945 section 5.2).
-use Rattle.std.specs.Prelude.{◌≡◌, ◌<◌, ℕ, ◌+◌, Bool, true, false, IsTrue, ◌&&◌, nat_eq, nat_le, nat_lt, List, length, take, bytes_eq, Option, Some, None}
+use Rattle.std.specs.Prelude.{◌≡◌, ℕ, ◌+◌, Bool, false, IsTrue, ◌&&◌, nat_eq, nat_le, nat_lt, List, length, take, bytes_eq, Some}
 use Rattle.wire_names.specs.rr.domain.DomainName.{DomainName}
 use Rattle.wire_names.specs.rr.domain.NameOrder.{name_eq}
 use Rattle.wire_messages.specs.declared.rr.record.Record.{Record}

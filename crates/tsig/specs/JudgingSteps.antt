@@ -1,7 +1,6 @@
 -- The judgement of a message as a function, step by step.
 use Rattle.std.specs.Prelude.{ℕ, List, length, nat_lt, Option, Some, None, Result, Ok, Err, if◌then◌else◌}
 use Rattle.wire_names.specs.declared.error.DecodeError.{DecodeError}
-use Rattle.wire_messages.specs.declared.rr.record.Record.{Record}
 use Rattle.wire_messages.specs.declared.rr.tsig.TSIG.{TSIG}
 use Rattle.wire_reading.specs.serialize.reading.MessageReading.{front_of}
 use Rattle.tsig.specs.Judging.{has_fixed_fields, is_in_time, is_mac_len, is_mac_of, is_named, signed_text}

@@ -1,7 +1,11 @@
+pub mod ContextSigning
 pub mod Digest
 pub mod Hmac
 pub mod Judging
 pub mod JudgingSteps
 pub mod Keys
 pub mod Reading
+pub mod Signing
 pub mod Standing
+pub mod Validity
+pub mod Verifying

@@ -1,5 +1,5 @@
 -- Looking for the TSIG record of a message, record by record, as a function.
-use Rattle.std.specs.Prelude.{ℕ, zero, suc, ◌+◌, ◌-◌, List, Option, Some, None, Result, Ok, Err, nat_eq, if◌then◌else◌}
+use Rattle.std.specs.Prelude.{ℕ, zero, suc, ◌+◌, ◌-◌, Option, Some, None, Result, Ok, Err, nat_eq, if◌then◌else◌}
 use Rattle.wire_messages.specs.serialize.layout.MessageLayout.{is_tsig}
 use Rattle.wire_messages.specs.serialize.reading.Cursor.{Cursor}
 use Rattle.wire_messages.specs.serialize.reading.Reading.{Read, ◌>>=◌}

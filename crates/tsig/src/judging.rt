@@ -23,18 +23,14 @@ use wire_names::rr::domain::name::Name;
 use wire_names::values::boxed::Boxed;
 
 /// Whether the record has the class ANY and the TTL 0.
-fn has_fixed_fields(signature: &Record<TSIG>) -> bool
+pub(crate) fn has_fixed_fields(signature: &Record<TSIG>) -> bool
     ensures { result ≡ has_fixed_fields signature.now }
 {
     signature.dns_class == DNSClass::ANY && signature.ttl == 0
 }
 
 /// Whether a name is the algorithm's.
-pub(crate) fn is_named(
-    alloc: Global,
-    algorithm: Algorithm,
-    name: &Name,
-) -> Result<bool, AllocError>
+pub(crate) fn is_named(alloc: Global, algorithm: Algorithm, name: &Name) -> Result<bool, AllocError>
     ensures { IfOk result (λ answer. answer ≡ is_named algorithm name.now) }
 {
     Ok(algorithm.name(alloc)? == *name)
@@ -113,11 +109,7 @@ fn verdict_of(
 }
 
 /// The judgement that a record was judged so.
-fn signed(
-    alloc: Global,
-    signature: Record<TSIG>,
-    verdict: Verdict,
-) -> Result<Judgement, AllocError>
+fn signed(alloc: Global, signature: Record<TSIG>, verdict: Verdict) -> Result<Judgement, AllocError>
     ensures { IfOk result (λ judgement. judgement ≡ Answer.Signed signature verdict) }
 {
     let signature = Boxed::new(alloc, signature)?;
@@ -179,12 +171,7 @@ fn judged_of(
 
 /// The judgement of a message, as a function of keys, bytes and moment.
 #[tactic(auto, unfolding(crate::specs::JudgingSteps::judgement_of))]
-fn judgement_of(
-    alloc: Global,
-    keys: &Keys,
-    bytes: &[u8],
-    now: u64,
-) -> Result<Judgement, AllocError>
+fn judgement_of(alloc: Global, keys: &Keys, bytes: &[u8], now: u64) -> Result<Judgement, AllocError>
     ensures { IfOk result (λ judgement. judgement ≡ judgement_of keys.now bytes.now now) }
 {
     match signature_of(alloc, bytes) {

@@ -2,7 +2,6 @@
 use Rattle.std.proofs.Common.{◌≡◌, arith}
 use Rattle.tsig.specs.Judging.{Judged}
 use Rattle.tsig.specs.JudgingSteps.{judgement_of}
-use Rattle.tsig.specs.declared.judgement.Judgement.{Judgement}
 use Rattle.tsig.proofs.Judgements.{from_ok, judged, only_judged}
 use Rattle.tsig.proofs.judging.judge.Goals as goal
 
