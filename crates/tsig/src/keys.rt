@@ -1,6 +1,6 @@
 //! Keys by their names.
 
-ghost use Rattle.std.specs.Prelude.{◌≡◌, ◌++◌, ◌∷◌, [], IfOk, OnOk, OnErr};
+ghost use Rattle.std.specs.Prelude.{◌≡◌, ◌++◌, ◌∷◌, [], ◌↔◌, IsTrue, IfOk, OnOk, OnErr};
 ghost use Rattle.std.specs.Option.{option_copied};
 ghost use Rattle.tsig.specs.Keys.{key_of};
 
@@ -36,6 +36,13 @@ impl Secret {
         ensures { result.now ≡ self.now }
     {
         self.bytes.as_slice()
+    }
+
+    /// Whether it has no byte.
+    pub fn is_empty(&self) -> bool
+        ensures { IsTrue result ↔ (self.now ≡ []) }
+    {
+        self.bytes.is_empty()
     }
 
     /// A copy.
