@@ -1,0 +1,62 @@
+-- What becomes of the lines of a list.
+use Rattle.std.specs.Prelude.{◌≡◌, ℕ, ◌+◌, Bool, true, false, List, [], ◌∷◌, take, flat_map, count_by, Option, Some, None, is_none, unwrap_or}
+use Rattle.wire_names.specs.rr.domain.DomainName.{DomainName}
+use Rattle.name_lists.specs.Gives.{Gives}
+use Rattle.name_lists.specs.Names.{plain_lines}
+use Rattle.name_lists.specs.Words.{lines_of, without_mark}
+
+-- The line gives these names, or is skipped since it gives no list of names.
+abbrev pub BecomesOf : List ℕ → Option (List DomainName) → Type 0
+BecomesOf line (Some names) = Gives line names
+BecomesOf line None = (names : List DomainName) → ¬ (Gives line names)
+
+-- the same of each line
+abbrev pub BecomeOf : List (List ℕ) → List (Option (List DomainName)) → Type 0
+BecomeOf [] [] = Unit {0}
+BecomeOf [] (outcome ∷ outcomes) = ⊥
+BecomeOf (line ∷ lines) [] = ⊥
+BecomeOf (line ∷ lines) (outcome ∷ outcomes) = BecomesOf line outcome × BecomeOf lines outcomes
+
+-- all names that the lines give, in their order
+abbrev pub given_names : List (Option (List DomainName)) → List DomainName
+given_names outcomes = flat_map (λ outcome. unwrap_or outcome []) outcomes
+
+abbrev pub is_taken : Option (List DomainName) → Bool
+is_taken (Some (name ∷ names)) = true
+is_taken _ = false
+
+abbrev pub is_bare : Option (List DomainName) → Bool
+is_bare (Some []) = true
+is_bare _ = false
+
+-- the numbers of the lines that are skipped, where the first line has this number
+abbrev pub skipped_numbers : ℕ → List (Option (List DomainName)) → List ℕ
+skipped_numbers first [] = []
+skipped_numbers first (None ∷ outcomes) = first ∷ skipped_numbers (first + 1) outcomes
+skipped_numbers first (Some names ∷ outcomes) = skipped_numbers (first + 1) outcomes
+
+-- How many lines give names, how many give none, how many are skipped, and the numbers of the first three of those, counted from 1.
+pub record Counts : Type 0 where
+  pub taken : ℕ
+  pub bare : ℕ
+  pub skipped : ℕ
+  pub first_skipped : List ℕ
+
+abbrev pub counts_of : List (Option (List DomainName)) → Counts
+counts_of outcomes = record {
+  taken = count_by is_taken outcomes;
+  bare = count_by is_bare outcomes;
+  skipped = count_by is_none outcomes;
+  first_skipped = take 3 (skipped_numbers 1 outcomes);
+}
+
+-- what becomes of the lines of a text, which may begin with a byte order mark
+abbrev pub BecomesOfText : List ℕ → List (Option (List DomainName)) → Type 0
+BecomesOfText text outcomes = BecomeOf (lines_of (without_mark text)) outcomes
+
+-- The plain lines say the names that the lines of the text give, one each, in their order, and these are the counts.
+pub record IsAdapted (text plain : List ℕ) (counts : Counts) : Type 0 where
+  pub outcomes : List (Option (List DomainName))
+  pub become : BecomesOfText text outcomes
+  pub handed : plain ≡ plain_lines (given_names outcomes)
+  pub counted : counts ≡ counts_of outcomes

@@ -1,0 +1,5 @@
+pub mod Counts
+pub mod Gives
+pub mod Names
+pub mod Pushes
+pub mod Words
