@@ -1,10 +1,11 @@
 -- The words of a hosts line, one after another.
-use Rattle.std.proofs.Common.{◌≡◌, ℕ, Bool, List, [], ◌∷◌, ◌++◌, refl, sym, ap, ◌∙◌, subst, append_assoc}
+use Rattle.std.proofs.Common.{◌≡◌, ℕ, Bool, List, [], ◌∷◌, ◌++◌, true, false, refl, sym, ap, ◌∙◌, subst, append_assoc}
 use Rattle.std.proofs.lemmas.List.{append-nil}
-use Rattle.std.proofs.lemmas.List.Concat.{flat_map-append}
+use Rattle.std.proofs.lemmas.Grind.{flat_map-append}
 use Rattle.wire_names.specs.rr.domain.DomainName.{DomainName}
-use Rattle.name_lists.specs.Gives.{GivesHost, GivesHosts}
-use Rattle.name_lists.specs.Names.{plain_line, plain_lines}
+use Rattle.std.specs.Prelude.{MatchBool}
+use Rattle.name_lists.specs.Gives.{GivesAlone, GivesHost, GivesHosts, GivesWords, is_root_alias, is_sink}
+use Rattle.name_lists.specs.Names.{GivesName, plain_line, plain_lines}
 
 -- The words at the front of a line gave these names, whose lines stand behind the old ones; the words left give the rest.
 pub record HostsSoFar (is_behind_sink : Bool) (words left : List (List ℕ)) (old new : List ℕ) : Type 0 where
@@ -41,3 +42,23 @@ module _ (is_behind_sink : Bool) (words : List (List ℕ)) (old : List ℕ) wher
   hosts_not left word behind mid so e none names g =
       let s : HostsSoFar is_behind_sink words (word ∷ behind) old mid = subst (λ ws. HostsSoFar is_behind_sink words ws old mid) e so in
       let f = s.forth names g in none f.1.0 f.1.2
+
+-- ---- words by how many they are, for each claim on what they give
+
+module _ (M : (List DomainName → Type 0) → Type 0) (words : List (List ℕ)) (word : List ℕ) where
+  pub by_one : words ≡ word ∷ [] → M (GivesAlone word) → M (GivesWords words)
+  by_one e m = subst (λ ws. M (GivesWords ws)) (sym e) m
+
+  module _ (behind : List (List ℕ)) (next : List ℕ) (more : List (List ℕ)) (e : words ≡ word ∷ behind) (some : behind ≡ next ∷ more) where
+    by_alias_or_hosts : (t : Bool) → is_root_alias behind ≡ t → M (λ names. MatchBool t (GivesName word names) (GivesHosts (is_sink word) behind names)) → M (GivesWords words)
+    by_alias_or_hosts t is m =
+        let both : M (λ names. MatchBool (is_root_alias behind) (GivesName word names) (GivesHosts (is_sink word) behind names)) =
+        subst (λ b. M (λ names. MatchBool b (GivesName word names) (GivesHosts (is_sink word) behind names))) (sym is) m in
+        let here : M (GivesWords (word ∷ next ∷ more)) = subst (λ ws. M (λ names. MatchBool (is_root_alias ws) (GivesName word names) (GivesHosts (is_sink word) ws names))) some both in
+        subst (λ ws. M (GivesWords ws)) (sym (e ∙ ap (λ ws. word ∷ ws) some)) here
+
+    pub by_alias : is_root_alias behind ≡ true → M (GivesName word) → M (GivesWords words)
+    by_alias is m = by_alias_or_hosts true is m
+
+    pub by_hosts : is_root_alias behind ≡ false → M (GivesHosts (is_sink word) behind) → M (GivesWords words)
+    by_hosts is m = by_alias_or_hosts false is m

@@ -1,6 +1,6 @@
 -- Names by their texts: a text spells one name, and its plain line is its text with the last dot.
 use Rattle.std.proofs.Common.{◌≡◌, ◌≢◌, ◌⊎◌, inl, inr, ℕ, zero, suc, ◌+◌, ◌-◌, ◌<◌, ◌≤◌, ◌==◌, ◌&&◌, Bool, true, false, cond, List, [], ◌∷◌, ◌++◌, length, take, drop, Option, Some, None, Result, Ok, Err, refl, sym, ap, ◌∙◌, subst, arith, append_assoc, ltb}
-use Rattle.std.specs.Prelude.{IsSomeAnd, IsAscii, OnOk, is_ok}
+use Rattle.std.specs.Prelude.{IsSomeAnd, IsAscii, OnOk, is_ok, is_some, MatchOption}
 use Rattle.std.specs.Char.{is_ascii}
 use Rattle.std.specs.List.{AllByRecursion, list_all, list_any}
 use Rattle.std.proofs.lemmas.Bool.{cases_Bool}
@@ -136,3 +136,13 @@ ascii_from_all (b ∷ bs) e = elim (cases_Bool (is_ascii b)) [
   | inl low ↦ IsAscii-cons b bs (ltb-true b 128 low) (ascii_from_all bs (sym (ap (λ t. t && list_all is_ascii bs) low) ∙ e))
   | inr high ↦ let f : false ≡ true = sym (ap (λ t. t && list_all is_ascii bs) high) ∙ e in absurd cc
 ]
+
+-- ---- answers that may be none
+
+pub match_none : {T : Type 0} (o : Option T) (P : Type 0) (Q : T → Type 0) → is_some o ≡ false → MatchOption o P Q → P
+match_none None P Q e m = m
+match_none (Some x) P Q e m = absurd cc
+
+pub match_some : {T : Type 0} (o : Option T) (P : Type 0) (Q : T → Type 0) → is_some o ≡ true → MatchOption o P Q → (x : T) × Q x
+match_some None P Q e m = absurd cc
+match_some (Some x) P Q e m = (x, m)

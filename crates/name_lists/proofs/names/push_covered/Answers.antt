@@ -1,4 +1,5 @@
-use Rattle.std.proofs.Common.{◌≡◌, ◌∷◌, [], ◌++◌, sym, ap, ◌∙◌, subst, false}
+use Rattle.std.proofs.Common.{◌≡◌, ◌≤◌, ◌∷◌, [], ◌++◌, true, false, sym, ap, ◌∙◌, subst}
+use Rattle.std.specs.Prelude.{IsTrue}
 use Rattle.std.specs.String.{string_bytes}
 use Rattle.std.specs.Cow.{cow_str_bytes}
 use Rattle.std.specs.List.{list_any}
@@ -13,16 +14,17 @@ pub returns-then-not-is_covered : goal.returns-then-not-is_covered
 returns-then-not-is_covered c =
     let read = rw c.in-Some.is at c.in_ok-text.ensures in
     not_covered c.args.word.now (cow_str_bytes c.in-Some.text) (qualified c.in-Some.name) read.0 read.1.1
-    (λ both. let t = c.is_covered.ensures.1 ? in ?)
+    (λ both. let t : c.is_covered.result ≡ true = c.is_covered.ensures.1 (ap (list_any is_asterisk) c.as_str.ensures.value ∙ both.0, both.1) in let f = c.if-not-is_covered.true in absurd cc)
 
 pub returns : goal.returns
 returns c =
     let read = rw c.in-Some.is at c.in_ok-text.ensures in
     let name = qualified c.in-Some.name in
     let old = string_bytes c.args.names.now in
-    let covers = c.is_covered.ensures.0 ? in
+    let covers = c.is_covered.ensures.0 c.if-not-is_covered.false in
     (
       name ∷ wildcard_over name.labels ∷ [],
-      gives_below c.args.word.now (cow_str_bytes c.in-Some.text) name read.0 (record { spells = read.1.1; plain = ?; room = ? }),
+      gives_below c.args.word.now (cow_str_bytes c.in-Some.text) name read.0
+      (record { spells = read.1.1; plain = ap (list_any is_asterisk) (sym c.as_str.ensures.value) ∙ covers.0; room = covers.1 }),
       c.in_ok-push_line-2.ensures ∙ ap (λ r. r ++ plain_line name) (c.in_ok-push_str.ensures.bytes ∙ ap (λ r. r ++ 42 ∷ 46 ∷ []) c.in_ok-push_line.ensures) ∙ lines_of_two old c.in-Some.name read.1.0.some,
     )
