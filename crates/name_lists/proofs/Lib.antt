@@ -1,3 +1,4 @@
+pub mod Adapting
 pub mod Hosts
 pub mod NameLines
 pub mod Splitting

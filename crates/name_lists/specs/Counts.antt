@@ -1,5 +1,5 @@
 -- What becomes of the lines of a list.
-use Rattle.std.specs.Prelude.{◌≡◌, ℕ, ◌+◌, Bool, true, false, List, [], ◌∷◌, take, flat_map, count_by, Option, Some, None, is_none, unwrap_or}
+use Rattle.std.specs.Prelude.{◌≡◌, ℕ, ◌+◌, ◌<◌, ◌≤◌, ◌++◌, length, Bool, true, false, List, [], ◌∷◌, take, flat_map, count_by, Option, Some, None, is_none, unwrap_or}
 use Rattle.wire_names.specs.rr.domain.DomainName.{DomainName}
 use Rattle.name_lists.specs.Gives.{Gives}
 use Rattle.name_lists.specs.Names.{plain_lines}
@@ -50,6 +50,26 @@ counts_of outcomes = record {
   first_skipped = take 3 (skipped_numbers 1 outcomes);
 }
 
+-- how many lines were counted
+abbrev pub lines_in : Counts → ℕ
+lines_in counts = counts.taken + counts.bare + counts.skipped
+
+-- the counts with one line more, of which this became
+abbrev pub counted : Counts → Option (List DomainName) → Counts
+counted counts (Some []) = record counts { bare = counts.bare + 1 }
+counted counts (Some (name ∷ names)) = record counts { taken = counts.taken + 1 }
+counted counts None = record counts {
+  skipped = counts.skipped + 1;
+  first_skipped = take 3 (counts.first_skipped ++ (lines_in counts + 1) ∷ []);
+}
+
+-- A line was added to the plain lines of a text and to the counts.
+pub record AddsLine (line text : List ℕ) (counts : Counts) (new_text : List ℕ) (new_counts : Counts) : Type 0 where
+  pub outcome : Option (List DomainName)
+  pub becomes : BecomesOf line outcome
+  pub handed : new_text ≡ text ++ plain_lines (unwrap_or outcome [])
+  pub counts_it : new_counts ≡ counted counts outcome
+
 -- what becomes of the lines of a text, which may begin with a byte order mark
 abbrev pub BecomesOfText : List ℕ → List (Option (List DomainName)) → Type 0
 BecomesOfText text outcomes = BecomeOf (lines_of (without_mark text)) outcomes
@@ -60,3 +80,16 @@ pub record IsAdapted (text plain : List ℕ) (counts : Counts) : Type 0 where
   pub become : BecomesOfText text outcomes
   pub handed : plain ≡ plain_lines (given_names outcomes)
   pub counted : counts ≡ counts_of outcomes
+
+-- plain lines that are not read yet, and the counts
+pub record Plain : Type 0 where
+  pub left : List ℕ
+  pub counts : Counts
+
+-- So many bytes of those left were put into the front of a slice: all that are left, or as many as it takes.
+pub record TakesLeft (old new : Plain) (count : ℕ) (buffer filled : List ℕ) : Type 0 where
+  pub consumed : old.left ≡ take count filled ++ new.left
+  pub counts : new.counts ≡ old.counts
+  pub len : length filled ≡ length buffer
+  pub bound : count ≤ length filled
+  pub none : count ≡ 0 → 0 < length filled → new.left ≡ []

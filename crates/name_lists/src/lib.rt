@@ -1,6 +1,13 @@
 //! Lists of blocked names as people have them, made into the plain lines that a list of blocked names takes.
 #![tactic(auto)]
 
+mod adapter;
+mod adding;
 mod gives;
 mod names;
+mod report;
 mod words;
+
+pub use adapter::PlainLines;
+pub use adding::add_list;
+pub use report::ListReport;
