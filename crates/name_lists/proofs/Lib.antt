@@ -1,4 +1,7 @@
 pub mod Adapting
+pub mod AddedNames
 pub mod Hosts
+pub mod ListedNames
 pub mod NameLines
 pub mod Splitting
+pub mod Taking

@@ -97,7 +97,7 @@ not_covered word text name e s not names g =
 
 -- ---- lines
 
-dotted : (labels : List (List ℕ)) → labels ≢ [] → name_text labels false ++ 46 ∷ [] ≡ name_text labels true
+pub dotted : (labels : List (List ℕ)) → labels ≢ [] → name_text labels false ++ 46 ∷ [] ≡ name_text labels true
 dotted [] some = absurd (some refl)
 dotted (l ∷ []) some = refl
 dotted (l ∷ m ∷ ls) some = append_assoc l (46 ∷ name_text (m ∷ ls) false) (46 ∷ []) ∙ ap (λ r. l ++ 46 ∷ r) (dotted (m ∷ ls) (λ e. cc))

@@ -81,15 +81,9 @@ pub record IsAdapted (text plain : List ℕ) (counts : Counts) : Type 0 where
   pub handed : plain ≡ plain_lines (given_names outcomes)
   pub counted : counts ≡ counts_of outcomes
 
--- plain lines that are not read yet, and the counts
-pub record Plain : Type 0 where
-  pub left : List ℕ
-  pub counts : Counts
-
 -- So many bytes of those left were put into the front of a slice: all that are left, or as many as it takes.
-pub record TakesLeft (old new : Plain) (count : ℕ) (buffer filled : List ℕ) : Type 0 where
-  pub consumed : old.left ≡ take count filled ++ new.left
-  pub counts : new.counts ≡ old.counts
+pub record TakesLeft (old new : List ℕ) (count : ℕ) (buffer filled : List ℕ) : Type 0 where
+  pub consumed : old ≡ take count filled ++ new
   pub len : length filled ≡ length buffer
   pub bound : count ≤ length filled
-  pub none : count ≡ 0 → 0 < length filled → new.left ≡ []
+  pub none : count ≡ 0 → 0 < length filled → new ≡ []

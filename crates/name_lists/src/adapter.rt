@@ -1,6 +1,6 @@
 //! Lists as people have them, as lists of plain lines.
 
-ghost use Rattle.std.specs.Prelude.{◌≡◌, ◌+◌, ◌^◌, ◌<◌, IfOk, OnOk, string_bytes};
+ghost use Rattle.std.specs.Prelude.{◌≡◌, ◌+◌, ◌^◌, ◌<◌, IfOk, OnOk, IsUtf8, string_bytes};
 ghost use Rattle.name_lists.specs.Counts.{AddsLine, IsAdapted, TakesLeft, lines_in};
 
 use crate::gives::read_line;
@@ -11,22 +11,20 @@ use std::marker::Model;
 
 /// The plain lines of a list, one name each, to be read as a list of blocked names.
 ///
-/// A contract sees what is left to be read, and the counts of the whole list.
+/// A contract sees what is left to be read.
 #[derive(Drop)]
 pub struct PlainLines {
     text: String,
     // How many bytes of the text were read.
     read: usize,
-    report: ListReport,
 }
 
 impl Model for PlainLines {
-    ghost use Rattle.std.specs.Prelude.{◌≤◌, drop, string_bytes, string_len};
-    ghost use Rattle.name_lists.specs.Counts.{Plain};
+    ghost use Rattle.std.specs.Prelude.{◌≤◌, ℕ, List, drop, string_bytes, string_len};
 
-    ghost Value = { Plain };
+    ghost Value = { List ℕ };
 
-    ghost view = { λ lines. record { left = drop lines.read (string_bytes lines.text); counts = lines.report } };
+    ghost view = { λ lines. drop lines.read (string_bytes lines.text) };
 
     ghost invariant = { λ lines. lines.read ≤ string_len lines.text };
 }
@@ -54,40 +52,22 @@ fn add_line(
     Ok(())
 }
 
+/// The plain lines of the names that the lines of a list give, one each, and what became of those lines.
+pub fn adapt(alloc: Global, list: &[u8]) -> Result<(PlainLines, ListReport), AllocError>
+    ensures adapted { IfOk result (λ r. IsAdapted list.now r.0 r.1) }
+    ensures utf8 { IfOk result (λ r. IsUtf8 r.0) }
+{
+    let mut text = String::new(alloc);
+    let mut report = ListReport::new();
+    let mut rest = without_mark(list);
+    while let Some((line, behind)) = split_line(rest) {
+        add_line(alloc, line, &mut text, &mut report)?;
+        rest = behind;
+    }
+    Ok((PlainLines { text, read: 0 }, report))
+}
+
 impl PlainLines {
-    /// The plain lines of the names that the lines of a list give. It takes memory for them, once.
-    pub fn new(alloc: Global, list: &[u8]) -> Result<PlainLines, AllocError>
-        ensures { IfOk result (λ lines. IsAdapted list.now lines.left lines.counts) }
-    {
-        let mut text = String::new(alloc);
-        let mut report = ListReport::new();
-        let mut rest = without_mark(list);
-        while let Some((line, behind)) = split_line(rest) {
-            add_line(alloc, line, &mut text, &mut report)?;
-            rest = behind;
-        }
-        Ok(PlainLines {
-            text,
-            read: 0,
-            report,
-        })
-    }
-
-    /// What became of the lines of the list.
-    pub fn report(&self) -> &ListReport
-        ensures { result.now ≡ self.now.counts }
-    {
-        &self.report
-    }
-
-    /// What became of the lines of the list.
-    pub fn into_report(self) -> ListReport
-        ensures { result ≡ self.counts }
-    {
-        let PlainLines { report, .. } = self;
-        report
-    }
-
     /// Puts what is left to be read into the front of a slice, as much as has room, and answers how many bytes.
     pub(crate) fn take(&mut self, buffer: &mut [u8]) -> usize
         ensures { TakesLeft self.old self.new result buffer.old buffer.new }

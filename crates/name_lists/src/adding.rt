@@ -3,7 +3,7 @@
 ghost use Rattle.std.specs.Prelude.{◌≡◌, IfOk, OnErr};
 ghost use Rattle.name_lists.specs.Adding.{AddsList, AddsSome};
 
-use crate::adapter::PlainLines;
+use crate::adapter::{PlainLines, adapt};
 use crate::report::ListReport;
 use hickory_store::blocklist::{AddError, BlocklistZoneHandler, ListReader};
 use std::alloc::{AllocError, Global};
@@ -12,7 +12,7 @@ use std::io;
 impl ListReader for PlainLines {
     ghost use Rattle.std.specs.Prelude.{Some};
 
-    ghost remaining = { λ lines. Some lines.left };
+    ghost remaining = { λ lines. Some lines };
 
     ghost failures = { λ _. 0 };
 
@@ -31,10 +31,11 @@ pub fn add_list(
     ensures err { OnErr result (AddsSome bytes.now list.old.entries list.new.entries) }
     ensures kept { list.new ≡ record list.old { entries = list.new.entries } }
 {
-    let mut lines = PlainLines::new(alloc, bytes)?;
+    let (mut lines, report) = adapt(alloc, bytes)?;
     match list.add(&mut lines) {
-        Ok(()) => Ok(lines.into_report()),
+        Ok(()) => Ok(report),
+        Err(AddError::Io) => unreachable!(),
+        Err(AddError::NotUtf8) => unreachable!(),
         Err(AddError::Memory) => Err(AllocError),
-        Err(AddError::Io | AddError::NotUtf8) => unreachable!(),
     }
 }

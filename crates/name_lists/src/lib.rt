@@ -8,6 +8,6 @@ mod names;
 mod report;
 mod words;
 
-pub use adapter::PlainLines;
+pub use adapter::{PlainLines, adapt};
 pub use adding::add_list;
 pub use report::ListReport;

@@ -1,6 +1,6 @@
 use Rattle.std.proofs.Common.{◌≡◌, ◌==◌, ◌++◌, [], true, false, length, Some, sym, ap, ◌∙◌, subst, refl}
 use Rattle.std.specs.String.{string_bytes}
-use Rattle.std.proofs.lemmas.List.{append-nil, length-zero}
+use Rattle.std.proofs.lemmas.List.{append-nil, nil_from_length}
 use Rattle.std.proofs.lemmas.Bool.{eqb-true}
 use Rattle.name_lists.specs.Gives.{Gives}
 use Rattle.name_lists.specs.Names.{plain_lines}
@@ -10,7 +10,7 @@ use Rattle.name_lists.proofs.adapter.add_line.Goals as goal
 pub returns-then-is_empty : goal.returns-then-is_empty
 returns-then-is_empty c =
     let given = rw c.in-Some.is at c.in_ok-names.ensures in
-    let empty : string_bytes c.in-Some.names ≡ [] = sym c.as_str.ensures.value ∙ length-zero c.as_str.result.now (eqb-true (length c.as_str.result.now) 0 (sym c.is_empty.ensures ∙ c.if-is_empty.true)) in
+    let empty : string_bytes c.in-Some.names ≡ [] = sym c.as_str.ensures.value ∙ nil_from_length c.as_str.result.now (eqb-true (length c.as_str.result.now) 0 (sym c.is_empty.ensures ∙ c.if-is_empty.true)) in
     let none : given.0 ≡ [] = gives_none given.0 (sym given.2 ∙ empty) in
     record {
       outcome = Some [];

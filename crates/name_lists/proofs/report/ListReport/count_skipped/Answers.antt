@@ -10,7 +10,7 @@ returns c =
     let old = c.self.inside in
     let number : ℕ = old.taken + old.bare + old.skipped + 1 in
     let view = c.self.view_is in
-    let three : length old.first_skipped ≡ 3 = ? in
+    let three : length old.first_skipped ≡ 3 = c.self.told in
     let seen = ap (λ (v : Counts). take 3 (v.first_skipped ++ (lines_in v + 1) ∷ [])) view in
     elim c.if-self-lt3.branch [
       | then-self-lt3 w ↦

@@ -3,7 +3,7 @@ use Rattle.std.specs.String.{string_bytes}
 use Rattle.name_lists.specs.Counts.{lines_in}
 use Rattle.name_lists.specs.Words.{lines_of, without_mark}
 use Rattle.name_lists.proofs.Adapting.{Adapting}
-use Rattle.name_lists.proofs.adapter.PlainLines.new.Given as goal
+use Rattle.name_lists.proofs.adapter.adapt.Given as goal
 
 abbrev pub invariant-loop-line : goal.invariant-loop-line
 invariant-loop-line l = record {
