@@ -8,7 +8,7 @@ use Rattle.std.proofs.lemmas.Grind.{flat_map-append}
 use Rattle.wire_names.specs.rr.domain.DomainName.{DomainName}
 use Rattle.wire_names.specs.rr.domain.NameText.{name_text}
 use Rattle.name_lists.specs.Names.{plain_line, plain_lines}
-use Rattle.name_lists.specs.Counts.{BecomesOf, BecomeOf, given_names, is_taken, is_bare, skipped_numbers, Counts, counts_of, lines_in, counted, AddsLine}
+use Rattle.name_lists.specs.Counts.{BecomesOf, BecomeOf, given_names, is_taken, has_no_names, skipped_numbers, Counts, counts_of, lines_in, counted, AddsLine}
 
 abbrev pub Outcome : Type 0
 Outcome = Option (List DomainName)
@@ -37,18 +37,18 @@ numbers_more first (Some names ∷ os) o = numbers_more (first + 1) os o ∙ ap 
 
 pub lines_counted : (os : List Outcome) → lines_in (counts_of os) ≡ length os
 lines_counted [] = refl
-lines_counted (None ∷ os) = omega (arith, lines_counted os, one_before is_taken None os, one_before is_bare None os, one_before is_none None os)
-lines_counted (Some [] ∷ os) = omega (arith, lines_counted os, one_before is_taken (Some []) os, one_before is_bare (Some []) os, one_before is_none (Some []) os)
+lines_counted (None ∷ os) = omega (arith, lines_counted os, one_before is_taken None os, one_before has_no_names None os, one_before is_none None os)
+lines_counted (Some [] ∷ os) = omega (arith, lines_counted os, one_before is_taken (Some []) os, one_before has_no_names (Some []) os, one_before is_none (Some []) os)
 lines_counted (Some (name ∷ names) ∷ os) =
-    omega (arith, lines_counted os, one_before is_taken (Some (name ∷ names)) os, one_before is_bare (Some (name ∷ names)) os, one_before is_none (Some (name ∷ names)) os)
+    omega (arith, lines_counted os, one_before is_taken (Some (name ∷ names)) os, one_before has_no_names (Some (name ∷ names)) os, one_before is_none (Some (name ∷ names)) os)
 
 pub same_counts : (t u b c s r : ℕ) (f g : List ℕ) → t ≡ u → b ≡ c → s ≡ r → f ≡ g
-    → let x : Counts = record { taken = t; bare = b; skipped = s; first_skipped = f } in let y : Counts = record { taken = u; bare = c; skipped = r; first_skipped = g } in x ≡ y
+    → let x : Counts = record { taken = t; without_names = b; skipped = s; first_skipped = f } in let y : Counts = record { taken = u; without_names = c; skipped = r; first_skipped = g } in x ≡ y
 same_counts t u b c s r f g et eb es ef =
-    ap (λ (n : ℕ). let x : Counts = record { taken = n; bare = b; skipped = s; first_skipped = f } in x) et
-    ∙ ap (λ (n : ℕ). let x : Counts = record { taken = u; bare = n; skipped = s; first_skipped = f } in x) eb
-    ∙ ap (λ (n : ℕ). let x : Counts = record { taken = u; bare = c; skipped = n; first_skipped = f } in x) es
-    ∙ ap (λ (ns : List ℕ). let x : Counts = record { taken = u; bare = c; skipped = r; first_skipped = ns } in x) ef
+    ap (λ (n : ℕ). let x : Counts = record { taken = n; without_names = b; skipped = s; first_skipped = f } in x) et
+    ∙ ap (λ (n : ℕ). let x : Counts = record { taken = u; without_names = n; skipped = s; first_skipped = f } in x) eb
+    ∙ ap (λ (n : ℕ). let x : Counts = record { taken = u; without_names = c; skipped = n; first_skipped = f } in x) es
+    ∙ ap (λ (ns : List ℕ). let x : Counts = record { taken = u; without_names = c; skipped = r; first_skipped = ns } in x) ef
 
 take_front : (n : ℕ) (xs ys : List ℕ) → take n (take n xs ++ ys) ≡ take n (xs ++ ys)
 take_front zero xs ys = refl
@@ -63,12 +63,12 @@ first_kept os names = ap (take 3) (numbers_more 1 os (Some names) ∙ append-nil
 
 pub counts_more : (os : List Outcome) (o : Outcome) → counts_of (os ++ o ∷ []) ≡ counted (counts_of os) o
 counts_more os None =
-    same_counts _ _ _ _ _ _ _ _ (one_more is_taken os None ∙ omega arith) (one_more is_bare os None ∙ omega arith) (one_more is_none os None)
+    same_counts _ _ _ _ _ _ _ _ (one_more is_taken os None ∙ omega arith) (one_more has_no_names os None ∙ omega arith) (one_more is_none os None)
     (first_more os None ((lines_in (counts_of os) + 1) ∷ []) (ap (λ n. n ∷ []) (omega (arith, lines_counted os))))
 counts_more os (Some []) =
-    same_counts _ _ _ _ _ _ _ _ (one_more is_taken os (Some []) ∙ omega arith) (one_more is_bare os (Some [])) (one_more is_none os (Some []) ∙ omega arith) (first_kept os [])
+    same_counts _ _ _ _ _ _ _ _ (one_more is_taken os (Some []) ∙ omega arith) (one_more has_no_names os (Some [])) (one_more is_none os (Some []) ∙ omega arith) (first_kept os [])
 counts_more os (Some (name ∷ names)) =
-    same_counts _ _ _ _ _ _ _ _ (one_more is_taken os (Some (name ∷ names))) (one_more is_bare os (Some (name ∷ names)) ∙ omega arith) (one_more is_none os (Some (name ∷ names)) ∙ omega arith)
+    same_counts _ _ _ _ _ _ _ _ (one_more is_taken os (Some (name ∷ names))) (one_more has_no_names os (Some (name ∷ names)) ∙ omega arith) (one_more is_none os (Some (name ∷ names)) ∙ omega arith)
     (first_kept os (name ∷ names))
 
 names_more : (os : List Outcome) (o : Outcome) → plain_lines (given_names (os ++ o ∷ [])) ≡ plain_lines (given_names os) ++ plain_lines (unwrap_or o [])

@@ -26,7 +26,7 @@ module _ (is_behind_sink : Bool) (words : List (List ℕ)) (old : List ℕ) wher
       record {
         given = s.given ++ first;
         written = written ∙ ap (λ r. r ++ plain_lines first) s.written ∙ append_assoc old (plain_lines s.given) (plain_lines first)
-        ∙ ap (λ r. old ++ r) (sym (flat_map-append plain_line s.given first));
+            ∙ ap (λ r. old ++ r) (sym (flat_map-append plain_line s.given first));
         back = λ rest g. subst (GivesHosts is_behind_sink words) (sym (append_assoc s.given first rest)) (s.back (first ++ rest) (first, rest, host, g, refl));
         forth = λ names g. let f = s.forth names g in (f.1.1, f.1.3);
       }

@@ -25,9 +25,9 @@ abbrev pub is_taken : Option (List DomainName) → Bool
 is_taken (Some (name ∷ names)) = true
 is_taken _ = false
 
-abbrev pub is_bare : Option (List DomainName) → Bool
-is_bare (Some []) = true
-is_bare _ = false
+abbrev pub has_no_names : Option (List DomainName) → Bool
+has_no_names (Some []) = true
+has_no_names _ = false
 
 -- the numbers of the lines that are skipped, where the first line has this number
 abbrev pub skipped_numbers : ℕ → List (Option (List DomainName)) → List ℕ
@@ -38,25 +38,25 @@ skipped_numbers first (Some names ∷ outcomes) = skipped_numbers (first + 1) ou
 -- How many lines give names, how many give none, how many are skipped, and the numbers of the first three of those, counted from 1.
 pub record Counts : Type 0 where
   pub taken : ℕ
-  pub bare : ℕ
+  pub without_names : ℕ
   pub skipped : ℕ
   pub first_skipped : List ℕ
 
 abbrev pub counts_of : List (Option (List DomainName)) → Counts
 counts_of outcomes = record {
   taken = count_by is_taken outcomes;
-  bare = count_by is_bare outcomes;
+  without_names = count_by has_no_names outcomes;
   skipped = count_by is_none outcomes;
   first_skipped = take 3 (skipped_numbers 1 outcomes);
 }
 
 -- how many lines were counted
 abbrev pub lines_in : Counts → ℕ
-lines_in counts = counts.taken + counts.bare + counts.skipped
+lines_in counts = counts.taken + counts.without_names + counts.skipped
 
 -- the counts with one line more, of which this became
 abbrev pub counted : Counts → Option (List DomainName) → Counts
-counted counts (Some []) = record counts { bare = counts.bare + 1 }
+counted counts (Some []) = record counts { without_names = counts.without_names + 1 }
 counted counts (Some (name ∷ names)) = record counts { taken = counts.taken + 1 }
 counted counts None = record counts {
   skipped = counts.skipped + 1;

@@ -10,7 +10,6 @@ abbrev pub Pushes : (List DomainName → Type 0) → Bool → List ℕ → List 
 Pushes IsGiven true old new = (names : List DomainName) × IsGiven names × (new ≡ old ++ plain_lines names)
 Pushes IsGiven false old new = (names : List DomainName) → ¬ (IsGiven names)
 
-
 -- the plain lines of the names that a line gives, or nothing where it gives no list of names
 abbrev pub PushesLine : List ℕ → Option (String Global) → Type 0
 PushesLine line None = (names : List DomainName) → ¬ (Gives line names)

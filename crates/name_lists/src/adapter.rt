@@ -44,7 +44,7 @@ fn add_line(
         return Ok(());
     };
     if names.as_str().is_empty() {
-        report.count_bare();
+        report.count_without_names();
         return Ok(());
     }
     text.push_str(names.as_str())?;

@@ -14,7 +14,8 @@ use std::alloc::{AllocError, Global};
 const SINKS: &[u8] = b"0.0.0.0 127.0.0.1 :: ::1";
 
 /// The names that a hosts file gives to the machine itself and to groups of machines around it.
-const LOCAL_NAMES: &[u8] = b"localhost localhost.localdomain local broadcasthost 0.0.0.0 ip6-localhost ip6-loopback ip6-localnet ip6-mcastprefix ip6-allnodes ip6-allrouters ip6-allhosts localhost4 localhost4.localdomain4 localhost6 localhost6.localdomain6";
+const LOCAL_NAMES: &[u8] =
+    b"localhost localhost.localdomain local broadcasthost 0.0.0.0 ip6-localhost ip6-loopback ip6-localnet ip6-mcastprefix ip6-allnodes ip6-allrouters ip6-allhosts localhost4 localhost4.localdomain4 localhost6 localhost6.localdomain6";
 
 fn is_sink(word: &[u8]) -> bool
     ensures { result ≡ spec.is_sink word.now }

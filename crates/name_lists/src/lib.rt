@@ -4,6 +4,7 @@
 mod adapter;
 mod adding;
 mod gives;
+pub mod laws;
 mod names;
 mod report;
 mod words;

@@ -113,11 +113,7 @@ fn push_line(names: &mut String, text: &str, name: &Name) -> Result<(), AllocErr
 }
 
 /// Writes the plain line of the name of a word, if it is one.
-pub(crate) fn push_name(
-    alloc: Global,
-    word: &[u8],
-    names: &mut String,
-) -> Result<bool, AllocError>
+pub(crate) fn push_name(alloc: Global, word: &[u8], names: &mut String) -> Result<bool, AllocError>
     ensures { IfOk result (λ is_name. Pushes (spec.GivesName word.now) is_name (string_bytes names.old) (string_bytes names.new)) }
 {
     let Some((text, name)) = read_word(alloc, word)? else {

@@ -11,7 +11,7 @@ use std::marker::Model;
 #[derive(Debug, Drop)]
 pub struct ListReport {
     taken: usize,
-    bare: usize,
+    without_names: usize,
     skipped: usize,
     // The numbers of the first lines that were skipped, and behind them zeros.
     first_skipped: [usize; 3],
@@ -23,7 +23,7 @@ impl Model for ListReport {
 
     ghost Value = { Counts };
 
-    ghost view = { λ r. record { taken = r.taken; bare = r.bare; skipped = r.skipped; first_skipped = take r.skipped r.first_skipped } };
+    ghost view = { λ r. record { taken = r.taken; without_names = r.without_names; skipped = r.skipped; first_skipped = take r.skipped r.first_skipped } };
 }
 
 impl ListReport {
@@ -33,7 +33,7 @@ impl ListReport {
     {
         ListReport {
             taken: 0,
-            bare: 0,
+            without_names: 0,
             skipped: 0,
             first_skipped: [0; 3],
         }
@@ -47,10 +47,10 @@ impl ListReport {
     }
 
     /// How many lines gave no name and were to give none: empty ones, comments, and lines of a hosts file for the machine itself.
-    pub fn bare(&self) -> usize
-        ensures { result ≡ self.now.bare }
+    pub fn without_names(&self) -> usize
+        ensures { result ≡ self.now.without_names }
     {
-        self.bare
+        self.without_names
     }
 
     /// How many lines were skipped, since they are written in no known way.
@@ -76,11 +76,11 @@ impl ListReport {
     }
 
     /// Counts a line that gives no name.
-    pub(crate) fn count_bare(&mut self)
-        requires { self.old.bare + 1 < 2 ^ 64 }
-        ensures { self.new ≡ record self.old { bare = self.old.bare + 1 } }
+    pub(crate) fn count_without_names(&mut self)
+        requires { self.old.without_names + 1 < 2 ^ 64 }
+        ensures { self.new ≡ record self.old { without_names = self.old.without_names + 1 } }
     {
-        self.bare += 1;
+        self.without_names += 1;
     }
 
     /// Counts a line that is skipped, the next of all that were counted.
@@ -89,7 +89,7 @@ impl ListReport {
         ensures { self.new ≡ counted self.old None }
     {
         if self.skipped < self.first_skipped.len() {
-            self.first_skipped[self.skipped] = self.taken + self.bare + self.skipped + 1;
+            self.first_skipped[self.skipped] = self.taken + self.without_names + self.skipped + 1;
         }
         self.skipped += 1;
     }

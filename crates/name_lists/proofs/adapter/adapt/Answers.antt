@@ -11,7 +11,7 @@ loop-line-preserved c =
     let adds = c.in_ok-add_line.ensures in
     record {
       so_far = adapting_more (lines_of (without_mark c.args.list.now)) (lines_of c.loop-line.rest.now) c.in-Some.line.now (lines_of c.in-Some.behind.now)
-      (string_bytes c.loop-line.text) (string_bytes c.add_line.new.text) c.loop-line.report c.add_line.new.report c.loop-line.invariant.so_far c.in-Some.ensures.0 adds;
+          (string_bytes c.loop-line.text) (string_bytes c.add_line.new.text) c.loop-line.report c.add_line.new.report c.loop-line.invariant.so_far c.in-Some.ensures.0 adds;
       room = omega (arith, c.in-Some.ensures.1, c.loop-line.invariant.room, ap lines_in adds.counts_it, counted_one c.loop-line.report adds.outcome);
     }
 

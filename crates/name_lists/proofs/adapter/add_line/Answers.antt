@@ -16,7 +16,7 @@ returns-then-is_empty c =
       outcome = Some [];
       becomes = subst (Gives c.args.line.now) none given.1;
       handed = sym (append-nil (string_bytes c.args.text.now));
-      counts_it = c.count_bare.ensures;
+      counts_it = c.count_without_names.ensures;
     }
 
 pub returns : goal.returns

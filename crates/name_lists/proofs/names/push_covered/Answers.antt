@@ -21,10 +21,9 @@ returns c =
     let read = rw c.in-Some.is at c.in_ok-text.ensures in
     let name = qualified c.in-Some.name in
     let old = string_bytes c.args.names.now in
-    let covers = c.is_covered.ensures.0 c.if-not-is_covered.false in
-    (
+    let covers = c.is_covered.ensures.0 c.if-not-is_covered.false in (
       name ∷ wildcard_over name.labels ∷ [],
       gives_below c.args.word.now (cow_str_bytes c.in-Some.text) name read.0
-      (record { spells = read.1.1; plain = ap (list_any is_asterisk) (sym c.as_str.ensures.value) ∙ covers.0; room = covers.1 }),
+          (record { spells = read.1.1; plain = ap (list_any is_asterisk) (sym c.as_str.ensures.value) ∙ covers.0; room = covers.1 }),
       c.in_ok-push_line-2.ensures ∙ ap (λ r. r ++ plain_line name) (c.in_ok-push_str.ensures.bytes ∙ ap (λ r. r ++ 42 ∷ 46 ∷ []) c.in_ok-push_line.ensures) ∙ lines_of_two old c.in-Some.name read.1.0.some,
     )

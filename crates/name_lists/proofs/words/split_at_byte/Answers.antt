@@ -17,8 +17,7 @@ returns c =
     let found : position p text ≡ Some n = sym c.first_at.ensures ∙ c.in-Some.is in
     let within = position_some p text n found in
     let rest = c.split_at.result.1.now in
-    let behind : take (length rest - 1) (drop 1 rest) ≡ drop (n + 1) text = take_rest rest 1 ∙ ap (drop 1) c.split_at.ensures.back ∙ drop_behind n text in
-    (
+    let behind : take (length rest - 1) (drop 1 rest) ≡ drop (n + 1) text = take_rest rest 1 ∙ ap (drop 1) c.split_at.ensures.back ∙ drop_behind n text in (
       split_some p text n found ∙ ap (λ w. w ∷ slice_split p (drop (n + 1) text)) (sym c.split_at.ensures.front) ∙ ap (λ r. c.split_at.result.0.now ∷ slice_split p r) (sym behind),
       omega (arith, ap length behind, within.1, length-drop (n + 1) text),
     )

@@ -22,8 +22,7 @@ returns c =
     let rest : drop c.word_len.result front ≡ drop (position_or_len is_blank (drop c.in-Some.start text)) (drop c.in-Some.start text) =
     ap (λ n. drop n front) c.word_len.ensures.len ∙ ap (λ (r : List ℕ). drop (position_or_len is_blank r) r) c.split_at.ensures.back in
     let word : c.split_at-2.result.0.now ≡ take (position_or_len is_blank (drop c.in-Some.start text)) (drop c.in-Some.start text) = c.split_at-2.ensures.front ∙ first in
-    let behind : c.split_at-2.result.1.now ≡ drop (position_or_len is_blank (drop c.in-Some.start text)) (drop c.in-Some.start text) = c.split_at-2.ensures.back ∙ rest in
-    (
+    let behind : c.split_at-2.result.1.now ≡ drop (position_or_len is_blank (drop c.in-Some.start text)) (drop c.in-Some.start text) = c.split_at-2.ensures.back ∙ rest in (
       cut.words ∙ ap (λ w. w ∷ words (drop (position_or_len is_blank (drop c.in-Some.start text)) (drop c.in-Some.start text))) (sym word) ∙ ap (λ r. c.split_at-2.result.0.now ∷ words r) (sym behind),
       omega (arith, cut.shorter, ap length behind),
     )

@@ -8,7 +8,7 @@ use Rattle.name_lists.proofs.report.ListReport.count_skipped.Goals.{then-self-lt
 pub returns : goal.returns
 returns c =
     let old = c.self.inside in
-    let number : ℕ = old.taken + old.bare + old.skipped + 1 in
+    let number : ℕ = old.taken + old.without_names + old.skipped + 1 in
     let view = c.self.view_is in
     let three : length old.first_skipped ≡ 3 = c.self.told in
     let seen = ap (λ (v : Counts). take 3 (v.first_skipped ++ (lines_in v + 1) ∷ [])) view in
@@ -17,14 +17,14 @@ returns c =
           let is = w.self-inside-is in
           same_counts _ _ _ _ _ _ _ _
           (ap (λ (x : Inside). x.taken) is ∙ ap (λ (v : Counts). v.taken) view)
-          (ap (λ (x : Inside). x.bare) is ∙ ap (λ (v : Counts). v.bare) view)
+          (ap (λ (x : Inside). x.without_names) is ∙ ap (λ (v : Counts). v.without_names) view)
           (ap (λ (x : Inside). x.skipped + 1) is ∙ ap (λ (v : Counts). v.skipped + 1) view)
           (ap (λ (x : Inside). take (x.skipped + 1) x.first_skipped) is ∙ noted old.skipped number old.first_skipped three w.if-self-lt3.true ∙ seen)
       | else-self-lt3 w ↦
           let is = w.self-inside-is in
           same_counts _ _ _ _ _ _ _ _
           (ap (λ (x : Inside). x.taken) is ∙ ap (λ (v : Counts). v.taken) view)
-          (ap (λ (x : Inside). x.bare) is ∙ ap (λ (v : Counts). v.bare) view)
+          (ap (λ (x : Inside). x.without_names) is ∙ ap (λ (v : Counts). v.without_names) view)
           (ap (λ (x : Inside). x.skipped + 1) is ∙ ap (λ (v : Counts). v.skipped + 1) view)
           (ap (λ (x : Inside). take (x.skipped + 1) x.first_skipped) is ∙ none_noted old.skipped number old.first_skipped three w.if-self-lt3.false ∙ seen)
     ]
