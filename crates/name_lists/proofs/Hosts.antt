@@ -4,7 +4,7 @@ use Rattle.std.proofs.lemmas.List.{append-nil}
 use Rattle.std.proofs.lemmas.Grind.{flat_map-append}
 use Rattle.wire_names.specs.rr.domain.DomainName.{DomainName}
 use Rattle.std.specs.Prelude.{MatchBool}
-use Rattle.name_lists.specs.Gives.{GivesAlone, GivesHost, GivesHosts, GivesWords, is_root_alias, is_sink}
+use Rattle.name_lists.specs.Gives.{GivesAlone, GivesHost, GivesHosts, GivesHostsLine, GivesWords, is_root_alias}
 use Rattle.name_lists.specs.Names.{GivesName, plain_line, plain_lines}
 
 -- The words at the front of a line gave these names, whose lines stand behind the old ones; the words left give the rest.
@@ -50,15 +50,15 @@ module _ (M : (List DomainName → Type 0) → Type 0) (words : List (List ℕ))
   by_one e m = subst (λ ws. M (GivesWords ws)) (sym e) m
 
   module _ (behind : List (List ℕ)) (next : List ℕ) (more : List (List ℕ)) (e : words ≡ word ∷ behind) (some : behind ≡ next ∷ more) where
-    by_alias_or_hosts : (t : Bool) → is_root_alias behind ≡ t → M (λ names. MatchBool t (GivesName word names) (GivesHosts (is_sink word) behind names)) → M (GivesWords words)
+    by_alias_or_hosts : (t : Bool) → is_root_alias behind ≡ t → M (λ names. MatchBool t (GivesName word names) (GivesHostsLine word behind names)) → M (GivesWords words)
     by_alias_or_hosts t is m =
-        let both : M (λ names. MatchBool (is_root_alias behind) (GivesName word names) (GivesHosts (is_sink word) behind names)) =
-        subst (λ b. M (λ names. MatchBool b (GivesName word names) (GivesHosts (is_sink word) behind names))) (sym is) m in
-        let here : M (GivesWords (word ∷ next ∷ more)) = subst (λ ws. M (λ names. MatchBool (is_root_alias ws) (GivesName word names) (GivesHosts (is_sink word) ws names))) some both in
+        let both : M (λ names. MatchBool (is_root_alias behind) (GivesName word names) (GivesHostsLine word behind names)) =
+        subst (λ b. M (λ names. MatchBool b (GivesName word names) (GivesHostsLine word behind names))) (sym is) m in
+        let here : M (GivesWords (word ∷ next ∷ more)) = subst (λ ws. M (λ names. MatchBool (is_root_alias ws) (GivesName word names) (GivesHostsLine word ws names))) some both in
         subst (λ ws. M (GivesWords ws)) (sym (e ∙ ap (λ ws. word ∷ ws) some)) here
 
     pub by_alias : is_root_alias behind ≡ true → M (GivesName word) → M (GivesWords words)
     by_alias is m = by_alias_or_hosts true is m
 
-    pub by_hosts : is_root_alias behind ≡ false → M (GivesHosts (is_sink word) behind) → M (GivesWords words)
+    pub by_hosts : is_root_alias behind ≡ false → M (GivesHostsLine word behind) → M (GivesWords words)
     by_hosts is m = by_alias_or_hosts false is m

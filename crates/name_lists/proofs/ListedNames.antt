@@ -15,7 +15,7 @@ use Rattle.wire_names.specs.rr.domain.NameText.{IsNameByte, IsTextLabel, IsNameT
 use Rattle.hickory_store.specs.Entries.{HasEntry, AddsLines, AddsFirstLines}
 use Rattle.hickory_store.specs.ListLines.{Lists, name_of, name_part, is_comment, is_blank}
 use Rattle.name_lists.specs.Counts.{BecomesOf, BecomeOf, given_names}
-use Rattle.name_lists.specs.Gives.{Gives, GivesAlone, GivesHost, GivesHosts, GivesWords, covered_name, is_local, is_root_alias, is_sink}
+use Rattle.name_lists.specs.Gives.{Gives, GivesAlone, GivesHost, GivesHosts, GivesHostsLine, GivesWords, covered_name, is_local, is_root_alias, is_sink}
 use Rattle.name_lists.specs.Names.{Spells, IsCovered, GivesName, GivesBelow, ascii_text, qualified, wildcard_over, plain_line, plain_lines}
 use Rattle.name_lists.specs.Words.{words_of_line}
 use Rattle.name_lists.proofs.NameLines.{some_and, one_text_name, dotted}
@@ -88,9 +88,9 @@ words_listable : (words : List (List ℕ)) (names : List DomainName) → GivesWo
 words_listable [] names g = subst AreListable (sym g) tt
 words_listable (word ∷ []) names g = alone_listable word names g
 words_listable (word ∷ next ∷ more) names g = by (is_root_alias (next ∷ more)) g where
-  by : (t : Bool) → MatchBool t (GivesName word names) (GivesHosts (is_sink word) (next ∷ more) names) → AreListable names
+  by : (t : Bool) → MatchBool t (GivesName word names) (GivesHostsLine word (next ∷ more) names) → AreListable names
   by true h = name_listable word names h
-  by false h = hosts_listable (is_sink word) (next ∷ more) names h
+  by false h = hosts_listable (is_sink word) (next ∷ more) names h.1
 
 pub all_listable : (ls : List (List ℕ)) (os : List (Option (List DomainName))) → BecomeOf ls os → AreListable (given_names os)
 all_listable [] [] b = tt

@@ -3,7 +3,7 @@ use Rattle.std.proofs.Common.{◌≡◌, ℕ, suc, ◌+◌, Bool, true, false, L
 use Rattle.std.specs.Prelude.{MatchBool, MatchOption}
 use Rattle.wire_names.specs.rr.domain.DomainName.{DomainName}
 use Rattle.name_lists.specs.Counts.{BecomesOf, BecomeOf, Counts, counts_of, given_names, IsAdapted, lines_in}
-use Rattle.name_lists.specs.Gives.{Gives, GivesAlone, GivesHost, GivesHosts, GivesWords, covered_name, is_local, is_root_alias, is_sink}
+use Rattle.name_lists.specs.Gives.{Gives, GivesAlone, GivesHost, GivesHosts, GivesHostsLine, GivesWords, covered_name, is_local, is_root_alias, is_sink}
 use Rattle.name_lists.specs.Names.{Spells, IsCovered, GivesName, GivesBelow, ascii_text, wildcard_over, plain_lines}
 use Rattle.name_lists.specs.Words.{lines_of, without_mark, words_of_line}
 use Rattle.name_lists.proofs.Adapting.{lines_counted}
@@ -48,9 +48,9 @@ one_by_words : (words : List (List ℕ)) (a b : List DomainName) → GivesWords 
 one_by_words [] a b g h = g ∙ sym h
 one_by_words (word ∷ []) a b g h = one_alone word a b g h
 one_by_words (word ∷ next ∷ more) a b g h = by (is_root_alias (next ∷ more)) g h where
-  by : (t : Bool) → MatchBool t (GivesName word a) (GivesHosts (is_sink word) (next ∷ more) a) → MatchBool t (GivesName word b) (GivesHosts (is_sink word) (next ∷ more) b) → a ≡ b
+  by : (t : Bool) → MatchBool t (GivesName word a) (GivesHostsLine word (next ∷ more) a) → MatchBool t (GivesName word b) (GivesHostsLine word (next ∷ more) b) → a ≡ b
   by true g h = one_named word a b g h
-  by false g h = one_hosts (is_sink word) (next ∷ more) a b g h
+  by false g h = one_hosts (is_sink word) (next ∷ more) a b g.1 h.1
 
 pub one_list : (line : List ℕ) (a b : List DomainName) → Gives line a → Gives line b → a ≡ b
 one_list line a b g h = one_by_words (words_of_line line) a b g h

@@ -1,10 +1,10 @@
 -- The names that a line of a list gives.
 use Rattle.std.specs.Prelude.{◌≡◌, ℕ, ◌-◌, ◌==◌, ◌||◌, ◌&&◌, nat_eq, Bool, true, false, IsTrue, MatchBool, MatchOption, List, [], ◌∷◌, ◌++◌, length, take, drop, codes, Option, Some, None, map, if◌then◌else◌}
 use Rattle.std.specs.Char.{to_ascii_lowercase}
-use Rattle.std.specs.List.{list_any, slice_split, starts_with, ends_with}
+use Rattle.std.specs.List.{list_all, list_any, slice_split, starts_with, ends_with}
 use Rattle.std.specs.Str.{bytes_eq}
 use Rattle.wire_names.specs.rr.domain.DomainName.{DomainName}
-use Rattle.name_lists.specs.Names.{GivesName, GivesBelow}
+use Rattle.name_lists.specs.Names.{GivesName, GivesBelow, is_address_byte}
 use Rattle.name_lists.specs.Words.{words, words_of_line}
 
 abbrev pub is_among : List ℕ → List (List ℕ) → Bool
@@ -13,6 +13,10 @@ is_among word entries = list_any (λ entry. bytes_eq entry word) entries
 -- the addresses that a hosts file gives to names that shall not be reached
 abbrev pub is_sink : List ℕ → Bool
 is_sink word = is_among word (words (codes "0.0.0.0 127.0.0.1 :: ::1"))
+
+-- an address as hosts files begin lines with: digits and dots, or what has a colon
+abbrev pub is_address : List ℕ → Bool
+is_address word = list_all is_address_byte word || list_any (λ b. b == 58) word
 
 -- the names that a hosts file gives to the machine itself and to groups of machines around it
 abbrev pub is_local : List ℕ → Bool
@@ -27,6 +31,10 @@ abbrev pub GivesHosts : Bool → List (List ℕ) → List DomainName → Type 0
 GivesHosts is_behind_sink [] names = names ≡ []
 GivesHosts is_behind_sink (word ∷ more) names =
     (first rest : List DomainName) × GivesHost is_behind_sink word first × GivesHosts is_behind_sink more rest × (names ≡ first ++ rest)
+
+-- the words of a hosts line: an address, and those behind it
+abbrev pub GivesHostsLine : List ℕ → List (List ℕ) → List DomainName → Type 0
+GivesHostsLine address words names = IsTrue (is_address address) × GivesHosts (is_sink address) words names
 
 -- `||name^` of a filter list: what stands between
 abbrev pub filter_name : List ℕ → Option (List ℕ)
@@ -61,7 +69,7 @@ is_root_alias _ = false
 abbrev pub GivesWords : List (List ℕ) → List DomainName → Type 0
 GivesWords [] names = names ≡ []
 GivesWords (word ∷ []) names = GivesAlone word names
-GivesWords (word ∷ next ∷ more) names = MatchBool (is_root_alias (next ∷ more)) (GivesName word names) (GivesHosts (is_sink word) (next ∷ more) names)
+GivesWords (word ∷ next ∷ more) names = MatchBool (is_root_alias (next ∷ more)) (GivesName word names) (GivesHostsLine word (next ∷ more) names)
 
 -- The line gives these names.
 abbrev pub Gives : List ℕ → List DomainName → Type 0

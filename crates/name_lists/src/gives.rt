@@ -6,7 +6,7 @@ ghost use Rattle.name_lists.specs.Gives as spec;
 ghost use Rattle.name_lists.specs.Pushes.{Pushes, PushesLine};
 ghost use Rattle.name_lists.specs.Words.{words_before_comment};
 
-use crate::names::{push_covered, push_name};
+use crate::names::{has_byte, is_dotted, push_covered, push_name};
 use crate::words::{before, is_among, next_word, split_at_byte};
 use std::alloc::{AllocError, Global};
 
@@ -27,6 +27,13 @@ fn is_local(word: &[u8]) -> bool
     ensures { result ≡ spec.is_local word.now }
 {
     is_among(word, LOCAL_NAMES)
+}
+
+/// Whether a word is an address as hosts files begin lines with.
+fn is_address(word: &[u8]) -> bool
+    ensures { result ≡ spec.is_address word.now }
+{
+    is_dotted(word) || has_byte(word, b':')
 }
 
 /// Writes the name of a word behind the address of a hosts line. A local name has none.
@@ -64,6 +71,22 @@ fn push_hosts(
         rest = behind;
     }
     Ok(true)
+}
+
+/// Writes the names of the words of a hosts line: behind its address.
+fn push_hosts_line(
+    alloc: Global,
+    address: &[u8],
+    text: &[u8],
+    names: &mut String,
+) -> Result<bool, AllocError>
+    ensures { IfOk result (λ is_given. Pushes (spec.GivesHostsLine address.now (words_before_comment text.now)) is_given (string_bytes names.old) (string_bytes names.new)) }
+{
+    if !is_address(address) {
+        return Ok(false);
+    }
+    let is_given = push_hosts(alloc, is_sink(address), text, names)?;
+    Ok(is_given)
 }
 
 /// What stands between `||` and `^`.
@@ -146,7 +169,7 @@ fn push_words(alloc: Global, text: &[u8], names: &mut String) -> Result<bool, Al
     if is_root_alias(behind) {
         return push_name(alloc, word, names);
     }
-    push_hosts(alloc, is_sink(word), behind, names)
+    push_hosts_line(alloc, word, behind, names)
 }
 
 /// The plain lines of the names that a line gives. None where it gives no list of names.

@@ -1,6 +1,6 @@
 //! The names of words, as plain lines.
 
-ghost use Rattle.std.specs.Prelude.{◌≡◌, ◌++◌, ◌∷◌, [], IfOk, OnOk, IsTrue, ◌↔◌, ◌≤◌, ℕ, List, Some, MatchOption, string_bytes, option_map, true, false, drop, if◌then◌else◌};
+ghost use Rattle.std.specs.Prelude.{◌==◌, ◌≡◌, ◌++◌, ◌∷◌, [], IfOk, OnOk, IsTrue, ◌↔◌, ◌≤◌, ℕ, List, Some, MatchOption, string_bytes, option_map, true, false, drop, if◌then◌else◌};
 ghost use Rattle.std.specs.Char.{is_ascii};
 ghost use Rattle.std.specs.Cow.{cow_str_bytes};
 ghost use Rattle.std.specs.List.{list_all, list_any};
@@ -42,13 +42,14 @@ fn ascii_text<'w>(alloc: Global, word: &'w [u8]) -> Result<Option<CowStr<'w, Glo
     }
 }
 
-fn has_asterisk(text: &[u8]) -> bool
-    ensures { result ≡ list_any spec.is_asterisk text.now }
+pub(crate) fn has_byte(text: &[u8], byte: u8) -> bool
+    ensures { result ≡ list_any (λ b. b == byte) text.now }
 {
-    text.iter().any(|b| *b == b'*')
+    text.iter().any(|b| *b == byte)
 }
 
-fn is_address(text: &[u8]) -> bool
+/// Whether all bytes of a text are digits and dots.
+pub(crate) fn is_dotted(text: &[u8]) -> bool
     ensures { result ≡ list_all spec.is_address_byte text.now }
 {
     text.iter().all(|b| b.is_ascii_digit() || *b == b'.')
@@ -60,7 +61,7 @@ fn may_be_blocked(text: &[u8]) -> bool
 {
     match text {
         [] => false,
-        [_, behind @ ..] => !has_asterisk(behind) && !is_address(text),
+        [_, behind @ ..] => !has_byte(behind, b'*') && !is_dotted(text),
     }
 }
 
@@ -127,7 +128,7 @@ pub(crate) fn push_name(alloc: Global, word: &[u8], names: &mut String) -> Resul
 fn is_covered(text: &str, name: &Name) -> bool
     ensures { IsTrue result ↔ ((list_any spec.is_asterisk text.now ≡ false) × (name_len name.now.labels ≤ 253)) }
 {
-    !has_asterisk(text.as_bytes()) && name.as_wire().len() <= MAX_WIRE_LEN
+    !has_byte(text.as_bytes(), b'*') && name.as_wire().len() <= MAX_WIRE_LEN
 }
 
 /// Writes the plain lines of the name of a word and of the wildcard over it, if it is a name that has names below it.
