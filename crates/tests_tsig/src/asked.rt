@@ -105,6 +105,7 @@ fn answer_hmac(
     let key = bytes(alloc, key)?;
     let message = bytes(alloc, message)?;
     let digest = hmac(alloc, function, &key, &message)?;
+    text.push_str("hmac ")?;
     put_hex(alloc, &digest, text)?;
     Ok(())
 }

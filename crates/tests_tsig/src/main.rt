@@ -19,16 +19,29 @@ use std::alloc::Global;
 use std::io::{self, Read};
 use std::process::ExitCode;
 
+/// Answers a line, and puts the answer behind a text, whole or not at all.
+fn answer_line(
+    alloc: Global,
+    state: &mut State,
+    line: &str,
+    text: &mut String,
+) -> Result<(), Fault> {
+    let mut told = String::new(alloc);
+    if line.starts_with('#') {
+        told.push_str(line)?;
+    } else {
+        answer(alloc, state, line, &mut told)?;
+    }
+    told.push('\n')?;
+    text.push_str(&told)?;
+    Ok(())
+}
+
 /// Answers the lines of a text, and puts the answers behind another one.
 fn answer_lines(alloc: Global, lines: &str, text: &mut String) -> Result<(), Fault> {
     let mut state = State::new(alloc);
     for line in lines.lines() {
-        if line.starts_with('#') {
-            text.push_str(line)?;
-        } else {
-            answer(alloc, &mut state, line, text)?;
-        }
-        text.push('\n')?;
+        answer_line(alloc, &mut state, line, text)?;
     }
     Ok(())
 }
