@@ -33,10 +33,10 @@ is_of_types (listed ∷ others) kind = list_any (is_listed kind) (listed ∷ oth
 
 -- The rule is for this key, and for records of this name and type, which lie in the zone.
 pub record Grants (rule : Rule) (key zone name : DomainName) (kind : ℕ) : Type 0 where
-  pub key : IsTrue (name_eq rule.key key)
-  pub zone : Encloses zone.labels name.labels
-  pub scope : IsInScope rule.scope key name
-  pub kind : IsTrue (is_of_types rule.types kind)
+  pub same_key : IsTrue (name_eq rule.key key)
+  pub in_zone : Encloses zone.labels name.labels
+  pub in_scope : IsInScope rule.scope key name
+  pub of_types : IsTrue (is_of_types rule.types kind)
 
 -- Some rule of the policy is.
 abbrev pub IsGranted : List Rule → DomainName → DomainName → DomainName → ℕ → Type 0

@@ -1,6 +1,7 @@
 //! Rules of who may update what.
 
 ghost use Rattle.std.specs.Prelude.{◌≡◌, ◌↔◌, ◌++◌, ◌∷◌, [], IsTrue, OnErr, OnOk};
+ghost use Rattle.std.specs.List.{list_any};
 ghost use Rattle.update_policy.specs.Grants.{AreGranted, Grants, IsGranted, IsInScope, is_listed, is_of_types, is_ordinary};
 
 use std::alloc::{AllocError, Global};
@@ -76,14 +77,21 @@ fn is_listed(kind: RecordType, listed: RecordType) -> bool
     listed == kind || (listed.value() == ANY && !(kind.value() == NSEC || kind.value() == NSEC3))
 }
 
+/// Whether one of these types is for a type.
+fn is_any_listed(types: &[RecordType], kind: RecordType) -> bool
+    ensures { result ≡ list_any (is_listed kind) types.now }
+{
+    types.iter().any(|listed| is_listed(kind, *listed))
+}
+
 /// Whether a rule with these types is for a type.
 fn is_of_types(types: &[RecordType], kind: RecordType) -> bool
     ensures { result ≡ is_of_types types.now kind }
 {
-    if types.is_empty() {
-        return is_ordinary(kind);
+    match types {
+        [] => is_ordinary(kind),
+        [_, ..] => is_any_listed(types, kind),
     }
-    types.iter().any(|listed| is_listed(kind, *listed))
 }
 
 impl Rule {
