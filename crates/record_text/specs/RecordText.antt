@@ -143,9 +143,14 @@ pub record IsGenericData (number : ℕ) (size : Word) (digits : List Word) (rdat
   pub spelled : decode_of (bytes_of digits) ≡ Ok octets
   pub read : AreReadOf number octets rdata
 
--- The words are data of a type, and these are the data: in the form of the type, or in the form that is one for all.
+-- Words begin in the form that is one for all types: `\#`, and at least one word behind it.
+abbrev pub BeginGeneric : List Word → Type 0
+BeginGeneric (mark ∷ size ∷ digits) = (mark.quoted ≡ false) × (mark.bytes.now ≡ 92 ∷ 35 ∷ [])
+BeginGeneric words = ⊥
+
+-- The words are data of a type, and these are the data: in the form of the type, or, where they begin so, in the form that is one for all.
 pub data SpellsData (origin : Option DomainName) (number : ℕ) : List Word → RData → Type 0 where
-  in_form : {words : List Word} {rdata : RData} → IsData origin number words (data_octets rdata) → SpellsData origin number words rdata
+  in_form : {words : List Word} {rdata : RData} → ¬ (BeginGeneric words) → IsData origin number words (data_octets rdata) → SpellsData origin number words rdata
   generic : {mark size : Word} {digits : List Word} {rdata : RData} → mark.quoted ≡ false → mark.bytes.now ≡ 92 ∷ 35 ∷ [] → IsGenericData number size digits rdata → SpellsData origin number (mark ∷ size ∷ digits) rdata
 
 -- From a place of a text within so many parentheses on, the words to the end are data of a type, and these are the data.

@@ -10,12 +10,12 @@ pub(crate) mod rest;
 pub(crate) mod table;
 mod types;
 
-ghost use Rattle.std.specs.Prelude.{◌≡◌, ◌≤◌, [], ◌∷◌, false, IfOk, IfSome, IsTrue};
+ghost use Rattle.std.specs.Prelude.{◌≡◌, ◌↔◌, ◌≤◌, [], ◌∷◌, false, IfOk, IfSome, IsTrue};
 ghost use Rattle.std.specs.Option.{option_copied};
 ghost use Rattle.wire_messages.specs.rr.RecordData.{type_of};
 ghost use Rattle.wire_messages.specs.serialize.writing.RecordSize.{data_len};
 ghost use Rattle.text_words.specs.declared.words.TextKind.TheVariants.{Line};
-ghost use Rattle.record_text.specs.RecordText.{HasData, SpellsData};
+ghost use Rattle.record_text.specs.RecordText.{BeginGeneric, HasData, SpellsData};
 
 use crate::data::forms::data_in_form;
 use crate::generic::read_generic;
@@ -59,19 +59,30 @@ fn spelled_data(
     ensures form { IfOk result (λ rdata. type_of rdata ≡ record_type) }
     ensures spelled { IfOk result (SpellsData (option_copied origin.entry) record_type words.now) }
 {
-    match words {
-        [mark, size, digits @ ..] if is_mark(mark) => {
-            read_generic(alloc, record_type, size, digits)
-        }
-        _ => data_in_form(alloc, record_type, words, end, origin),
+    if begin_generic(words) {
+        return read_generic(alloc, record_type, &words[1], &words[2..]);
     }
+    data_in_form(alloc, record_type, words, end, origin)
 }
 
 /// Whether a word is `\#`.
 fn is_mark(word: &Word<'_>) -> bool
-    ensures { IsTrue result → (word.now.quoted ≡ false) × (word.now.bytes.now ≡ 92 ∷ 35 ∷ []) }
+    ensures { IsTrue result ↔ ((word.now.quoted ≡ false) × (word.now.bytes.now ≡ 92 ∷ 35 ∷ [])) }
 {
-    !word.quoted && word.bytes == b"\\#".as_slice()
+    if word.quoted {
+        return false;
+    }
+    word.bytes == b"\\#".as_slice()
+}
+
+/// Whether words begin in the form that is one for all types: `\#`, and at least one word behind it.
+fn begin_generic(words: &[Word<'_>]) -> bool
+    ensures { IsTrue result ↔ BeginGeneric words.now }
+{
+    match words {
+        [mark, _, ..] => is_mark(mark),
+        _ => false,
+    }
 }
 
 /// The data of a type that these words are, in any form that it has, of no more bytes than their length can tell. `end` is the place where a word is

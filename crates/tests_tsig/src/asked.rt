@@ -4,12 +4,13 @@ use crate::fault::Fault;
 use crate::state::State;
 use hex::FromHexError;
 use hickory_store::sqlite::{Verifier, VerifyError};
-use hickory_wire::{Name, NameError};
+use hickory_wire::{Name, NameError, RecordType};
 use std::alloc::{AllocError, Global};
 use tsig::{
     HashFunction, Judgement, KeyTextError, Keys, SigningError, TsigVerifier, Verdict, hmac, judge,
     read_key, read_keys, room, sign, sign_next,
 };
+use update_policy::{Policy, RuleTextError, read_rule};
 
 /// The bytes that hex digits stand for; `-` is none.
 fn bytes(alloc: Global, digits: &str) -> Result<Vec<u8>, Fault> {
@@ -28,6 +29,15 @@ fn number(word: &str) -> Result<u64, Fault> {
     match word.parse::<u64>() {
         Ok(number) => Ok(number),
         Err(_) => Err(Fault::Line),
+    }
+}
+
+/// A name.
+fn read_name(alloc: Global, word: &str) -> Result<Name, Fault> {
+    match Name::from_ascii(alloc, word) {
+        Ok(name) => Ok(name),
+        Err(NameError::Memory) => Err(Fault::Memory),
+        Err(NameError::Text) => Err(Fault::Line),
     }
 }
 
@@ -105,6 +115,7 @@ fn answer_hmac(
     let key = bytes(alloc, key)?;
     let message = bytes(alloc, message)?;
     let digest = hmac(alloc, function, &key, &message)?;
+    text.push_str("hmac ")?;
     put_hex(alloc, &digest, text)?;
     Ok(())
 }
@@ -189,11 +200,7 @@ fn answer_verify(
     let verifier = TsigVerifier {
         keys: state.keys.copied(alloc)?,
     };
-    let name = match Name::from_ascii(alloc, name) {
-        Ok(name) => name,
-        Err(NameError::Memory) => return Err(Fault::Memory),
-        Err(NameError::Text) => return Err(Fault::Line),
-    };
+    let name = read_name(alloc, name)?;
     let message = bytes(alloc, digits)?;
     match verifier.verify(alloc, &name, &message) {
         Ok(times) => text.push_str(&format!(in alloc; "from {} to {}", times.start, times.end)?)?,
@@ -236,6 +243,48 @@ fn answer_sign(
     Ok(())
 }
 
+/// Adds a rule.
+fn answer_rule(
+    alloc: Global,
+    state: &mut State,
+    rule: &str,
+    text: &mut String,
+) -> Result<(), Fault> {
+    match read_rule(alloc, rule) {
+        Ok(rule) => {
+            state.policy.add(rule)?;
+            text.push_str("added")?;
+        }
+        Err(RuleTextError::Memory) => return Err(Fault::Memory),
+        Err(e) => text.push_str(&format!(in alloc; "{e}")?)?,
+    }
+    Ok(())
+}
+
+/// Tells whether the rules grant an update.
+fn answer_grants(
+    alloc: Global,
+    policy: &Policy,
+    names: [&str; 3],
+    kind: &str,
+    text: &mut String,
+) -> Result<(), Fault> {
+    let [key, zone, name] = names;
+    let key = read_name(alloc, key)?;
+    let zone = read_name(alloc, zone)?;
+    let name = read_name(alloc, name)?;
+    let Ok(kind) = kind.parse::<RecordType>() else {
+        return Err(Fault::Line);
+    };
+    let word = if policy.grants(&key, &zone, &name, kind) {
+        "granted"
+    } else {
+        "refused"
+    };
+    text.push_str(word)?;
+    Ok(())
+}
+
 /// Answers a line.
 pub fn answer(
     alloc: Global,
@@ -245,6 +294,9 @@ pub fn answer(
 ) -> Result<(), Fault> {
     if let Some(file) = line.strip_prefix("file ") {
         return answer_file(alloc, state, file, text);
+    }
+    if let Some(rule) = line.strip_prefix("rule ") {
+        return answer_rule(alloc, state, rule, text);
     }
     let words: Vec<&str> = line.split(' ').collect(alloc)?;
     match words.as_slice() {
@@ -256,6 +308,9 @@ pub fn answer(
         ["verify", name, digits] => answer_verify(alloc, state, name, digits, text),
         ["sign", now, digits] => answer_sign(alloc, state, false, now, digits, text),
         ["next", now, digits] => answer_sign(alloc, state, true, now, digits, text),
+        ["grants", key, zone, name, kind] => {
+            answer_grants(alloc, &state.policy, [key, zone, name], kind, text)
+        }
         _ => Err(Fault::Line),
     }
 }

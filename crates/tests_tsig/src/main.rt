@@ -3,7 +3,8 @@
 //! `key ALGORITHM:NAME:SECRET [SHORTEST]` adds a key, and `file TEXT` the keys of a text whose line ends are written `|`; both tell how many
 //! there are, or what is wrong. `hmac FUNCTION KEY TEXT` prints the HMAC. `judge NOW HEX` judges a message, `flip NOW HEX` judges it once for
 //! each byte with its lowest bit changed and prints the places where it is good all the same, and `verify NAME HEX` asks the verifier of handlers.
-//! `sign NOW HEX` signs a reply to what was judged last, and `next NOW HEX` the next message of a transfer. A line that begins with `#` is printed.
+//! `sign NOW HEX` signs a reply to what was judged last, and `next NOW HEX` the next message of a transfer. `rule TEXT` adds a rule
+//! of updates, and `grants KEY ZONE NAME TYPE` asks the rules. A line that begins with `#` is printed.
 //!
 //! The status is 0, 3 without memory, 4 where input or output fail, and 5 where a line is none.
 #![tactic(auto)]
@@ -19,16 +20,29 @@ use std::alloc::Global;
 use std::io::{self, Read};
 use std::process::ExitCode;
 
+/// Answers a line, and puts the answer behind a text, whole or not at all.
+fn answer_line(
+    alloc: Global,
+    state: &mut State,
+    line: &str,
+    text: &mut String,
+) -> Result<(), Fault> {
+    let mut told = String::new(alloc);
+    if line.starts_with('#') {
+        told.push_str(line)?;
+    } else {
+        answer(alloc, state, line, &mut told)?;
+    }
+    told.push('\n')?;
+    text.push_str(&told)?;
+    Ok(())
+}
+
 /// Answers the lines of a text, and puts the answers behind another one.
 fn answer_lines(alloc: Global, lines: &str, text: &mut String) -> Result<(), Fault> {
     let mut state = State::new(alloc);
     for line in lines.lines() {
-        if line.starts_with('#') {
-            text.push_str(line)?;
-        } else {
-            answer(alloc, &mut state, line, text)?;
-        }
-        text.push('\n')?;
+        answer_line(alloc, &mut state, line, text)?;
     }
     Ok(())
 }

@@ -3,6 +3,7 @@
 use hickory_wire::Octets;
 use std::alloc::Global;
 use tsig::{Judgement, Keys};
+use update_policy::Policy;
 
 /// What is kept between lines.
 #[derive(Drop)]
@@ -13,6 +14,8 @@ pub struct State {
     pub judgement: Judgement,
     /// The MAC of what was signed last.
     pub mac: Octets,
+    /// The rules.
+    pub policy: Policy,
 }
 
 impl State {
@@ -22,6 +25,7 @@ impl State {
             keys: Keys::new(alloc),
             judgement: Judgement::Unsigned,
             mac: Octets::from_vec(Vec::new(alloc)),
+            policy: Policy::new(alloc),
         }
     }
 }

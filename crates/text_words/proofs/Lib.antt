@@ -2,3 +2,4 @@ pub mod OneReading
 pub mod SameBytes
 pub mod SpellingSteps
 pub mod UnitSteps
+pub mod WordsOnce

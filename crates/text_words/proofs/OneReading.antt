@@ -205,7 +205,7 @@ abbrev pub IsHere : TextKind → List ℕ → ℕ → ℕ → Option Word → �
 IsHere kind text start depth (Some word) next next_depth = (IsPlainWord kind text start word next ⊎ IsQuotedWord text start word next) × (next_depth ≡ depth)
 IsHere kind text start depth None next next_depth = (next ≡ start) × (next_depth ≡ 0) × (depth ≡ 0) × (start ≤ length text) × EndsAt kind text start
 
-word_stuck : (kind : TextKind) (text : List ℕ) (first depth : ℕ) (word : Word) (next : ℕ) → IsPlainWord kind text first word next ⊎ IsQuotedWord text first word next → IsGapEnd kind text first depth
+pub word_stuck : (kind : TextKind) (text : List ℕ) (first depth : ℕ) (word : Word) (next : ℕ) → IsPlainWord kind text first word next ⊎ IsQuotedWord text first word next → IsGapEnd kind text first depth
 word_stuck kind text first depth word next (inl plain) = stuck_at_word kind text first depth plain.begins
 word_stuck kind text first depth word next (inr quoted) = stuck_at_quote kind text first depth quoted.opened.is
 

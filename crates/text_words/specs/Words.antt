@@ -141,3 +141,19 @@ pub record AreWordsTo (kind : TextKind) (text : List ℕ) (place depth : ℕ) (w
 -- From a place on, no words stand to an end: a quote or a parenthesis is not closed, or a parenthesis closes none.
 abbrev pub HasNoWords : TextKind → List ℕ → ℕ → ℕ → Type 0
 HasNoWords kind text place depth = (words : List Word) (end : ℕ) → AreWordsTo kind text place depth words end → ⊥
+
+-- the same word at the same place
+pub record SameWord (a b : Word) : Type 0 where
+  pub bytes : a.bytes.now ≡ b.bytes.now
+  pub start : a.start ≡ b.start
+  pub quoted : a.quoted ≡ b.quoted
+
+-- the same words in the same order
+abbrev pub AreSameWords : List Word → List Word → Type 0
+AreSameWords [] [] = Unit {0}
+AreSameWords (a ∷ words) (b ∷ others) = SameWord a b × AreSameWords words others
+AreSameWords words others = ⊥
+
+-- From a place on, words stand to an end in one way.
+abbrev pub StandOnce : Type 0
+StandOnce = (kind : TextKind) (text : List ℕ) (place depth end other : ℕ) (words others : List Word) → AreWordsTo kind text place depth words end → AreWordsTo kind text place depth others other → AreSameWords words others × (end ≡ other)

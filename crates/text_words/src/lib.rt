@@ -7,6 +7,7 @@ mod error;
 mod escapes;
 mod names;
 mod ttl;
+pub mod word_laws;
 mod words;
 
 pub use error::{TextError, TextFault};

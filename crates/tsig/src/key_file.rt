@@ -116,6 +116,14 @@ fn begins_key(word: &str) -> bool {
     }
 }
 
+/// Whether a word begins a list of keys.
+fn begins_list(word: &str) -> bool {
+    match word {
+        "key:" => true,
+        _ => false,
+    }
+}
+
 /// Whether a character only separates words.
 fn is_separator(c: char) -> bool {
     c.is_ascii_whitespace() || c == '{' || c == '}' || c == ';' || c == '"' || c == '\''
@@ -168,9 +176,7 @@ impl Reader {
     {
         if begins_key(word) {
             self.begin(line)?;
-        } else if word.ends_with(':') || field_of(word).is_some() {
-            // A part of a key, or `key:`, which begins a list of them.
-        } else {
+        } else if !begins_list(word) && field_of(word).is_none() {
             let key = key_at(alloc, word, line)?;
             add_key(&mut self.keys, key, line)?;
         }
