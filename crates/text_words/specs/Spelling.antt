@@ -84,3 +84,13 @@ pub record IsString (word : Word) (octets : List ℕ) : Type 0 where
   pub spelled : Spells any_byte word.bytes.now bytes
   pub short : length bytes < 256
   pub counted : octets ≡ character_string bytes
+
+-- A word spells one character string at most, one name with an origin, and one time.
+abbrev pub StringsSpelledOnce : Type 0
+StringsSpelledOnce = (word : Word) (octets others : List ℕ) → IsString word octets → IsString word others → octets ≡ others
+
+abbrev pub NamesSpelledOnce : Type 0
+NamesSpelledOnce = (origin : Option DomainName) (text : List ℕ) (labels others : List (List ℕ)) → SpellsName origin text labels → SpellsName origin text others → labels ≡ others
+
+abbrev pub TimesSpelledOnce : Type 0
+TimesSpelledOnce = (text : List ℕ) (n other : ℕ) → SpellsTime text n → SpellsTime text other → n ≡ other
