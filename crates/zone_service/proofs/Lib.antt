@@ -1,1 +1,3 @@
-mod Written
+pub mod Streams
+pub mod Whole
+pub mod Written
