@@ -9,7 +9,6 @@
 #include <errno.h>
 #include <grp.h>
 #include <pwd.h>
-#include <sched.h>
 #include <signal.h>
 #include <stdarg.h>
 #include <stddef.h>
@@ -24,7 +23,7 @@
 
 #define MOST_WORKERS 64
 
-static struct settings settings = {.max_udp = 1232, .workers = 1, .first_processor = -1, .tcp_idle = 10, .tcp_most = 1000, .tcp_client = 100};
+static struct settings settings = {.max_udp = 1232, .workers = 1, .tcp_idle = 10, .tcp_most = 1000, .tcp_client = 100};
 static struct sockets sockets[MOST_WORKERS];
 static pid_t workers[MOST_WORKERS];
 static time_t begun[MOST_WORKERS];
@@ -58,17 +57,6 @@ static void notify(const char *text)
     }
 }
 
-static int number(const char *text, int least, int most)
-{
-    char *rest;
-    long n = strtol(text, &rest, 10);
-    if (rest == text || *rest != 0 || n < least || n > most) {
-        complain("%s: not a number from %d to %d", text, least, most);
-        exit(2);
-    }
-    return (int)n;
-}
-
 static void usage(void)
 {
     complain("wrong arguments; zoned --help says how it is started");
@@ -86,7 +74,7 @@ static void help(void)
          "  --nsid TEXT                         what identifies this server\n"
          "  --max-udp N                         bytes of a reply over UDP at most, 1232\n"
          "  --user NAME                         who it is once its sockets are open\n"
-         "  --workers N, --processor N          processes that serve, 1; pinned to processors from N on\n"
+         "  --workers N                         processes that serve, 1\n"
          "  --tcp-idle SECONDS                  when a connection that does not get on is closed, 10\n"
          "  --tcp-most N, --tcp-client N        connections of a worker, 1000; of a client and worker, 100\n"
          "  --check                             read the files, tell what is wrong with them, and end\n"
@@ -95,72 +83,58 @@ static void help(void)
     exit(0);
 }
 
-static void put(const char **list, int *count, int most, const char *text)
-{
-    if (*count == most)
-        usage();
-    list[(*count)++] = text;
-}
+/* Options with a number behind them, with a text, and with one of several texts. */
+static const struct {
+    const char *name;
+    int *at, least, most;
+} numbers[] = {{"--max-udp", &settings.max_udp, 512, 65535},
+               {"--workers", &settings.workers, 1, MOST_WORKERS},
+               {"--tcp-idle", &settings.tcp_idle, 1, 3600},
+               {"--tcp-most", &settings.tcp_most, 1, 100000},
+               {"--tcp-client", &settings.tcp_client, 1, 100000}};
+static const struct {
+    const char *name, **at;
+} words[] = {{"--blocklist", &settings.blocklist}, {"--nsid", &settings.identifier}, {"--user", &settings.user}};
+static const struct {
+    const char *name;
+    struct texts *at;
+    int most;
+} lists[] = {{"--listen", &settings.addresses, MOST_ADDRESSES},      {"--zone", &settings.zones, MOST_TEXTS},
+             {"--allow", &settings.networks[0], MOST_TEXTS},         {"--deny", &settings.networks[1], MOST_TEXTS},
+             {"--allow-transfer", &settings.networks[2], MOST_TEXTS}, {"--deny-transfer", &settings.networks[3], MOST_TEXTS}};
 
-/* Takes an option that has a number behind it. Whether it is one. */
-static int put_number(const char *option, const char *text)
-{
-    if (strcmp(option, "--max-udp") == 0)
-        settings.max_udp = number(text, 512, 65535);
-    else if (strcmp(option, "--workers") == 0)
-        settings.workers = number(text, 1, MOST_WORKERS);
-    else if (strcmp(option, "--processor") == 0)
-        settings.first_processor = number(text, 0, CPU_SETSIZE - MOST_WORKERS);
-    else if (strcmp(option, "--tcp-idle") == 0)
-        settings.tcp_idle = number(text, 1, 3600);
-    else if (strcmp(option, "--tcp-most") == 0)
-        settings.tcp_most = number(text, 1, 100000);
-    else if (strcmp(option, "--tcp-client") == 0)
-        settings.tcp_client = number(text, 1, 100000);
-    else
-        return 0;
-    return 1;
-}
+#define EACH(i, table) for (size_t i = 0; i < sizeof table / sizeof table[0]; i++) /* of a table of options */
 
-/* Takes an option that has a network behind it. Whether it is one. */
-static int put_network(const char *option, const char *text)
+static void put_option(const char *option, const char *text)
 {
-    static const char *const options[NETWORK_KINDS] = {"--allow", "--deny", "--allow-transfer", "--deny-transfer"};
-    for (int i = 0; i < NETWORK_KINDS; i++)
-        if (strcmp(option, options[i]) == 0) {
-            put(settings.networks[i], &settings.network_count[i], MOST_TEXTS, text);
-            return 1;
+    EACH (i, numbers)
+        if (strcmp(option, numbers[i].name) == 0) {
+            char *rest;
+            long n = strtol(text, &rest, 10);
+            if (rest == text || *rest != 0 || n < numbers[i].least || n > numbers[i].most) {
+                complain("%s: not a number from %d to %d", text, numbers[i].least, numbers[i].most);
+                exit(2);
+            }
+            *numbers[i].at = (int)n;
+            return;
         }
-    return 0;
+    EACH (i, words)
+        if (strcmp(option, words[i].name) == 0) {
+            *words[i].at = text;
+            return;
+        }
+    EACH (i, lists)
+        if (strcmp(option, lists[i].name) == 0 && lists[i].at->count < lists[i].most) {
+            lists[i].at->at[lists[i].at->count++] = text;
+            return;
+        }
+    usage();
 }
 
-static void put_zone(char *text)
+/* Reads the arguments. Whether the files are only to be read. */
+static int read_arguments(int argc, char **argv)
 {
-    char *mark = strchr(text, '=');
-    if (mark == NULL || settings.zone_count == MOST_ZONES)
-        usage();
-    *mark = 0;
-    settings.zones[settings.zone_count++] = (struct zone_setting){text, mark + 1};
-}
-
-static void put_option(const char *option, char *text)
-{
-    if (strcmp(option, "--listen") == 0)
-        put(settings.addresses, &settings.address_count, MOST_ADDRESSES, text);
-    else if (strcmp(option, "--zone") == 0)
-        put_zone(text);
-    else if (strcmp(option, "--blocklist") == 0)
-        settings.blocklist = text;
-    else if (strcmp(option, "--nsid") == 0)
-        settings.identifier = text;
-    else if (strcmp(option, "--user") == 0)
-        settings.user = text;
-    else if (!put_number(option, text) && !put_network(option, text))
-        usage();
-}
-
-static void read_arguments(int argc, char **argv)
-{
+    int check = 0;
     for (int i = 1; i < argc; i++) {
         if (strcmp(argv[i], "--help") == 0 || strcmp(argv[i], "-h") == 0) {
             help();
@@ -168,7 +142,7 @@ static void read_arguments(int argc, char **argv)
             puts("zoned " ZONED_VERSION);
             exit(0);
         } else if (strcmp(argv[i], "--check") == 0) {
-            settings.check = 1;
+            check = 1;
         } else {
             if (i + 1 == argc)
                 usage();
@@ -176,8 +150,9 @@ static void read_arguments(int argc, char **argv)
             i++;
         }
     }
-    if ((settings.address_count == 0 && !settings.check) || settings.zone_count == 0)
+    if ((settings.addresses.count == 0 && !check) || settings.zones.count == 0)
         usage();
+    return check;
 }
 
 static int let_privileges_go(void)
@@ -197,12 +172,6 @@ static void begin(int worker)
     pid_t parent = getpid(), child = fork();
     if (child == 0) {
         prctl(PR_SET_PDEATHSIG, SIGTERM);
-        if (settings.first_processor >= 0) {
-            cpu_set_t one;
-            CPU_ZERO(&one);
-            CPU_SET(settings.first_processor + worker, &one);
-            sched_setaffinity(0, sizeof one, &one);
-        }
         for (int i = 0; i < settings.workers; i++)
             for (int j = 0; i != worker && j < sockets[i].count; j++)
                 close(sockets[i].udp[j]), close(sockets[i].tcp[j]);
@@ -253,8 +222,7 @@ int main(int argc, char **argv)
     sigaddset(&signals, SIGINT);
     sigaddset(&signals, SIGCHLD);
     sigprocmask(SIG_BLOCK, &signals, NULL);
-    read_arguments(argc, argv);
-    if (settings.check)
+    if (read_arguments(argc, argv))
         return load(&settings, &service) == 0 ? 0 : 1;
     for (int i = 0; i < settings.workers; i++)
         if (open_sockets(&settings, &sockets[i]) != 0)

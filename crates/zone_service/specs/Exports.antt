@@ -68,5 +68,5 @@ pub data StreamTold {S H : Type 0} (server : Server H) (before : Answering S H) 
   -- Their source is no address.
   no_address : IsNoAddress address → number ≡ 6 → taken ≡ 0 → written ≡ 0 → new ≡ old → after ≡ before → StreamTold server before bytes address port now old number taken written new after
   answered : (source : SocketAddr) (refusal : Option Refusal) → IsSource address port source
-      → IsStreamStep server before bytes source now old (record { consumed = taken; written = written; refusal = refusal }) new after → number ≡ stream_number refusal
+      → IsStreamStep server before bytes source now (record { consumed = taken; written = written; refusal = refusal }) new after → number ≡ stream_number refusal
       → StreamTold server before bytes address port now old number taken written new after

@@ -1,5 +1,5 @@
 -- What becomes of messages, in numbers and over streams.
-use Rattle.std.specs.Prelude.{◌≡◌, ◌≢◌, ◌<◌, ◌⊎◌, ◌+◌, ◌++◌, ◌∷◌, [], ℕ, IsNone, List, Option, drop, length, take}
+use Rattle.std.specs.Prelude.{◌≡◌, ◌<◌, ◌⊎◌, ◌+◌, ◌++◌, ◌∷◌, [], ℕ, IsNone, List, Option, drop, length, take}
 use Rattle.std.specs.declared.net.SocketAddr.{SocketAddr}
 use Rattle.std.specs.declared.option.Option.TheVariants.{None, Some}
 use Rattle.wire_messages.specs.declared.protocol.Protocol.{Protocol}
@@ -30,8 +30,8 @@ IsRefused rules server bytes source protocol now MemoryAfterHandling zones = Lea
 
 -- The replies to messages that come one after the other over a stream from there at this moment, and the zones after them.
 pub data Exchange {H : Type 0} (rules : Rules) (server : Server H) (source : SocketAddr) (now : ℕ) : List (DomainName × List H) → List (List ℕ) → List (List ℕ) → List (DomainName × List H) → Type 0 where
-  none : {zones : List H} → Exchange rules server source now zones [] [] zones
-  next : {zones between after : List H} {message : List ℕ} {messages sent others replies : List (List ℕ)}
+  none : {zones : List (DomainName × List H)} → Exchange rules server source now zones [] [] zones
+  next : {zones between after : List (DomainName × List H)} {message : List ℕ} {messages sent others replies : List (List ℕ)}
       → BytesServed rules (record server { zones = zones }) message source Tcp now (answers.Replies sent) between
       → Exchange rules server source now between messages others after
       → replies ≡ sent ++ others
@@ -49,7 +49,7 @@ pub record IsAnsweredStream {H : Type 0} (rules : Rules) (server : Server H) (by
   pub refused : List (List ℕ)
   pub are_messages : AreFrames (take answer.consumed bytes) (messages ++ refused)
   pub replies : List (List ℕ)
-  pub between : List H
+  pub between : List (DomainName × List H)
   pub exchange : Exchange rules server source now server.zones messages replies between
   pub last : EndsStream rules server source now between answer.refusal refused waiting zones
   pub written : List (List ℕ)
@@ -60,12 +60,8 @@ pub record IsAnsweredStream {H : Type 0} (rules : Rules) (server : Server H) (by
 abbrev pub IsAtEnd : List ℕ → ℕ → ℕ → ℕ → Type 0
 IsAtEnd bytes consumed room written = IsCutShort (drop consumed bytes) ⊎ (room < written + 65537)
 
--- What becomes of a stream's bytes: nothing while replies wait; else messages at the front are answered, up to one that is refused, and else as far as whole
--- ones and the room go and no reply waits.
-pub data IsStreamStep {S H : Type 0} (server : Server H) (before : Answering S H) (bytes : List ℕ) (source : SocketAddr) (now : ℕ) (old : List ℕ) (answer : StreamAnswer) (new : List ℕ) (after : Answering S H) : Type 0 where
-  busy : waiting_in before ≢ [] → answer ≡ record { consumed = 0; written = 0; refusal = None } → new ≡ old → after ≡ before
-      → IsStreamStep server before bytes source now old answer new after
-  goes_on : waiting_in before ≡ []
-      → IsAnsweredStream before.server.rules server bytes source now answer new (waiting_in after) after.server.catalog.zones
-      → (IsNone answer.refusal → waiting_in after ≡ [] → IsAtEnd bytes answer.consumed (length new) answer.written)
-      → IsStreamStep server before bytes source now old answer new after
+-- What becomes of a stream's bytes: messages at the front are answered, up to one that is refused, and else as far as whole ones and the room go and no
+-- reply waits.
+pub record IsStreamStep {S H : Type 0} (server : Server H) (before : Answering S H) (bytes : List ℕ) (source : SocketAddr) (now : ℕ) (answer : StreamAnswer) (new : List ℕ) (after : Answering S H) : Type 0 where
+  pub answered : IsAnsweredStream before.server.rules server bytes source now answer new (waiting_in after) after.server.catalog.zones
+  pub at_end : IsNone answer.refusal → waiting_in after ≡ [] → IsAtEnd bytes answer.consumed (length new) answer.written

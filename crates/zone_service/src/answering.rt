@@ -229,7 +229,8 @@ impl<S: ReplySigner, H: ZoneHandler> Answering<S, H> {
     }
 
     /// Answers the messages that stand whole at the front of a stream's bytes, each behind its length (RFC 1035 section 4.2.2), one after the
-    /// other, while there is room for a reply of any size and none waits. It ends behind one that is refused.
+    /// other, while there is room for a reply of any size and none waits. It ends behind one that is refused. Replies that waited before it
+    /// are let go.
     pub fn answer_stream(
         &mut self,
         alloc: Global,
@@ -240,15 +241,9 @@ impl<S: ReplySigner, H: ZoneHandler> Answering<S, H> {
     ) -> StreamAnswer
         ensures rules { self.new.server.rules ≡ self.old.server.rules }
         ensures others { self.new.server.catalog ≡ record self.old.server.catalog { zones = self.new.server.catalog.zones } }
-        ensures answered { IsStreamStep (server_of H.ZoneHandler S.signature_for self.old.server.catalog) self.old bytes.now source now out.old result out.new self.new }
+        ensures step { IsStreamStep (server_of H.ZoneHandler S.signature_for self.old.server.catalog) self.old bytes.now source now result out.new self.new }
     {
-        if self.waiting() > 0 {
-            return StreamAnswer {
-                consumed: 0,
-                written: 0,
-                refusal: None,
-            };
-        }
+        self.taken = self.pending.len();
         self.answer_whole(alloc, bytes, source, now, out)
     }
 }

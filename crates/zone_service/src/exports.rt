@@ -31,18 +31,18 @@ fn put_text(out: &mut [u8], text: &[u8]) -> usize
 }
 
 /// Tells what a setting came to: puts the text of its fault, as far as there is room, and its length.
-fn told(alloc: Global, set: Result<(), SettingFault>, fault: &mut [u8], length: &mut usize) -> u32
+fn told(alloc: Global, set: Result<(), SettingFault>, fault: &mut [u8], count: &mut usize) -> u32
     ensures done { (result ≡ 0) ↔ IsOk set }
-    ensures length { length.new ≤ length fault.new }
+    ensures count { count.new ≤ length fault.new }
 {
-    *length = 0;
+    *count = 0;
     let Err(e) = set else {
         return DONE;
     };
     let Ok(text) = format!(in alloc; "{e}") else {
         return MEMORY;
     };
-    *length = put_text(fault, text.as_bytes());
+    *count = put_text(fault, text.as_bytes());
     match e {
         SettingFault::Memory => MEMORY,
         _ => FAULT,
@@ -82,12 +82,12 @@ pub extern "C" fn zone_service_set_blocklist(
     service: &mut Handle,
     text: &[u8],
     fault: &mut [u8],
-    length: &mut usize,
+    count: &mut usize,
 ) -> u32
     ensures { service.new.service ≡ record service.old.service { list = service.new.service.list } }
 {
     let service = service.service();
-    told(alloc, service.set_blocklist(alloc, text), fault, length)
+    told(alloc, service.set_blocklist(alloc, text), fault, count)
 }
 
 /// Serves the zone of this name from the bytes of its file.
@@ -98,12 +98,12 @@ pub extern "C" fn zone_service_add_zone(
     name: &[u8],
     text: &[u8],
     fault: &mut [u8],
-    length: &mut usize,
+    count: &mut usize,
 ) -> u32
     ensures made { result ≡ 0 → IsLoaded (option_map (λ it. it.value) service.old.service.list) service.old.service.answering.server.catalog.zones service.new.service.answering.server.catalog.zones }
 {
     let service = service.service();
-    told(alloc, service.add_zone(alloc, name, text), fault, length)
+    told(alloc, service.add_zone(alloc, name, text), fault, count)
 }
 
 /// Lets the addresses of a network use the server.
@@ -113,12 +113,12 @@ pub extern "C" fn zone_service_set_allowed(
     service: &mut Handle,
     network: &[u8],
     fault: &mut [u8],
-    length: &mut usize,
+    count: &mut usize,
 ) -> u32
     ensures made { result ≡ 0 → (network : Network) × Inserts service.old.service.answering.server.rules.access.allow (network ∷ []) service.new.service.answering.server.rules.access.allow }
 {
     let service = service.service();
-    told(alloc, service.allow(network), fault, length)
+    told(alloc, service.allow(network), fault, count)
 }
 
 /// Keeps the addresses of a network from the server.
@@ -128,12 +128,12 @@ pub extern "C" fn zone_service_set_denied(
     service: &mut Handle,
     network: &[u8],
     fault: &mut [u8],
-    length: &mut usize,
+    count: &mut usize,
 ) -> u32
     ensures made { result ≡ 0 → (network : Network) × Inserts service.old.service.answering.server.rules.access.deny (network ∷ []) service.new.service.answering.server.rules.access.deny }
 {
     let service = service.service();
-    told(alloc, service.deny(network), fault, length)
+    told(alloc, service.deny(network), fault, count)
 }
 
 /// Lets the addresses of a network have transfers.
@@ -143,12 +143,12 @@ pub extern "C" fn zone_service_set_transfer_allowed(
     service: &mut Handle,
     network: &[u8],
     fault: &mut [u8],
-    length: &mut usize,
+    count: &mut usize,
 ) -> u32
     ensures made { result ≡ 0 → (network : Network) × Inserts service.old.service.answering.server.rules.transfers.allow (network ∷ []) service.new.service.answering.server.rules.transfers.allow }
 {
     let service = service.service();
-    told(alloc, service.allow_transfer(network), fault, length)
+    told(alloc, service.allow_transfer(network), fault, count)
 }
 
 /// Keeps transfers from the addresses of a network.
@@ -158,12 +158,12 @@ pub extern "C" fn zone_service_set_transfer_denied(
     service: &mut Handle,
     network: &[u8],
     fault: &mut [u8],
-    length: &mut usize,
+    count: &mut usize,
 ) -> u32
     ensures made { result ≡ 0 → (network : Network) × Inserts service.old.service.answering.server.rules.transfers.deny (network ∷ []) service.new.service.answering.server.rules.transfers.deny }
 {
     let service = service.service();
-    told(alloc, service.deny_transfer(network), fault, length)
+    told(alloc, service.deny_transfer(network), fault, count)
 }
 
 /// Sets how many bytes a reply over UDP has at most, from 512 on.
@@ -173,12 +173,12 @@ pub extern "C" fn zone_service_set_max_udp(
     service: &mut Handle,
     size: u16,
     fault: &mut [u8],
-    length: &mut usize,
+    count: &mut usize,
 ) -> u32
     ensures made { result ≡ 0 → service.new.service.answering.server.rules ≡ record service.old.service.answering.server.rules { max_udp = size } }
 {
     let service = service.service();
-    told(alloc, service.set_max_udp(size), fault, length)
+    told(alloc, service.set_max_udp(size), fault, count)
 }
 
 /// Sets what identifies the server to clients that ask (RFC 5001).
@@ -188,12 +188,12 @@ pub extern "C" fn zone_service_set_identifier(
     service: &mut Handle,
     text: &[u8],
     fault: &mut [u8],
-    length: &mut usize,
+    count: &mut usize,
 ) -> u32
     ensures made { result ≡ 0 → service.new.service.answering.server.catalog ≡ record service.old.service.answering.server.catalog { nsid = Some text.now } }
 {
     let service = service.service();
-    told(alloc, service.set_identifier(alloc, text), fault, length)
+    told(alloc, service.set_identifier(alloc, text), fault, count)
 }
 
 /// Answers a message: writes its replies, each behind its length in two bytes, as many as there is room for, and says how many bytes they take
@@ -232,7 +232,8 @@ pub extern "C" fn zone_service_answer(
 }
 
 /// Answers the messages that stand whole at the front of a stream's bytes, each behind its length in two bytes, and says how many bytes
-/// they are, how many bytes of replies were written, and how many replies wait. The number says why the last of them has none.
+/// they are, how many bytes of replies were written, and how many replies wait. The number says why the last of them has none. Replies that
+/// waited before it are let go.
 #[unsafe(no_mangle)]
 pub extern "C" fn zone_service_answer_stream(
     alloc: Global,

@@ -101,7 +101,8 @@ pub(crate) fn tell_answer<S: ReplySigner, H: ZoneHandler>(
 }
 
 /// Answers the messages that stand whole at the front of a stream's bytes, each behind its length in two bytes, and says how many bytes
-/// they are, how many bytes of replies were written, and how many replies wait. The number says why the last of them has none.
+/// they are, how many bytes of replies were written, and how many replies wait. The number says why the last of them has none. Replies that
+/// waited before it are let go.
 pub(crate) fn tell_stream<S: ReplySigner, H: ZoneHandler>(
     alloc: Global,
     answering: &mut Answering<S, H>,
