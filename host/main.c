@@ -63,47 +63,45 @@ static void usage(void)
     exit(2);
 }
 
+/* Options with a number behind them, with a text, and with one of several texts. */
+static const struct {
+    const char *name, *says;
+    int *at, least, most;
+} numbers[] = {{"--max-udp", "bytes of a reply over UDP at most", &settings.max_udp, 512, 65535},
+               {"--workers", "processes that serve", &settings.workers, 1, MOST_WORKERS},
+               {"--tcp-idle", "seconds until a connection that does not get on is closed", &settings.tcp_idle, 1, 3600},
+               {"--tcp-most", "connections of a worker", &settings.tcp_most, 1, 100000},
+               {"--tcp-client", "connections of a client and worker", &settings.tcp_client, 1, 100000}};
+static const struct {
+    const char *name, *says, **at;
+} words[] = {{"--blocklist", "FILE of names that are blocked, a line each", &settings.blocklist},
+             {"--nsid", "TEXT that identifies this server", &settings.identifier},
+             {"--user", "NAME of the user that it becomes once its sockets are open", &settings.user}};
+static const struct {
+    const char *name, *says;
+    struct texts *at;
+    int most;
+} lists[] = {{"--listen", "ADDRESS[@PORT], over UDP and TCP; port 53", &settings.addresses, MOST_ADDRESSES},
+             {"--zone", "NAME=FILE: the zone at NAME, from a zone file", &settings.zones, MOST_TEXTS},
+             {"--allow", "NET that may ask", &settings.networks[0], MOST_TEXTS},
+             {"--deny", "NET that may not", &settings.networks[1], MOST_TEXTS},
+             {"--allow-transfer", "NET that may have zones transferred", &settings.networks[2], MOST_TEXTS},
+             {"--deny-transfer", "NET that may not", &settings.networks[3], MOST_TEXTS}};
+
+#define EACH(i, table) for (size_t i = 0; i < sizeof table / sizeof table[0]; i++) /* of a table of options */
+
 static void help(void)
 {
     puts("zoned --listen ADDRESS[@PORT].. --zone NAME=FILE.. [OPTION]..\n"
-         "  --listen ADDRESS[@PORT]             where it listens, over UDP and TCP; port 53\n"
-         "  --zone NAME=FILE                    the zone at NAME, from a zone file\n"
-         "  --blocklist FILE                    names that are blocked, a line each\n"
-         "  --allow NET, --deny NET             who may ask\n"
-         "  --allow-transfer NET, --deny-transfer NET   who of those may have a zone transferred\n"
-         "  --nsid TEXT                         what identifies this server\n"
-         "  --max-udp N                         bytes of a reply over UDP at most, 1232\n"
-         "  --user NAME                         who it is once its sockets are open\n"
-         "  --workers N                         processes that serve, 1\n"
-         "  --tcp-idle SECONDS                  when a connection that does not get on is closed, 10\n"
-         "  --tcp-most N, --tcp-client N        connections of a worker, 1000; of a client and worker, 100\n"
-         "  --check                             read the files, tell what is wrong with them, and end\n"
-         "  --version                           name and version\n"
-         "  --help                              this");
+         "  --check           read the files, tell what is wrong with them, and end\n  --version, --help");
+    EACH (i, lists)
+        printf("  %-17s %s; up to %d times\n", lists[i].name, lists[i].says, lists[i].most);
+    EACH (i, words)
+        printf("  %-17s %s\n", words[i].name, words[i].says);
+    EACH (i, numbers)
+        printf("  %-17s %s: %d to %d; %d\n", numbers[i].name, numbers[i].says, numbers[i].least, numbers[i].most, *numbers[i].at);
     exit(0);
 }
-
-/* Options with a number behind them, with a text, and with one of several texts. */
-static const struct {
-    const char *name;
-    int *at, least, most;
-} numbers[] = {{"--max-udp", &settings.max_udp, 512, 65535},
-               {"--workers", &settings.workers, 1, MOST_WORKERS},
-               {"--tcp-idle", &settings.tcp_idle, 1, 3600},
-               {"--tcp-most", &settings.tcp_most, 1, 100000},
-               {"--tcp-client", &settings.tcp_client, 1, 100000}};
-static const struct {
-    const char *name, **at;
-} words[] = {{"--blocklist", &settings.blocklist}, {"--nsid", &settings.identifier}, {"--user", &settings.user}};
-static const struct {
-    const char *name;
-    struct texts *at;
-    int most;
-} lists[] = {{"--listen", &settings.addresses, MOST_ADDRESSES},      {"--zone", &settings.zones, MOST_TEXTS},
-             {"--allow", &settings.networks[0], MOST_TEXTS},         {"--deny", &settings.networks[1], MOST_TEXTS},
-             {"--allow-transfer", &settings.networks[2], MOST_TEXTS}, {"--deny-transfer", &settings.networks[3], MOST_TEXTS}};
-
-#define EACH(i, table) for (size_t i = 0; i < sizeof table / sizeof table[0]; i++) /* of a table of options */
 
 static void put_option(const char *option, const char *text)
 {

@@ -124,6 +124,12 @@ def try_clients():
     want("a transfer of 20,004 records in several replies", records == 20004)
     s.sendall(frame(query("www.example.com")))
     want("and the connection goes on", read(f)[-4:] == bytes([192, 0, 2, 1]))
+    s.sendall(frame(query("example.com", 252)))
+    s.shutdown(socket.SHUT_WR)
+    records = 0
+    while reply := read(f):
+        records += answers(reply)
+    want("a client that sends no more still has its transfer", records == 20004)
     s.close()
 
 

@@ -82,10 +82,10 @@ uint32_t zone_service_answer(zone_service *service, const uint8_t *message, size
                              uint16_t port, bool stream, uint64_t now, uint8_t *out, size_t room, size_t *written, size_t *waiting);
 
 /* Answers the messages that stand whole at the front of a stream's bytes, each behind its length, one after the other, as
- * zone_service_answer does, up to one that has no reply, whose number it answers. *taken is how many bytes they are, with their lengths,
- * and *written how many bytes of replies were written. DONE: it went on while a whole message was there, out had room for a reply of any
- * size (ZONE_SERVICE_FRAME), and no reply waited; so nothing is taken while one waits (*waiting), and nothing is left to do where none
- * waits and *written is at most room - ZONE_SERVICE_FRAME. */
+ * zone_service_answer does, up to one that has no reply, whose number it answers. Replies that waited before it are let go. *taken is how
+ * many bytes the messages are, with their lengths, *written how many bytes of replies were written, and *waiting how many replies to the last
+ * are left for zone_service_take. DONE: it went on while a whole message was there, out had room for a reply of any size
+ * (ZONE_SERVICE_FRAME), and no reply waited; so where none waits and *written is at most room - ZONE_SERVICE_FRAME, nothing whole is left. */
 uint32_t zone_service_answer_stream(zone_service *service, const uint8_t *bytes, size_t len, const uint8_t *source, size_t source_len,
                                     uint16_t port, uint64_t now, uint8_t *out, size_t room, size_t *taken, size_t *written,
                                     size_t *waiting);

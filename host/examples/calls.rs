@@ -45,12 +45,13 @@ fn waits_where_there_is_no_room() {
     let (mut service, mut out) = (server(), vec![0; FRAME]);
     let message = query(b"www.example.com", 1);
     assert_eq!(service.answer(&message, client(), Transport::Stream, 1, &mut []), Ok(Written { len: 0, waiting: 1 }));
-    let framed = [&[0, message.len() as u8], &message[..]].concat();
-    let busy = service.answer_stream(&framed, client(), 1, &mut out);
-    assert_eq!((busy.taken, busy.written.len, busy.written.waiting, busy.refusal), (0, 0, 1, None));
     let taken = service.take(&mut out);
     assert!(taken.len > 2 && taken.waiting == 0);
     assert_eq!(service.take(&mut out), Written { len: 0, waiting: 0 });
+    service.answer(&message, client(), Transport::Stream, 1, &mut []).unwrap();
+    let framed = [&[0, message.len() as u8], &message[..]].concat();
+    let streamed = service.answer_stream(&framed, client(), 1, &mut out);
+    assert_eq!((streamed.taken, streamed.written, streamed.refusal), (framed.len(), taken, None));
 }
 
 #[test]

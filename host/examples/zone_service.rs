@@ -213,7 +213,7 @@ impl ZoneService {
     }
 
     /// Answers the messages that stand whole at the front of a stream's bytes, each behind its length, while `out` has room for a reply of
-    /// any size and none waits, up to one that has no reply.
+    /// any size and none waits, up to one that has no reply. Replies that waited before are let go.
     #[rustfmt::skip]
     pub fn answer_stream(&mut self, bytes: &[u8], source: SocketAddr, now: u64, out: &mut [u8]) -> Streamed {
         let (octets, count) = octets(source.ip());
