@@ -1,5 +1,5 @@
 -- The signature of each reply.
-use Rattle.std.specs.Prelude.{[], ◌∷◌}
+use Rattle.std.specs.Prelude.{[], ◌∷◌, true}
 use Rattle.wire_messages.specs.declared.rr.record.Proof.TheVariants.{Indeterminate}
 use Rattle.wire_messages.specs.declared.rr.record.Record.{Record}
 use Rattle.wire_messages.specs.declared.rr.tsig.TSIG.{TSIG}
