@@ -1,6 +1,6 @@
 -- The lines of a text, one after another: what becomes of them, and the counts of that.
-use Rattle.std.proofs.Common.{◌≡◌, ℕ, zero, suc, set, add-one, ◌+◌, ◌<◌, ◌≤◌, Bool, true, false, cond, List, [], ◌∷◌, ◌++◌, length, take, Option, Some, None, refl, sym, ap, ◌∙◌, subst, arith, append_assoc, length-append}
-use Rattle.std.specs.Prelude.{count_by, flat_map, is_none, unwrap_or, sum_by}
+use Rattle.std.proofs.Common.{◌≡◌, ℕ, zero, suc, set, add-one, ◌+◌, ◌<◌, ◌≤◌, Bool, cond, List, [], ◌∷◌, ◌++◌, length, take, Option, Some, None, refl, sym, ap, ◌∙◌, subst, arith, append_assoc, length-append}
+use Rattle.std.specs.Prelude.{count_by, is_none, unwrap_or}
 use Rattle.std.proofs.lemmas.List.{append-nil, take_all, take_at, length-take-le}
 use Rattle.std.proofs.lemmas.List.Sums.{sum_by-append}
 use Rattle.std.proofs.Math.Seq.{take-suc-set}
@@ -8,7 +8,7 @@ use Rattle.std.proofs.lemmas.Grind.{flat_map-append}
 use Rattle.wire_names.specs.rr.domain.DomainName.{DomainName}
 use Rattle.wire_names.specs.rr.domain.NameText.{name_text}
 use Rattle.name_lists.specs.Names.{plain_line, plain_lines}
-use Rattle.name_lists.specs.Counts.{BecomesOf, BecomeOf, given_names, is_taken, has_no_names, skipped_numbers, Counts, counts_of, lines_in, counted, AddsLine}
+use Rattle.name_lists.specs.Counts.{BecomeOf, given_names, is_taken, has_no_names, skipped_numbers, Counts, counts_of, lines_in, counted, AddsLine}
 
 abbrev pub Outcome : Type 0
 Outcome = Option (List DomainName)

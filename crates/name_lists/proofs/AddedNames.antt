@@ -1,20 +1,18 @@
 -- What is on a list once plain lines were added.
-use Rattle.std.proofs.Common.{◌≡◌, ◌⊎◌, inl, inr, ℕ, List, [], ◌++◌, Option, Some, None, Ok, Err, Any, refl, sym, ap, ◌∙◌, subst, take}
+use Rattle.std.proofs.Common.{◌≡◌, inl, inr, ℕ, List, ◌++◌, Option, Some, None, Ok, Err, Any, sym, ap, ◌∙◌, subst}
 use Rattle.std.specs.Prelude.{map}
-use Rattle.std.specs.Io.KnownBytes.{Consumes, IsAtEnd}
 use Rattle.std.specs.Str.{IsUtf8}
 use Rattle.std.specs.Str.Lines.{lines}
 use Rattle.std.proofs.lemmas.List.{append-nil}
 use Rattle.wire_names.specs.rr.domain.DomainName.{DomainName}
-use Rattle.hickory_store.specs.Adding.{Adds, ReadsText}
+use Rattle.hickory_store.specs.Adding.{Adds}
 use Rattle.hickory_store.specs.Entries.{HasEntry}
 use Rattle.hickory_store.specs.ListLines.{Lists}
 use Rattle.hickory_store.specs.Readers.{ReadsToEnd}
 use Rattle.hickory_store.specs.declared.blocklist.handler.AddError.{AddError}
 use Rattle.hickory_store.specs.declared.blocklist.handler.AddError.TheVariants.{Io, NotUtf8, Memory}
-use Rattle.name_lists.specs.Adding.{AddsList, AddsSome, IsGiven}
+use Rattle.name_lists.specs.Adding.{AddsList, AddsSome}
 use Rattle.name_lists.specs.Counts.{Counts, IsAdapted, given_names}
-use Rattle.name_lists.specs.Names.{plain_lines}
 use Rattle.name_lists.specs.Words.{lines_of, without_mark}
 use Rattle.name_lists.proofs.ListedNames.{AreListable, all_listable, any_of_front, lines_are, listed, listing, text_of}
 

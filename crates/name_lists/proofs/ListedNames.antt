@@ -1,22 +1,21 @@
 -- The plain lines of names, as lines of a list: each lists its name.
-use Rattle.std.proofs.Common.{◌≡◌, ◌≢◌, ◌⊎◌, inl, inr, ℕ, zero, suc, ◌+◌, ◌-◌, ◌<◌, ◌≤◌, ◌==◌, ◌||◌, Bool, true, false, cond, List, [], ◌∷◌, ◌++◌, length, take, Option, Some, None, All, Any, refl, sym, ap, ◌∙◌, subst, arith, append_assoc, length-append, get_or}
+use Rattle.std.proofs.Common.{◌≡◌, ◌≢◌, ◌⊎◌, inl, inr, ℕ, zero, suc, ◌-◌, ◌<◌, ◌==◌, ◌||◌, Bool, true, false, cond, List, [], ◌∷◌, ◌++◌, length, take, Option, Some, None, Any, refl, sym, ap, ◌∙◌, subst, arith, append_assoc, length-append, get_or}
 use Rattle.std.specs.Prelude.{◌↔◌, codes, map, MatchBool, MatchOption, slice_index}
 use Rattle.std.specs.List.{AllByRecursion, after_first, before_first, list_any, slice_split}
 use Rattle.std.specs.Str.{bytes_eq, trim}
 use Rattle.std.specs.Str.Lines.{lines, lines_of_parts, strip_carriage_return}
 use Rattle.std.proofs.Math.Seq.{get_or-append_seam}
 use Rattle.std.proofs.lemmas.Bool.{ne_eqb}
-use Rattle.std.proofs.lemmas.List.{append-nil, take-map}
 use Rattle.std.proofs.lemmas.List.Elements.{recursion_from_All, All-from_recursion}
 use Rattle.std.proofs.lemmas.List.Splits.{slice_split_at}
-use Rattle.wire_names.specs.rr.domain.DomainName.{DomainName, name_len}
+use Rattle.wire_names.specs.rr.domain.DomainName.{DomainName}
 use Rattle.wire_names.specs.rr.domain.NameOrder.{SameName}
 use Rattle.wire_names.specs.rr.domain.NameText.{IsNameByte, IsTextLabel, IsNameText, name_text}
-use Rattle.hickory_store.specs.Entries.{HasEntry, AddsLines, AddsFirstLines}
+use Rattle.hickory_store.specs.Entries.{HasEntry}
 use Rattle.hickory_store.specs.ListLines.{Lists, name_of, name_part, is_comment, is_blank}
-use Rattle.name_lists.specs.Counts.{BecomesOf, BecomeOf, given_names}
-use Rattle.name_lists.specs.Gives.{Gives, GivesAlone, GivesHost, GivesHosts, GivesHostsLine, GivesWords, covered_name, is_local, is_root_alias, is_sink}
-use Rattle.name_lists.specs.Names.{Spells, IsCovered, GivesName, GivesBelow, ascii_text, qualified, wildcard_over, plain_line, plain_lines}
+use Rattle.name_lists.specs.Counts.{BecomeOf, given_names}
+use Rattle.name_lists.specs.Gives.{GivesAlone, GivesHost, GivesHosts, GivesHostsLine, GivesWords, covered_name, is_local, is_root_alias, is_sink}
+use Rattle.name_lists.specs.Names.{Spells, IsCovered, GivesName, GivesBelow, ascii_text, qualified, wildcard_over, plain_lines}
 use Rattle.name_lists.specs.Words.{words_of_line}
 use Rattle.name_lists.proofs.NameLines.{some_and, one_text_name, dotted}
 use Rattle.name_lists.proofs.Splitting.{some_parts}

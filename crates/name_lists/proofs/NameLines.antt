@@ -1,17 +1,16 @@
 -- Names by their texts: a text spells one name, and its plain line is its text with the last dot.
-use Rattle.std.proofs.Common.{◌≡◌, ◌≢◌, ◌⊎◌, inl, inr, ℕ, zero, suc, ◌+◌, ◌-◌, ◌<◌, ◌≤◌, ◌==◌, ◌&&◌, Bool, true, false, cond, List, [], ◌∷◌, ◌++◌, length, take, drop, Option, Some, None, Result, Ok, Err, refl, sym, ap, ◌∙◌, subst, arith, append_assoc, ltb}
+use Rattle.std.proofs.Common.{◌≡◌, ◌≢◌, inl, inr, ℕ, ◌≤◌, ◌&&◌, Bool, true, false, cond, List, [], ◌∷◌, ◌++◌, length, drop, Option, Some, None, Result, Ok, Err, refl, sym, ap, ◌∙◌, subst, arith, append_assoc}
 use Rattle.std.specs.Prelude.{IsSomeAnd, IsAscii, OnOk, is_ok, is_some, MatchOption}
 use Rattle.std.specs.Char.{is_ascii}
-use Rattle.std.specs.List.{AllByRecursion, list_all, list_any}
+use Rattle.std.specs.List.{list_all, list_any}
 use Rattle.std.proofs.lemmas.Bool.{cases_Bool}
 use Rattle.std.proofs.lemmas.List.{append-nil}
 use Rattle.std.proofs.lemmas.List.Elements.{recursion_from_All}
-use Rattle.std.proofs.lemmas.Str.{IsUtf8-from_ascii}
 use Rattle.std.proofs.lemmas.Str.Ascii.{IsAscii-nil, IsAscii-cons}
 use borrow.Author.Tests.{ltb-true}
 use Rattle.wire_names.specs.rr.domain.DomainName.{DomainName, name_len}
 use Rattle.wire_names.specs.rr.domain.NameText.{IsTextLabel, IsNameText, name_text}
-use Rattle.wire_names.proofs.lemmas.rr.domain.NameSpelling.{Spells as SpellsLabels, Behind, Front, split, is_label, dot_at}
+use Rattle.wire_names.proofs.lemmas.rr.domain.NameSpelling.{Spells as SpellsLabels, Behind, split, is_label, dot_at}
 use Rattle.name_lists.specs.Names.{Spells, IsCovered, ascii_text, qualified, wildcard_over, GivesName, GivesBelow, is_asterisk, plain_line, plain_lines}
 
 -- ---- one name

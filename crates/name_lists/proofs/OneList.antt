@@ -1,5 +1,5 @@
 -- A line gives one list of names, and a text has one outcome for each of its lines.
-use Rattle.std.proofs.Common.{◌≡◌, ℕ, suc, ◌+◌, Bool, true, false, List, [], ◌∷◌, ◌++◌, length, Option, Some, None, refl, sym, ap, ◌∙◌, subst, arith}
+use Rattle.std.proofs.Common.{◌≡◌, ℕ, suc, Bool, true, false, List, [], ◌∷◌, ◌++◌, length, Option, Some, None, refl, sym, ap, ◌∙◌, subst}
 use Rattle.std.specs.Prelude.{MatchBool, MatchOption}
 use Rattle.wire_names.specs.rr.domain.DomainName.{DomainName}
 use Rattle.name_lists.specs.Counts.{BecomesOf, BecomeOf, Counts, counts_of, given_names, IsAdapted, lines_in}

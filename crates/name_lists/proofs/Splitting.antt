@@ -1,7 +1,7 @@
 -- Lists that are cut at elements that pass a test, from their front on: parts, words and lines.
-use Rattle.std.proofs.Common.{◌≡◌, ◌⊎◌, inl, inr, ℕ, zero, suc, ◌+◌, ◌-◌, ◌<◌, ◌≤◌, ◌==◌, ◌&&◌, Bool, true, false, cond, List, [], ◌∷◌, ◌++◌, length, take, drop, get_or, Option, Some, None, refl, sym, ap, ◌∙◌, subst, arith, add-one, length-drop, drop-cons}
+use Rattle.std.proofs.Common.{◌≡◌, inl, inr, ℕ, suc, ◌+◌, ◌<◌, Bool, true, false, cond, List, [], ◌∷◌, length, take, drop, get_or, Some, None, refl, sym, ap, ◌∙◌, subst, arith, add-one, length-drop, drop-cons}
 use Rattle.std.specs.Prelude.{not, filter, unwrap_or, take_while}
-use Rattle.std.specs.List.{position, position_or_len, prefix_len, slice_split, onto_first, before_first, after_first}
+use Rattle.std.specs.List.{position, position_or_len, slice_split, onto_first}
 use Rattle.std.proofs.lemmas.Bool.{cases_lt, cases_Bool, lt-ltb, le-ltb, ne_eqb}
 use Rattle.std.proofs.lemmas.List.{take_all, drop_all, drop-drop}
 use Rattle.std.proofs.lemmas.List.Splits.{slice_split_first, slice_split-cons_yes, slice_split-cons_no}

@@ -85,8 +85,7 @@ fn push_hosts_line(
     if !is_address(address) {
         return Ok(false);
     }
-    let is_given = push_hosts(alloc, is_sink(address), text, names)?;
-    Ok(is_given)
+    push_hosts(alloc, is_sink(address), text, names)
 }
 
 /// What stands between `||` and `^`.

@@ -1,4 +1,4 @@
-use Rattle.std.proofs.Common.{◌≡◌, ◌+◌, ◌≤◌, length}
+use Rattle.std.proofs.Common.{◌+◌, ◌≤◌, length}
 use Rattle.std.specs.String.{string_bytes}
 use Rattle.name_lists.specs.Counts.{lines_in}
 use Rattle.name_lists.specs.Words.{lines_of, without_mark}

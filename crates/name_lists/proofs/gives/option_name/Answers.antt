@@ -1,4 +1,4 @@
-use Rattle.std.proofs.Common.{◌≡◌, ◌==◌, ◌∷◌, ◌<◌, [], None, length, sym, ap, ◌∙◌}
+use Rattle.std.proofs.Common.{◌≡◌, ◌==◌, ◌∷◌, ◌<◌, [], length, sym, ap, ◌∙◌}
 use Rattle.std.specs.List.{slice_split}
 use Rattle.name_lists.specs.Gives.{name_of_option}
 use Rattle.name_lists.proofs.NameLines.{match_some}

@@ -1,9 +1,9 @@
-use Rattle.std.proofs.Common.{◌≡◌, ◌∷◌, [], ◌++◌, true, false, sym, ap, ◌∙◌, subst}
+use Rattle.std.proofs.Common.{true, false, subst}
 use Rattle.std.specs.String.{string_bytes}
 use Rattle.name_lists.specs.Gives.{GivesHost}
 use Rattle.name_lists.specs.Pushes.{Pushes}
 use Rattle.name_lists.specs.Words.{words_before_comment}
-use Rattle.name_lists.proofs.Hosts.{hosts_none, hosts_more, hosts_all, hosts_not}
+use Rattle.name_lists.proofs.Hosts.{hosts_more, hosts_all, hosts_not}
 use Rattle.name_lists.proofs.gives.push_hosts.Goals as goal
 
 pub returns-then-not-branch : goal.returns-then-not-branch

@@ -1,10 +1,9 @@
-use Rattle.std.proofs.Common.{◌≡◌, ◌∷◌, [], ◌++◌, true, false, length, ◌<◌, sym, ap, ◌∙◌, subst}
+use Rattle.std.proofs.Common.{◌≡◌, ◌∷◌, [], length, ◌<◌, sym, ap, ◌∙◌}
 use Rattle.std.specs.Prelude.{IfOk, not}
 use Rattle.std.specs.String.{string_bytes}
-use Rattle.name_lists.specs.Gives.{GivesWords}
 use Rattle.name_lists.specs.Pushes.{Pushes}
 use Rattle.name_lists.specs.Words.{words_before_comment}
-use Rattle.name_lists.proofs.Hosts.{by_one, by_alias, by_hosts}
+use Rattle.name_lists.proofs.Hosts.{by_one, by_hosts}
 use Rattle.name_lists.proofs.NameLines.{match_none, match_some}
 use Rattle.name_lists.proofs.gives.push_words.Goals as goal
 

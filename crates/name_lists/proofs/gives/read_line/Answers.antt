@@ -1,4 +1,4 @@
-use Rattle.std.proofs.Common.{◌≡◌, ◌++◌, true, ap, ◌∙◌, subst}
+use Rattle.std.proofs.Common.{◌++◌, true, ap, ◌∙◌, subst}
 use Rattle.std.specs.String.{string_bytes}
 use Rattle.name_lists.specs.Gives.{GivesWords}
 use Rattle.name_lists.specs.Names.{plain_lines}

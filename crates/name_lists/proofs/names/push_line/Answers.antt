@@ -1,4 +1,4 @@
-use Rattle.std.proofs.Common.{◌≡◌, ◌++◌, cond, [], ◌∷◌, sym, ap, ◌∙◌, append_assoc}
+use Rattle.std.proofs.Common.{◌≡◌, ◌++◌, cond, [], ◌∷◌, ap, ◌∙◌, append_assoc}
 use Rattle.std.specs.String.{string_bytes}
 use Rattle.name_lists.proofs.NameLines.{line_is, on_ok}
 use Rattle.name_lists.proofs.names.push_line.Goals as goal

@@ -1,4 +1,4 @@
-use Rattle.std.proofs.Common.{◌≡◌, ◌==◌, ◌∷◌, ◌+◌, ◌-◌, ℕ, Some, None, length, take, drop, length-drop, sym, ap, ◌∙◌, arith}
+use Rattle.std.proofs.Common.{◌≡◌, ◌==◌, ◌∷◌, ◌+◌, ◌-◌, ℕ, Some, length, take, drop, length-drop, sym, ap, ◌∙◌, arith}
 use Rattle.std.specs.List.{position, slice_split}
 use Rattle.std.proofs.lemmas.List.{take_rest}
 use Rattle.name_lists.proofs.Splitting.{position_some, position_none, split_none, split_some, drop_behind}

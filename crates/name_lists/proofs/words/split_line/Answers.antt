@@ -1,4 +1,3 @@
-use Rattle.std.proofs.Common.{◌≡◌}
 use Rattle.name_lists.proofs.Splitting.{first_line}
 use Rattle.name_lists.proofs.words.split_line.Goals as goal
 

@@ -1,8 +1,8 @@
-use Rattle.std.proofs.Common.{◌≡◌, ◌∷◌, ◌≤◌, ℕ, List, Some, None, length, take, drop, sym, ap, ◌∙◌, subst, arith}
+use Rattle.std.proofs.Common.{◌≡◌, ◌∷◌, ℕ, List, Some, length, take, drop, sym, ap, ◌∙◌, arith}
 use Rattle.std.specs.Prelude.{not}
 use Rattle.std.specs.List.{position, position_or_len}
 use Rattle.name_lists.specs.Words.{is_blank, words}
-use Rattle.name_lists.proofs.Splitting.{CutsWord, cut_word, no_words}
+use Rattle.name_lists.proofs.Splitting.{cut_word, no_words}
 use Rattle.name_lists.proofs.words.split_word.Goals as goal
 
 pub returns-in_default : goal.returns-in_default

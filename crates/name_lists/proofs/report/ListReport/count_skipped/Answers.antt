@@ -1,4 +1,4 @@
-use Rattle.std.proofs.Common.{◌≡◌, ◌+◌, ◌++◌, ◌∷◌, [], ℕ, length, take, sym, ap, ◌∙◌}
+use Rattle.std.proofs.Common.{◌≡◌, ◌+◌, ◌++◌, ◌∷◌, [], ℕ, length, take, ap, ◌∙◌}
 use Rattle.name_lists.specs.Counts.{Counts, lines_in}
 use Rattle.name_lists.specs.declared.report.ListReport.TheInside.{Inside}
 use Rattle.name_lists.proofs.Adapting.{same_counts, noted, none_noted}
