@@ -1,5 +1,6 @@
 pub mod Errors
 pub mod Frames
+pub mod Generations
 pub mod JournalState
 pub mod Read
 pub mod Recovery

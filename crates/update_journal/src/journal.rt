@@ -2,6 +2,7 @@
 
 ghost use Rattle.std.specs.Prelude.{◌≡◌, ◌⊎◌, ◌^◌, ◌<◌, ◌++◌, ◌∷◌, [], ℕ, List, length, Err, IfErr, OnOk, IsTrue, IsFalse, true, false};
 ghost use Rattle.update_journal.specs.Frames.{AreSmall, IsBeforeOrAfter, StandsFor};
+ghost use Rattle.update_journal.specs.Generations.{IsBeingReplaced, header};
 ghost use Rattle.update_journal.specs.Read.{contents};
 ghost use Rattle.sqlite_disk.specs.Disk.{MoreFaults};
 ghost use Rattle.update_journal.specs.Errors.{is_of_disk};
@@ -141,6 +142,29 @@ impl<D: Disk> Journal<D> {
                 Err(JournalError::Disk(e))
             }
         }
+    }
+
+    /// Puts a generation and entries in the place of all that the journal has: its first entry is then the number `generation` in eight
+    /// bytes, the highest first. Three syncs, two where it had no entries. With two files in turns this is how a journal is compacted:
+    /// the other file stays as it is until this one has all.
+    ///
+    /// After `Disk` the file stands for the entries from before, for none, or for all of the new ones, and the journal takes no
+    /// entry any more; it has to be recovered from its file. After another error it may have none.
+    pub fn replace(
+        &mut self,
+        alloc: Global,
+        generation: u64,
+        entries: &[Vec<u8>],
+    ) -> Result<(), JournalError>
+        ensures replaced { OnOk result ((before : List (List ℕ)) → IsSettled D.seen D.may_leave self.old before → IsSettled D.seen D.may_leave self.new (header generation ∷ contents entries.now)) }
+        ensures opened { OnOk result ((self.old.is_open ≡ true) × (self.new.is_open ≡ true)) }
+        ensures clean { D.is_clean self.new.disk ≡ D.is_clean self.old.disk }
+        // Whatever the answer, a crash leaves the entries from before, or none, or all of the new ones.
+        ensures crash { (before : List (List ℕ)) → IsSettled D.seen D.may_leave self.old before → (c : List ℕ) → D.may_leave self.new.disk c → IsBeingReplaced before (header generation ∷ contents entries.now) c }
+    {
+        self.clear()?;
+        self.add(alloc, &generation.to_be_bytes(), entries)?;
+        Ok(())
     }
 
     /// Whether an entry could be written now.

@@ -2,6 +2,7 @@
 #![tactic(auto)]
 
 mod error;
+mod generations;
 mod journal;
 pub mod laws;
 mod reading;
@@ -9,6 +10,7 @@ mod recovering;
 mod writing;
 
 pub use error::JournalError;
+pub use generations::{generation, is_newer};
 pub use journal::Journal;
 pub use reading::Recovered;
 pub use recovering::recover;

@@ -1,6 +1,6 @@
 -- A gate that is not open stands there already, or is written.
 use Rattle.std.proofs.Common.{subst, sym, ◌∙◌, arith}
-use Rattle.sqlite_disk.specs.Disk.{Only, Torn}
+use Rattle.sqlite_disk.specs.Disk.{Torn}
 use Rattle.update_journal.specs.Frames.{StandsFor}
 use Rattle.update_journal.proofs.Entries.{zero_not_one}
 use Rattle.update_journal.proofs.Recovery.{split_stands, closing, gate_there, closed_by}

@@ -1,6 +1,5 @@
 -- The first gate is closed.
-use Rattle.std.proofs.Common.{sym, ◌∙◌, subst, arith}
-use Rattle.sqlite_disk.specs.Disk.{Only}
+use Rattle.std.proofs.Common.{arith}
 use Rattle.update_journal.proofs.Entries.{zero_not_one}
 use Rattle.update_journal.proofs.Steps.{clearing, cleared}
 use Rattle.update_journal.proofs.writing.close_first.Goals as goal

@@ -1,6 +1,5 @@
 -- The gate is opened.
-use Rattle.std.proofs.Common.{sym, ◌∙◌, subst, arith}
-use Rattle.sqlite_disk.specs.Disk.{Only}
+use Rattle.std.proofs.Common.{arith}
 use Rattle.update_journal.proofs.Steps.{opening, opened}
 use Rattle.update_journal.proofs.writing.open_gate.Goals as goal
 

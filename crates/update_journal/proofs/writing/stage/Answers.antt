@@ -1,6 +1,4 @@
 -- Entries are put behind the closed gate.
-use Rattle.std.proofs.Common.{sym, ◌∙◌, subst}
-use Rattle.sqlite_disk.specs.Disk.{Only}
 use Rattle.update_journal.proofs.Steps.{staging, staged, behind_some}
 use Rattle.update_journal.proofs.writing.stage.Goals as goal
 
