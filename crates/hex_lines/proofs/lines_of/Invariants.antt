@@ -1,7 +1,7 @@
 use Rattle.std.proofs.Common.{◌≡◌, take}
 use Rattle.std.specs.List.{flat_map}
-use Rattle.zone_reply.specs.Answers.{hex_line}
-use Rattle.zone_reply.proofs.run.hex_lines.Given as goal
+use Rattle.hex_lines.specs.Lines.{hex_line}
+use Rattle.hex_lines.proofs.lines_of.Given as goal
 
 -- the lines so far
 abbrev pub invariant-loop-bytes : goal.invariant-loop-bytes
