@@ -17,7 +17,7 @@ mod zone_file;
 
 pub use data::read_data;
 pub use error::{TextError, TextFault, ZoneFileError, ZoneFileFault};
-pub use message::MessageText;
+pub use message::{FlagsText, MessageText};
 pub use names::read_name;
 pub use record::read_record;
 pub use zone_file::fault::FaultWord;
