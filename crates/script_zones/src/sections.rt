@@ -1,5 +1,6 @@
 //! The sections of a dynamic update, as `nsupdate` has them, and what a zone answers of them (RFC 2136 sections 2 and 3).
 
+use crate::state::Zones;
 use crate::updatable::{last_updatable, print_code};
 use hickory_base::errors::UpdateFault;
 use hickory_wire::Record;
@@ -7,7 +8,6 @@ use script_values::fault::Fault;
 use script_values::output::Output;
 use script_values::text;
 use script_values::words::behind_word;
-use script_zones::state::Zones;
 use std::alloc::Global;
 use zone_text::read_record;
 

@@ -1,5 +1,7 @@
 //! Whole updates of the updatable zone last begun (RFC 2136 section 3).
 
+use crate::asking::print_calls;
+use crate::state::Zones;
 use crate::updatable::{
     UpdatableZone, last_updatable, last_updatable_mut, print_code, print_context,
 };
@@ -9,14 +11,12 @@ use hickory_base::server::Request;
 use hickory_base::update_request::UpdateRequest;
 use hickory_base::zone_store::ZoneHandler;
 use hickory_wire::{Record, ResponseCode};
-use script_messages::requests::received;
-use script_messages::settings::Settings;
 use script_values::fault::Fault;
 use script_values::output::Output;
 use script_values::printing::print_hex;
+use script_values::requests::received;
+use script_values::settings::Settings;
 use script_values::words::{octets, setting};
-use script_zones::asking::print_calls;
-use script_zones::state::Zones;
 use std::alloc::Global;
 use std::mem;
 

@@ -1,11 +1,11 @@
 //! The update that a script writes, section by section (RFC 2136 section 2).
 
+use crate::fault::Fault;
 use crate::question::Question;
 use hickory_wire::{
     Header, MessageType, Metadata, Name, OpCode, Record, RecordType, ReplyParts,
     encode_message_parts,
 };
-use script_values::fault::Fault;
 use std::alloc::Global;
 
 /// The records of an update.

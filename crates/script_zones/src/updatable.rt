@@ -1,18 +1,18 @@
 //! Zones that take dynamic updates, and who may send them one.
 
+use crate::asking::print_calls;
+use crate::handler::{Handler, Source};
+use crate::state::Zones;
+use crate::verifier::ScriptedVerifier;
+use crate::zones::axfr_policy;
 use hickory_base::errors::UpdateFault;
 use hickory_base::zone_store::{AxfrPolicy, ZoneHandler};
 use hickory_store::sqlite::SqliteZoneHandler;
 use hickory_wire::{Name, ResponseCode, TSigResponseContext, TSigResponseKind};
-use script_handlers::handler::{Handler, Source};
-use script_handlers::verifier::ScriptedVerifier;
-use script_messages::state::Place;
 use script_values::fault::Fault;
 use script_values::output::Output;
+use script_values::state::Place;
 use script_values::text;
-use script_zones::asking::print_calls;
-use script_zones::state::Zones;
-use script_zones::zones::axfr_policy;
 use std::alloc::{AllocError, Global};
 use std::ops::Range;
 

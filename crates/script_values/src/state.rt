@@ -1,8 +1,8 @@
 //! What a script has said of messages so far.
 
 use crate::draft::Draft;
+use crate::sections::{Section, Sections};
 use crate::settings::Settings;
-use script_values::sections::{Section, Sections};
 use std::alloc::Global;
 
 /// What the records that follow are part of.

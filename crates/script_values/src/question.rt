@@ -1,12 +1,12 @@
 //! Queries that words describe.
 
+use crate::fault::Fault;
+use crate::text::name;
+use crate::words::{octets, set_flag, setting};
 use hickory_wire::{
     DNSClass, Edns, EdnsOption, MessageType, Metadata, Octets, OpCode, Record, RecordType,
     ReplyParts, encode_message_parts,
 };
-use script_values::fault::Fault;
-use script_values::text::name;
-use script_values::words::{octets, setting};
 use std::alloc::Global;
 
 /// What the OPT record of a query is to say (RFC 6891).
@@ -30,10 +30,6 @@ pub struct Question {
 
 /// Says that a lookup is given EDNS with DO for its reply.
 pub const REPLY_DNSSEC_OK: &str = "reply-do";
-
-/// How the words of a query are written.
-pub const QUESTION_USAGE: &str =
-    "NAME TYPE [CLASS] [rd] [cd] [ad] [do] [edns[=SIZE]] [nsid] [version=N] [id=N] [opcode=N] [qr]";
 
 impl Question {
     /// A query of this type: class IN, id 1, no flag, no EDNS.
@@ -72,19 +68,12 @@ impl Question {
     }
 
     /// Sets a flag of the header, and tells whether the word names one.
-    fn set_flag(&mut self, key: &str) -> bool {
-        let metadata = &mut self.metadata;
-        match key {
-            "rd" => metadata.recursion_desired = true,
-            "cd" => metadata.checking_disabled = true,
-            "ad" => metadata.authentic_data = true,
-            "aa" => metadata.authoritative = true,
-            "ra" => metadata.recursion_available = true,
-            "tc" => metadata.truncation = true,
-            "qr" => metadata.message_type = MessageType::Response,
-            _ => return false,
+    fn set_flag(&mut self, word: &str) -> bool {
+        if word == "qr" {
+            self.metadata.message_type = MessageType::Response;
+            return true;
         }
-        true
+        set_flag(&mut self.metadata, word)
     }
 
     /// Sets the kind of request by its number.
@@ -98,26 +87,31 @@ impl Question {
         }
     }
 
-    /// Sets what another word says.
-    fn set_other(&mut self, key: &str, value: Option<&str>) -> Result<(), Fault> {
+    /// Sets what another word says, of a command that is written so.
+    fn set_other(
+        &mut self,
+        key: &str,
+        value: Option<&str>,
+        usage: &'static str,
+    ) -> Result<(), Fault> {
         match (key, value) {
             ("id", Some(number)) => self.metadata.id = number.parse::<u16>()?,
             ("opcode", Some(number)) => self.set_op_code(number)?,
             // It is said of a lookup, and not of its message.
             (REPLY_DNSSEC_OK, None) => (),
             (class, None) => self.class = class.parse::<DNSClass>()?,
-            _ => return Err(Fault::Usage(QUESTION_USAGE)),
+            _ => return Err(Fault::Usage(usage)),
         }
         Ok(())
     }
 
-    /// Sets what the words behind name and type say.
-    pub fn read(&mut self, words: &[&str]) -> Result<(), Fault> {
+    /// Sets what the words behind name and type say, of a command that is written so.
+    pub fn read(&mut self, words: &[&str], usage: &'static str) -> Result<(), Fault> {
         for word in words {
             let (key, value) = setting(word);
             let is_flag = value.is_none() && self.set_flag(key);
             if !is_flag && !self.set_wish(key, value)? {
-                self.set_other(key, value)?;
+                self.set_other(key, value, usage)?;
             }
         }
         Ok(())
@@ -149,19 +143,25 @@ impl Question {
     }
 }
 
-/// The bytes of the query for a name and a type that further words describe.
-fn query(alloc: Global, name: &str, record_type: &str, words: &[&str]) -> Result<Vec<u8>, Fault> {
+/// The bytes of the query for a name and a type that further words of a command describe, which is written so.
+fn query(
+    alloc: Global,
+    name: &str,
+    record_type: &str,
+    words: &[&str],
+    usage: &'static str,
+) -> Result<Vec<u8>, Fault> {
     let mut question = Question::new(record_type.parse::<RecordType>()?);
-    question.read(words)?;
+    question.read(words, usage)?;
     question.bytes(alloc, name)
 }
 
-/// The bytes of a message that words tell: as hex digits, or as a query.
-pub fn message(alloc: Global, words: &[&str]) -> Result<Vec<u8>, Fault> {
+/// The bytes of a message that words of a command tell, which is written so: as hex digits, or as a query.
+pub fn message(alloc: Global, words: &[&str], usage: &'static str) -> Result<Vec<u8>, Fault> {
     match words {
         [digits] => octets(alloc, &[digits]),
-        [name, record_type, words @ ..] => query(alloc, name, record_type, words),
-        [] => Err(Fault::Usage(QUESTION_USAGE)),
+        [name, record_type, words @ ..] => query(alloc, name, record_type, words, usage),
+        [] => Err(Fault::Usage(usage)),
     }
 }
 

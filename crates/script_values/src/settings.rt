@@ -1,7 +1,7 @@
 //! What holds for the messages that follow.
 
+use crate::printing::Printed;
 use hickory_wire::Protocol;
-use script_values::printing::Printed;
 use std::net::{IpAddr, Ipv4Addr, SocketAddr};
 
 /// What holds for the messages that follow.

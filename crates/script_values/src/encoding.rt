@@ -1,18 +1,18 @@
 //! Replies in bytes: one is put together part by part, and encoded.
 
 use crate::draft::Draft;
+use crate::fault::Fault;
+use crate::output::Output;
+use crate::records::put_fits;
+use crate::sections::{Section, Sections};
 use crate::state::{Messages, Place};
+use crate::text;
+use crate::words::{behind_word, octets, set_flag, setting};
 use crate::writing::{emitted, encoded, encoded_within, put_written, rewritten};
 use hickory_wire::{
     Boxed, DNSClass, Edns, EdnsOption, MessageType, Metadata, Name, Octets, OpCode, Proof, Record,
     RecordType, ResponseCode, TSIG,
 };
-use script_values::fault::Fault;
-use script_values::output::Output;
-use script_values::records::put_fits;
-use script_values::sections::{Section, Sections};
-use script_values::text;
-use script_values::words::{behind_word, octets, setting};
 use std::alloc::Global;
 
 /// How `question` is written.
@@ -48,25 +48,14 @@ fn set_field(metadata: &mut Metadata, key: &str, value: &str) -> Result<bool, Fa
     Ok(true)
 }
 
-/// Sets a flag of a header, and tells whether the word names one.
-fn set_flag(metadata: &mut Metadata, word: &str) -> bool {
-    match word {
-        "query" => metadata.message_type = MessageType::Query,
-        "aa" => metadata.authoritative = true,
-        "tc" => metadata.truncation = true,
-        "rd" => metadata.recursion_desired = true,
-        "ra" => metadata.recursion_available = true,
-        "ad" => metadata.authentic_data = true,
-        "cd" => metadata.checking_disabled = true,
-        _ => return false,
-    }
-    true
-}
-
 /// Sets what a word says of a header.
 fn set_word(metadata: &mut Metadata, word: &str) -> Result<(), Fault> {
     let is_known = match setting(word) {
         (key, Some(value)) => set_field(metadata, key, value)?,
+        ("query", None) => {
+            metadata.message_type = MessageType::Query;
+            true
+        }
         (flag, None) => set_flag(metadata, flag),
     };
     if is_known {

@@ -1,6 +1,10 @@
 //! Replies as bytes.
 
 use crate::draft::Draft;
+use crate::output::Output;
+use crate::printing::{put_bytes, put_header};
+use crate::reading::put_proto_fault;
+use crate::sections::Sections;
 use crate::state::Messages;
 use hickory_base::message_request::Queries;
 use hickory_base::message_response::MessageResponseBuilder;
@@ -9,10 +13,6 @@ use hickory_wire::{
     BinDecoder, BinEncoder, Boxed, DecodeError, Header, Message, ProtoError, Record, ReplyParts,
     TSIG, emit_message_parts, encode_message_parts,
 };
-use script_values::output::Output;
-use script_values::printing::{put_bytes, put_header};
-use script_values::reading::put_proto_fault;
-use script_values::sections::Sections;
 use std::alloc::Global;
 
 /// A reply that was written.

@@ -1,6 +1,11 @@
 //! Requests: what is read of their bytes, how they are written, and replies without records.
 
+use crate::fault::Fault;
+use crate::output::Output;
+use crate::printing::{put_bytes, put_header, put_metadata};
+use crate::reading::{put_fault, put_proto_fault};
 use crate::settings::Settings;
+use crate::words::octets;
 use hickory_base::message_request::{MessageRequest, Queries};
 use hickory_base::message_response::MessageResponseBuilder;
 use hickory_base::server::{Request, RequestInfo};
@@ -9,11 +14,6 @@ use hickory_wire::{
     BinDecoder, BinEncoder, DecodeError, Items, Metadata, ProtoError, Protocol, Record,
     ResponseCode,
 };
-use script_values::fault::Fault;
-use script_values::output::Output;
-use script_values::printing::{put_bytes, put_header, put_metadata};
-use script_values::reading::{put_fault, put_proto_fault};
-use script_values::words::octets;
 use std::alloc::Global;
 
 /// How `request` is written.
