@@ -16,13 +16,16 @@ pub struct MessageText<'a> {
     pub size: Option<usize>,
 }
 
-/// The flags that are set, each behind a space.
-#[derive(Clone, Copy)]
-struct Flags<'a>(&'a Metadata);
+/// The flags of a header that are set, each by its mnemonic behind a space, in the order of their bits (RFC 1035 section 4.1.1, RFC 4035 section 3).
+#[derive(Clone, Copy, Debug)]
+pub struct FlagsText<'a> {
+    /// The header.
+    pub metadata: &'a Metadata,
+}
 
-impl fmt::Display for Flags<'_> {
+impl fmt::Display for FlagsText<'_> {
     fn fmt<W: fmt::Write>(&self, f: &mut fmt::Formatter<W>) -> fmt::Result {
-        let Flags(metadata) = *self;
+        let metadata = self.metadata;
         let flags = [
             (metadata.message_type == MessageType::Response, " qr"),
             (metadata.authoritative, " aa"),
@@ -55,7 +58,7 @@ fn write_header<W: fmt::Write>(f: &mut fmt::Formatter<W>, message: &Message) -> 
     write!(
         f,
         ";; flags:{}; QUERY: {}",
-        Flags(metadata),
+        FlagsText { metadata },
         message.queries.len()
     )?;
     write!(f, ", ANSWER: {}", message.answers.len())?;
