@@ -83,8 +83,8 @@ fn read_entries(alloc: Global, text: &[u8], origin: &Name) -> Result<Items<Recor
 /// data too, that have no dot at their end are relative to the origin, at first the one that is given, which is taken as fully qualified; `@` is the
 /// origin itself. What data are made of is told at [`read_data`](crate::read_data).
 ///
-/// The first fault ends it, with its line and column and the field; `$INCLUDE` is one. Nothing is asked of the records together: that they make
-/// one zone, at the origin or below it, is for those who use them.
+/// The first fault ends it, with its line and column, which are those of a place of the first entry that is refused, and the field; `$INCLUDE` is
+/// one. Nothing is asked of the records together: that they make one zone, at the origin or below it, is for those who use them.
 pub fn read_zone_file(
     alloc: Global,
     text: &str,
