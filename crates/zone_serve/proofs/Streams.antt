@@ -1,5 +1,5 @@
 -- What becomes of a stream goes on by one message.
-use Rattle.std.proofs.Common.{◌≡◌, ℕ, List, ◌++◌, Option, true, false, ap, subst, sym, ◌∙◌}
+use Rattle.std.proofs.Common.{ℕ, List, ◌++◌, Option, true, false, ap, subst, sym, ◌∙◌}
 use Rattle.std.proofs.lemmas.List.{append-nil}
 use Rattle.std.specs.Io.KnownBytes.{Appends, Consumes}
 use Rattle.std.proofs.KnownBytes.{Appends-trans, Consumes-trans}
@@ -12,7 +12,6 @@ use Rattle.hickory_base.specs.declared.zone_store.handler.ZoneHandler.{Ghosts}
 use Rattle.hickory_server.specs.ServedBy.{ServedBy}
 use Rattle.zone_serve.specs.Served.{NextServed, StreamServed, more}
 use Rattle.hickory_server.specs.declared.server.answer.Answer.TheVariants.{Replies}
-use Rattle.hickory_server.specs.declared.server.rules.Rules.{Rules}
 use Rattle.hickory_server.specs.declared.server.service.Server as service
 use Rattle.zone_serve.proofs.Servers.{Stays}
 
