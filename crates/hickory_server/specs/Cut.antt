@@ -1,5 +1,5 @@
 -- What is sent over UDP in the place of a reply that is longer than the server's own limit.
-use Rattle.std.specs.Prelude.{◌≡◌, ◌+◌, ◌*◌, [], ℕ, List, None, true, get_or, length}
+use Rattle.std.specs.Prelude.{◌+◌, ◌*◌, [], ℕ, List, None, true, get_or, length}
 use Rattle.wire_messages.specs.op.Metadata.{bare_metadata}
 use Rattle.wire_messages.specs.serialize.writing.Reply.{Reply}
 use Rattle.wire_messages.specs.declared.op.header.Header.{Header}

@@ -1,7 +1,5 @@
-use Rattle.std.proofs.Common.{◌≡◌, ◌≢◌, Result, Ok, Err, IfOk, IfErr, List, ℕ, rules}
-use Rattle.wire_messages.specs.declared.op.header.Header.{Header}
-use Rattle.hickory_wire.specs.serialize.writing.ReplyParts.{ReplyEncoded}
-use Rattle.hickory_server.specs.Cut.{IsCut, header_alone, id_of, read, unread, without_signature}
+use Rattle.std.proofs.Common.{◌≡◌, Result, Ok, Err, IfOk, rules}
+use Rattle.hickory_server.specs.Cut.{id_of, read, unread}
 use Rattle.hickory_server.proofs.server.datagrams.cut.Goals.{in-Ok, in-Err-Memory, in-Err}
 use Rattle.hickory_server.proofs.server.datagrams.cut.Goals as goal
 
