@@ -7,22 +7,19 @@
 #include <sys/socket.h>
 
 #define MOST_ADDRESSES 16
-#define MOST_ZONES 1024
-#define MOST_TEXTS 64
+#define MOST_TEXTS 1024
 #define NETWORK_KINDS 4
 
-struct zone_setting {
-    const char *name, *file;
+struct texts {
+    const char *at[MOST_TEXTS];
+    int count;
 };
 
 struct settings {
-    const char *addresses[MOST_ADDRESSES]; /* ADDRESS@PORT */
-    struct zone_setting zones[MOST_ZONES];
-    const char *networks[NETWORK_KINDS][MOST_TEXTS]; /* of each kind, in this order: allowed, denied, and the same for transfers */
+    struct texts addresses, zones;        /* ADDRESS@PORT; NAME=FILE */
+    struct texts networks[NETWORK_KINDS]; /* of each kind, in this order: allowed, denied, and the same for transfers */
     const char *blocklist, *identifier, *user;
-    int address_count, zone_count, network_count[NETWORK_KINDS];
-    int check, max_udp;                 /* only read the files; bytes of a reply over UDP */
-    int workers, first_processor;       /* first_processor < 0: workers are not pinned */
+    int max_udp, workers;               /* bytes of a reply over UDP; processes that serve */
     int tcp_idle, tcp_most, tcp_client; /* seconds; connections a worker; connections a client and worker */
 };
 

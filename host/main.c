@@ -9,7 +9,6 @@
 #include <errno.h>
 #include <grp.h>
 #include <pwd.h>
-#include <sched.h>
 #include <signal.h>
 #include <stdarg.h>
 #include <stddef.h>
@@ -24,7 +23,7 @@
 
 #define MOST_WORKERS 64
 
-static struct settings settings = {.max_udp = 1232, .workers = 1, .first_processor = -1, .tcp_idle = 10, .tcp_most = 1000, .tcp_client = 100};
+static struct settings settings = {.max_udp = 1232, .workers = 1, .tcp_idle = 10, .tcp_most = 1000, .tcp_client = 100};
 static struct sockets sockets[MOST_WORKERS];
 static pid_t workers[MOST_WORKERS];
 static time_t begun[MOST_WORKERS];
@@ -58,109 +57,82 @@ static void notify(const char *text)
     }
 }
 
-static int number(const char *text, int least, int most)
-{
-    char *rest;
-    long n = strtol(text, &rest, 10);
-    if (rest == text || *rest != 0 || n < least || n > most) {
-        complain("%s: not a number from %d to %d", text, least, most);
-        exit(2);
-    }
-    return (int)n;
-}
-
 static void usage(void)
 {
     complain("wrong arguments; zoned --help says how it is started");
     exit(2);
 }
 
+/* Options with a number behind them, with a text, and with one of several texts. */
+static const struct {
+    const char *name, *says;
+    int *at, least, most;
+} numbers[] = {{"--max-udp", "bytes of a reply over UDP at most", &settings.max_udp, 512, 65535},
+               {"--workers", "processes that serve", &settings.workers, 1, MOST_WORKERS},
+               {"--tcp-idle", "seconds until a connection that does not get on is closed", &settings.tcp_idle, 1, 3600},
+               {"--tcp-most", "connections of a worker", &settings.tcp_most, 1, 100000},
+               {"--tcp-client", "connections of a client and worker", &settings.tcp_client, 1, 100000}};
+static const struct {
+    const char *name, *says, **at;
+} words[] = {{"--blocklist", "FILE of names that are blocked, a line each", &settings.blocklist},
+             {"--nsid", "TEXT that identifies this server", &settings.identifier},
+             {"--user", "NAME of the user that it becomes once its sockets are open", &settings.user}};
+static const struct {
+    const char *name, *says;
+    struct texts *at;
+    int most;
+} lists[] = {{"--listen", "ADDRESS[@PORT], over UDP and TCP; port 53", &settings.addresses, MOST_ADDRESSES},
+             {"--zone", "NAME=FILE: the zone at NAME, from a zone file", &settings.zones, MOST_TEXTS},
+             {"--allow", "NET that may ask", &settings.networks[0], MOST_TEXTS},
+             {"--deny", "NET that may not", &settings.networks[1], MOST_TEXTS},
+             {"--allow-transfer", "NET that may have zones transferred", &settings.networks[2], MOST_TEXTS},
+             {"--deny-transfer", "NET that may not", &settings.networks[3], MOST_TEXTS}};
+
+#define EACH(i, table) for (size_t i = 0; i < sizeof table / sizeof table[0]; i++) /* of a table of options */
+
 static void help(void)
 {
     puts("zoned --listen ADDRESS[@PORT].. --zone NAME=FILE.. [OPTION]..\n"
-         "  --listen ADDRESS[@PORT]             where it listens, over UDP and TCP; port 53\n"
-         "  --zone NAME=FILE                    the zone at NAME, from a zone file\n"
-         "  --blocklist FILE                    names that are blocked, a line each\n"
-         "  --allow NET, --deny NET             who may ask\n"
-         "  --allow-transfer NET, --deny-transfer NET   who of those may have a zone transferred\n"
-         "  --nsid TEXT                         what identifies this server\n"
-         "  --max-udp N                         bytes of a reply over UDP at most, 1232\n"
-         "  --user NAME                         who it is once its sockets are open\n"
-         "  --workers N, --processor N          processes that serve, 1; pinned to processors from N on\n"
-         "  --tcp-idle SECONDS                  when a connection that does not get on is closed, 10\n"
-         "  --tcp-most N, --tcp-client N        connections of a worker, 1000; of a client and worker, 100\n"
-         "  --check                             read the files, tell what is wrong with them, and end\n"
-         "  --version                           name and version\n"
-         "  --help                              this");
+         "  --check           read the files, tell what is wrong with them, and end\n  --version, --help");
+    EACH (i, lists)
+        printf("  %-17s %s; up to %d times\n", lists[i].name, lists[i].says, lists[i].most);
+    EACH (i, words)
+        printf("  %-17s %s\n", words[i].name, words[i].says);
+    EACH (i, numbers)
+        printf("  %-17s %s: %d to %d; %d\n", numbers[i].name, numbers[i].says, numbers[i].least, numbers[i].most, *numbers[i].at);
     exit(0);
 }
 
-static void put(const char **list, int *count, int most, const char *text)
+static void put_option(const char *option, const char *text)
 {
-    if (*count == most)
-        usage();
-    list[(*count)++] = text;
-}
-
-/* Takes an option that has a number behind it. Whether it is one. */
-static int put_number(const char *option, const char *text)
-{
-    if (strcmp(option, "--max-udp") == 0)
-        settings.max_udp = number(text, 512, 65535);
-    else if (strcmp(option, "--workers") == 0)
-        settings.workers = number(text, 1, MOST_WORKERS);
-    else if (strcmp(option, "--processor") == 0)
-        settings.first_processor = number(text, 0, CPU_SETSIZE - MOST_WORKERS);
-    else if (strcmp(option, "--tcp-idle") == 0)
-        settings.tcp_idle = number(text, 1, 3600);
-    else if (strcmp(option, "--tcp-most") == 0)
-        settings.tcp_most = number(text, 1, 100000);
-    else if (strcmp(option, "--tcp-client") == 0)
-        settings.tcp_client = number(text, 1, 100000);
-    else
-        return 0;
-    return 1;
-}
-
-/* Takes an option that has a network behind it. Whether it is one. */
-static int put_network(const char *option, const char *text)
-{
-    static const char *const options[NETWORK_KINDS] = {"--allow", "--deny", "--allow-transfer", "--deny-transfer"};
-    for (int i = 0; i < NETWORK_KINDS; i++)
-        if (strcmp(option, options[i]) == 0) {
-            put(settings.networks[i], &settings.network_count[i], MOST_TEXTS, text);
-            return 1;
+    EACH (i, numbers)
+        if (strcmp(option, numbers[i].name) == 0) {
+            char *rest;
+            long n = strtol(text, &rest, 10);
+            if (rest == text || *rest != 0 || n < numbers[i].least || n > numbers[i].most) {
+                complain("%s: not a number from %d to %d", text, numbers[i].least, numbers[i].most);
+                exit(2);
+            }
+            *numbers[i].at = (int)n;
+            return;
         }
-    return 0;
+    EACH (i, words)
+        if (strcmp(option, words[i].name) == 0) {
+            *words[i].at = text;
+            return;
+        }
+    EACH (i, lists)
+        if (strcmp(option, lists[i].name) == 0 && lists[i].at->count < lists[i].most) {
+            lists[i].at->at[lists[i].at->count++] = text;
+            return;
+        }
+    usage();
 }
 
-static void put_zone(char *text)
+/* Reads the arguments. Whether the files are only to be read. */
+static int read_arguments(int argc, char **argv)
 {
-    char *mark = strchr(text, '=');
-    if (mark == NULL || settings.zone_count == MOST_ZONES)
-        usage();
-    *mark = 0;
-    settings.zones[settings.zone_count++] = (struct zone_setting){text, mark + 1};
-}
-
-static void put_option(const char *option, char *text)
-{
-    if (strcmp(option, "--listen") == 0)
-        put(settings.addresses, &settings.address_count, MOST_ADDRESSES, text);
-    else if (strcmp(option, "--zone") == 0)
-        put_zone(text);
-    else if (strcmp(option, "--blocklist") == 0)
-        settings.blocklist = text;
-    else if (strcmp(option, "--nsid") == 0)
-        settings.identifier = text;
-    else if (strcmp(option, "--user") == 0)
-        settings.user = text;
-    else if (!put_number(option, text) && !put_network(option, text))
-        usage();
-}
-
-static void read_arguments(int argc, char **argv)
-{
+    int check = 0;
     for (int i = 1; i < argc; i++) {
         if (strcmp(argv[i], "--help") == 0 || strcmp(argv[i], "-h") == 0) {
             help();
@@ -168,7 +140,7 @@ static void read_arguments(int argc, char **argv)
             puts("zoned " ZONED_VERSION);
             exit(0);
         } else if (strcmp(argv[i], "--check") == 0) {
-            settings.check = 1;
+            check = 1;
         } else {
             if (i + 1 == argc)
                 usage();
@@ -176,8 +148,9 @@ static void read_arguments(int argc, char **argv)
             i++;
         }
     }
-    if ((settings.address_count == 0 && !settings.check) || settings.zone_count == 0)
+    if ((settings.addresses.count == 0 && !check) || settings.zones.count == 0)
         usage();
+    return check;
 }
 
 static int let_privileges_go(void)
@@ -197,12 +170,6 @@ static void begin(int worker)
     pid_t parent = getpid(), child = fork();
     if (child == 0) {
         prctl(PR_SET_PDEATHSIG, SIGTERM);
-        if (settings.first_processor >= 0) {
-            cpu_set_t one;
-            CPU_ZERO(&one);
-            CPU_SET(settings.first_processor + worker, &one);
-            sched_setaffinity(0, sizeof one, &one);
-        }
         for (int i = 0; i < settings.workers; i++)
             for (int j = 0; i != worker && j < sockets[i].count; j++)
                 close(sockets[i].udp[j]), close(sockets[i].tcp[j]);
@@ -253,8 +220,7 @@ int main(int argc, char **argv)
     sigaddset(&signals, SIGINT);
     sigaddset(&signals, SIGCHLD);
     sigprocmask(SIG_BLOCK, &signals, NULL);
-    read_arguments(argc, argv);
-    if (settings.check)
+    if (read_arguments(argc, argv))
         return load(&settings, &service) == 0 ? 0 : 1;
     for (int i = 0; i < settings.workers; i++)
         if (open_sockets(&settings, &sockets[i]) != 0)

@@ -1,6 +1,6 @@
 #!/usr/bin/env python3
 """tries.py ZONED: tries what zoned does with sockets, clients and signals, and each rule of a server, on loopback. The last line is
-'N passed, M failed'. PORT is the first of three ports that it uses."""
+'N passed, M failed'. PORT is the first of four ports that it uses."""
 import os
 import signal
 import socket
@@ -92,8 +92,8 @@ def resident(pid):
     return int([l for l in open(f"/proc/{pid}/status") if l.startswith("VmRSS")][0].split()[1])
 
 
-def start(words, port, **more):
-    return subprocess.Popen([ZONED, "--listen", f"127.0.0.1@{port}", *words], **more)
+def start(words, port, address="127.0.0.1", **more):
+    return subprocess.Popen([ZONED, "--listen", f"{address}@{port}", *words], **more)
 
 
 def wait_for(port):
@@ -124,6 +124,12 @@ def try_clients():
     want("a transfer of 20,004 records in several replies", records == 20004)
     s.sendall(frame(query("www.example.com")))
     want("and the connection goes on", read(f)[-4:] == bytes([192, 0, 2, 1]))
+    s.sendall(frame(query("example.com", 252)))
+    s.shutdown(socket.SHUT_WR)
+    records = 0
+    while reply := read(f):
+        records += answers(reply)
+    want("a client that sends no more still has its transfer", records == 20004)
     s.close()
 
 
@@ -236,6 +242,67 @@ def status(words):
     return subprocess.run([ZONED, *words], stdout=subprocess.DEVNULL, stderr=subprocess.DEVNULL).returncode
 
 
+def try_privileges(zone, port):
+    """That it is somebody else once its sockets are open. Only root may become so."""
+    if os.geteuid() != 0:
+        print("note: not root, so --user is not tried")
+        return
+    host = start(["--zone", f"example.com={zone}", "--user", "nobody", "--workers", "2"], port)
+    want("it starts as nobody", wait_for(port))
+    for pid in (host.pid, *children(host.pid)):
+        told = dict(l.split(":\t", 1) for l in open(f"/proc/{pid}/status") if ":\t" in l)
+        want("a process is nobody, in no other group, and may become nobody else", "0" not in told["Uid"].split() + told["Gid"].split() + told["Groups"].split() and told["NoNewPrivs"] == "1\n")
+    want("it has two workers", len(children(host.pid)) == 2)
+    host.terminate()
+    want("and ends", host.wait(15) == 0)
+
+
+def try_wildcards(zone, port):
+    """That a reply comes from the address that was asked, also where it listens at every one."""
+    host = start(["--listen", f"::@{port}", "--zone", f"example.com={zone}"], port, address="0.0.0.0")
+    want("it listens at every address", wait_for(port))
+    for family, address in ((socket.AF_INET, "127.0.0.2"), (socket.AF_INET6, "::1")):
+        with socket.socket(family, socket.SOCK_DGRAM) as s:
+            s.settimeout(2)
+            s.connect((address, port))
+            try:
+                s.send(query("www.example.com"))
+                want(f"and {address} answers as that address", s.recv(512)[-4:] == bytes([192, 0, 2, 1]))
+            except OSError as e:
+                want(f"and {address} answers as that address ({e})", False)
+    host.terminate()
+    want("and ends", host.wait(15) == 0)
+
+
+def has_ipv6():
+    try:
+        with socket.create_server(("::1", 0), family=socket.AF_INET6):
+            return True
+    except OSError:
+        return False
+
+
+def try_same(zone):
+    """What zone_serve answers, byte for byte: it has the same rules and zones, and other code around them."""
+    program = f"{os.path.dirname(os.path.dirname(os.path.abspath(__file__)))}/crates/zone_serve/out/zone_serve"
+    if not os.path.exists(program):
+        print("note: crates/zone_serve is not built, so nothing is compared with it")
+        return
+    names = ["www.example.com", "WWW.example.COM", "example.com", "no.example.com", "h1.example.com", "large.example.com", "other.org", "a.b.c.example.com"]
+    messages = [query(n, k, payload=p) for n in names for k in (1, 2, 6, 16, 28, 255) for p in (None, 600, 4096)]
+    messages += [query("example.com", 251), query("www.example.com", flags=b"\x29\x00"), query("www.example.com", flags=b"\x11\x00"), query("www.example.com", dns_class=3)]
+    messages += [query("www.example.com") + b"\0", query("www.example.com")[:-3], b"\x12\x34" + bytes(10), query("example.com", 41)]
+
+    def serve(word, data):
+        return subprocess.run([program, "--zone", f"example.com={zone}", word], input=data, stdout=subprocess.PIPE, stderr=subprocess.DEVNULL).stdout
+
+    want(f"{len(messages)} datagrams are answered as by zone_serve", all((udp(m, 0.3) or b"") == serve("udp", m) for m in messages))
+    with tcp() as s:
+        s.sendall(b"".join(frame(m) for m in messages[:150]))
+        f = s.makefile("rb")
+        want("and 150 messages of a connection", b"".join(frame(read(f)) for _ in range(150)) == serve("tcp", b"".join(frame(m) for m in messages[:150])))
+
+
 def try_arguments(zone, bad):
     named = subprocess.run([ZONED, "--version"], stdout=subprocess.PIPE, text=True)
     want("--version tells it", named.returncode == 0 and named.stdout.startswith("zoned 0."))
@@ -247,6 +314,7 @@ def try_arguments(zone, bad):
 
 def main():
     folder = tempfile.mkdtemp()
+    os.chmod(folder, 0o755)
     zone, bad = os.path.join(folder, "zone"), os.path.join(folder, "bad")
     large = "".join(f'large IN TXT "{i:03}{"x" * 200}"\n' for i in range(24))
     records = "".join(f'h{i} IN TXT "{"x" * 200}"\n' for i in range(20000 - 24))
@@ -263,6 +331,7 @@ def main():
         want("systemd is told that it is ready", notified.recv(100) == b"READY=1\n")
         want("the second is ready", wait_for(PORT + 1))
         try_clients()
+        try_same(zone)
         try_connections(children(host.pid)[0])
         try_rules()
         try_loop()
@@ -276,6 +345,12 @@ def main():
                 except subprocess.TimeoutExpired:
                     it.kill()
     want("the second ends", other.returncode == 0)
+    open(zone, "w").write(SOA_AND_NS + WWW % 1)
+    try_privileges(zone, PORT + 2)
+    if has_ipv6():
+        try_wildcards(zone, PORT + 3)
+    else:
+        print("note: there is no IPv6 here, so no wildcard address is tried")
 
 
 main()

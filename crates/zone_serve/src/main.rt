@@ -148,7 +148,10 @@ fn load_zones<R: Files + Alloc<A = Global>>(
 }
 
 /// The catalog that the arguments ask for.
-fn catalog<R: Files + Alloc<A = Global>>(rt: &R, settings: &Settings<'_>) -> Result<Zones, Fault> {
+fn catalog<R: Files + Eprint + Alloc<A = Global>>(
+    rt: &R,
+    settings: &Settings<'_>,
+) -> Result<Zones, Fault> {
     let alloc = rt.alloc();
     let list = blocklist(rt, &settings.blocklists)?;
     let mut catalog = Catalog::new(alloc, NoKeys);
@@ -158,7 +161,7 @@ fn catalog<R: Files + Alloc<A = Global>>(rt: &R, settings: &Settings<'_>) -> Res
 }
 
 /// Serves the standard input as the arguments say.
-fn serve<R: Files + Env + Clock + Input + Print + Alloc<A = Global>>(
+fn serve<R: Files + Env + Clock + Input + Print + Eprint + Alloc<A = Global>>(
     rt: &R,
     settings: &Settings<'_>,
     address: IpAddr,

@@ -1,1 +1,4 @@
-mod Written
+pub mod Results
+pub mod Streams
+pub mod Whole
+pub mod Written

@@ -1,70 +1,51 @@
 //! What C calls. `host/zone_service.h` says of each what it is given and what it answers.
 
-ghost use Rattle.std.specs.Prelude.{◌≡◌};
+ghost use Rattle.std.specs.Prelude.{◌≡◌, ◌≤◌, ◌↔◌, ◌∷◌, [], IsOk, Some, length, option_map};
+ghost use Rattle.access_control.specs.Access.{Inserts, Network};
+ghost use Rattle.hickory_catalog.specs.Server.{server_of};
+ghost use Rattle.served_zones.specs.ServedZones.{IsLoaded};
+ghost use Rattle.zone_service.specs.Exports.{AnswerTold, StreamTold, transport_of};
+ghost use Rattle.zone_service.specs.Frames.{ArePut};
+ghost use Rattle.zone_service.specs.Serving.{waiting_in};
 
 use crate::handle::{Handle, address};
-use crate::service::{Refusal, Service};
+use crate::service::Service;
 use crate::settings::SettingFault;
-use hickory_server::proto::Protocol;
+use crate::told::{DONE, MEMORY, tell_answer, tell_stream};
+use hickory_server::server::NoKeys;
+use hickory_server::zone_handler::{ReplySigner, ZoneHandler};
+use served_zones::handler::Handler;
 use std::alloc::{AllocError, Global};
-use std::net::{IpAddr, Ipv4Addr, Ipv6Addr, SocketAddr};
 
-/// The answer where memory was refused.
-const MEMORY: i64 = -3;
-
-/// The answer where an argument is none.
-const ARGUMENT: i64 = -5;
-
-/// The number of a refusal.
-fn refused(refusal: Refusal) -> i64 {
-    match refusal {
-        Refusal::Denied => -1,
-        Refusal::Unreadable => -2,
-        Refusal::Memory => MEMORY,
-        Refusal::MemoryAfterHandling => -4,
-        Refusal::Response => -6,
-    }
-}
+/// A setting is not taken.
+const FAULT: u32 = 7;
 
 /// Puts the front of a text that there is room for: how many bytes it has.
-fn put_text(out: &mut [u8], text: &[u8]) -> usize {
-    let mut count = 0usize;
-    for (place, byte) in out.iter_mut().zip(text) {
-        *place = *byte;
-        count = count.saturating_add(1);
-    }
+fn put_text(out: &mut [u8], text: &[u8]) -> usize
+    ensures len { length out.new ≡ length out.old }
+    ensures within { result ≤ length out.new }
+{
+    let count = text.len().min(out.len());
+    out[..count].copy_from_slice(&text[..count]);
     count
 }
 
-/// Tells a fault: 0 where there is none, else the length of its text, which is put into `fault`, and at least 1.
-fn told(alloc: Global, set: Result<(), SettingFault>, fault: &mut [u8]) -> i64 {
+/// Tells what a setting came to: puts the text of its fault, as far as there is room, and its length.
+fn told(alloc: Global, set: Result<(), SettingFault>, fault: &mut [u8], count: &mut usize) -> u32
+    ensures done { (result ≡ 0) ↔ IsOk set }
+    ensures count { count.new ≤ length fault.new }
+{
+    *count = 0;
     let Err(e) = set else {
-        return 0;
+        return DONE;
     };
-    if e == SettingFault::Memory {
+    let Ok(text) = format!(in alloc; "{e}") else {
         return MEMORY;
-    }
-    match format!(in alloc; "{e}") {
-        Ok(text) => match i64::try_from(put_text(fault, text.as_bytes())) {
-            Ok(count) if count > 0 => count,
-            _ => 1,
-        },
-        Err(_) => MEMORY,
-    }
-}
-
-/// The address of four or sixteen bytes.
-fn ip_address(bytes: &[u8]) -> Option<IpAddr> {
-    match bytes {
-        [a, b, c, d] => Some(IpAddr::V4(Ipv4Addr::from_octets([*a, *b, *c, *d]))),
-        _ => {
-            let mut octets = [0u8; 16];
-            if bytes.len() != octets.len() {
-                return None;
-            }
-            octets.copy_from_slice(bytes);
-            Some(IpAddr::V6(Ipv6Addr::from_octets(octets)))
-        }
+    };
+    *count = put_text(fault, text.as_bytes());
+    match e {
+        SettingFault::Memory => MEMORY,
+        _ => FAULT,
     }
 }
 
@@ -76,13 +57,13 @@ fn boxed(alloc: Global) -> Result<Box<Service>, AllocError> {
     }
 }
 
-/// Makes a server without zones, which everybody may use, and puts its address: 0, or -3 without memory.
+/// Makes a server without zones, which everybody may use, and puts its address.
 #[unsafe(no_mangle)]
-pub extern "C" fn zone_service_create(alloc: Global, service: &mut *mut u8) -> i64 {
+pub extern "C" fn zone_service_create(alloc: Global, service: &mut *mut u8) -> u32 {
     match boxed(alloc) {
         Ok(made) => {
             *service = address(made);
-            0
+            DONE
         }
         Err(_) => MEMORY,
     }
@@ -101,9 +82,12 @@ pub extern "C" fn zone_service_set_blocklist(
     service: &mut Handle,
     text: &[u8],
     fault: &mut [u8],
-) -> i64 {
+    count: &mut usize,
+) -> u32
+    ensures { service.new.service ≡ record service.old.service { list = service.new.service.list } }
+{
     let service = service.service();
-    told(alloc, service.set_blocklist(alloc, text), fault)
+    told(alloc, service.set_blocklist(alloc, text), fault, count)
 }
 
 /// Serves the zone of this name from the bytes of its file.
@@ -114,9 +98,12 @@ pub extern "C" fn zone_service_add_zone(
     name: &[u8],
     text: &[u8],
     fault: &mut [u8],
-) -> i64 {
+    count: &mut usize,
+) -> u32
+    ensures made { result ≡ 0 → IsLoaded (option_map (λ it. it.value) service.old.service.list) service.old.service.answering.server.catalog.zones service.new.service.answering.server.catalog.zones }
+{
     let service = service.service();
-    told(alloc, service.add_zone(alloc, name, text), fault)
+    told(alloc, service.add_zone(alloc, name, text), fault, count)
 }
 
 /// Lets the addresses of a network use the server.
@@ -126,9 +113,12 @@ pub extern "C" fn zone_service_set_allowed(
     service: &mut Handle,
     network: &[u8],
     fault: &mut [u8],
-) -> i64 {
+    count: &mut usize,
+) -> u32
+    ensures made { result ≡ 0 → (network : Network) × Inserts service.old.service.answering.server.rules.access.allow (network ∷ []) service.new.service.answering.server.rules.access.allow }
+{
     let service = service.service();
-    told(alloc, service.allow(network), fault)
+    told(alloc, service.allow(network), fault, count)
 }
 
 /// Keeps the addresses of a network from the server.
@@ -138,9 +128,12 @@ pub extern "C" fn zone_service_set_denied(
     service: &mut Handle,
     network: &[u8],
     fault: &mut [u8],
-) -> i64 {
+    count: &mut usize,
+) -> u32
+    ensures made { result ≡ 0 → (network : Network) × Inserts service.old.service.answering.server.rules.access.deny (network ∷ []) service.new.service.answering.server.rules.access.deny }
+{
     let service = service.service();
-    told(alloc, service.deny(network), fault)
+    told(alloc, service.deny(network), fault, count)
 }
 
 /// Lets the addresses of a network have transfers.
@@ -150,9 +143,12 @@ pub extern "C" fn zone_service_set_transfer_allowed(
     service: &mut Handle,
     network: &[u8],
     fault: &mut [u8],
-) -> i64 {
+    count: &mut usize,
+) -> u32
+    ensures made { result ≡ 0 → (network : Network) × Inserts service.old.service.answering.server.rules.transfers.allow (network ∷ []) service.new.service.answering.server.rules.transfers.allow }
+{
     let service = service.service();
-    told(alloc, service.allow_transfer(network), fault)
+    told(alloc, service.allow_transfer(network), fault, count)
 }
 
 /// Keeps transfers from the addresses of a network.
@@ -162,9 +158,12 @@ pub extern "C" fn zone_service_set_transfer_denied(
     service: &mut Handle,
     network: &[u8],
     fault: &mut [u8],
-) -> i64 {
+    count: &mut usize,
+) -> u32
+    ensures made { result ≡ 0 → (network : Network) × Inserts service.old.service.answering.server.rules.transfers.deny (network ∷ []) service.new.service.answering.server.rules.transfers.deny }
+{
     let service = service.service();
-    told(alloc, service.deny_transfer(network), fault)
+    told(alloc, service.deny_transfer(network), fault, count)
 }
 
 /// Sets how many bytes a reply over UDP has at most, from 512 on.
@@ -174,9 +173,12 @@ pub extern "C" fn zone_service_set_max_udp(
     service: &mut Handle,
     size: u16,
     fault: &mut [u8],
-) -> i64 {
+    count: &mut usize,
+) -> u32
+    ensures made { result ≡ 0 → service.new.service.answering.server.rules ≡ record service.old.service.answering.server.rules { max_udp = size } }
+{
     let service = service.service();
-    told(alloc, service.set_max_udp(size), fault)
+    told(alloc, service.set_max_udp(size), fault, count)
 }
 
 /// Sets what identifies the server to clients that ask (RFC 5001).
@@ -186,14 +188,16 @@ pub extern "C" fn zone_service_set_identifier(
     service: &mut Handle,
     text: &[u8],
     fault: &mut [u8],
-) -> i64 {
+    count: &mut usize,
+) -> u32
+    ensures made { result ≡ 0 → service.new.service.answering.server.catalog ≡ record service.old.service.answering.server.catalog { nsid = Some text.now } }
+{
     let service = service.service();
-    told(alloc, service.set_identifier(alloc, text), fault)
+    told(alloc, service.set_identifier(alloc, text), fault, count)
 }
 
-/// Answers a message: writes its replies, each behind its length in two bytes, as many as there is room for, and says how many
-/// bytes they take; -1 denied, -2 unreadable, -3 no memory, -4 no memory for the replies to a message that was handled, -5 a
-/// source that is no address, -6 a response.
+/// Answers a message: writes its replies, each behind its length in two bytes, as many as there is room for, and says how many bytes they take
+/// and how many replies wait. The number says why there is none.
 #[unsafe(no_mangle)]
 pub extern "C" fn zone_service_answer(
     alloc: Global,
@@ -204,28 +208,32 @@ pub extern "C" fn zone_service_answer(
     stream: bool,
     now: u64,
     out: &mut [u8],
+    written: &mut usize,
     waiting: &mut usize,
-) -> i64
-    ensures { service.new.service.server.rules ≡ service.old.service.server.rules }
+) -> u32
+    ensures others { service.new.service ≡ record service.old.service { answering = service.new.service.answering } }
+    ensures rules { service.new.service.answering.server.rules ≡ service.old.service.answering.server.rules }
+    ensures told { AnswerTold (server_of ⟦<Handler as ZoneHandler>⟧ ⟦<NoKeys as ReplySigner>⟧.signature_for service.old.service.answering.server.catalog) service.old.service.answering message.now source.now port (transport_of stream) now out.old result written.new out.new service.new.service.answering }
+    ensures waiting { waiting.new ≡ length (waiting_in service.new.service.answering) }
 {
     let service = service.service();
-    *waiting = 0;
-    let Some(address) = ip_address(source) else {
-        return ARGUMENT;
-    };
-    let protocol = if stream { Protocol::Tcp } else { Protocol::Udp };
-    let source = SocketAddr::new(address, port);
-    match service.answer(alloc, message, source, protocol, now, out) {
-        Ok(count) => {
-            *waiting = service.waiting();
-            i64::try_from(count).unwrap_or(MEMORY)
-        }
-        Err(refusal) => refused(refusal),
-    }
+    tell_answer(
+        alloc,
+        &mut service.answering,
+        message,
+        source,
+        port,
+        stream,
+        now,
+        out,
+        written,
+        waiting,
+    )
 }
 
-/// Answers the messages that stand whole at the front of a stream's bytes, each behind its length in two bytes, and says how many bytes they
-/// are; or why the last of them is refused, as `zone_service_answer` does. `written` tells how many bytes of replies were written, also then.
+/// Answers the messages that stand whole at the front of a stream's bytes, each behind its length in two bytes, and says how many bytes
+/// they are, how many bytes of replies were written, and how many replies wait. The number says why the last of them has none. Replies that
+/// waited before it are let go.
 #[unsafe(no_mangle)]
 pub extern "C" fn zone_service_answer_stream(
     alloc: Global,
@@ -235,39 +243,45 @@ pub extern "C" fn zone_service_answer_stream(
     port: u16,
     now: u64,
     out: &mut [u8],
+    taken: &mut usize,
     written: &mut usize,
     waiting: &mut usize,
-) -> i64
-    ensures { service.new.service.server.rules ≡ service.old.service.server.rules }
+) -> u32
+    ensures others { service.new.service ≡ record service.old.service { answering = service.new.service.answering } }
+    ensures rules { service.new.service.answering.server.rules ≡ service.old.service.answering.server.rules }
+    ensures told { StreamTold (server_of ⟦<Handler as ZoneHandler>⟧ ⟦<NoKeys as ReplySigner>⟧.signature_for service.old.service.answering.server.catalog) service.old.service.answering bytes.now source.now port now out.old result taken.new written.new out.new service.new.service.answering }
+    ensures waiting { waiting.new ≡ length (waiting_in service.new.service.answering) }
 {
     let service = service.service();
-    *written = 0;
-    *waiting = 0;
-    let Some(address) = ip_address(source) else {
-        return ARGUMENT;
-    };
-    let answer = service.answer_stream(alloc, bytes, SocketAddr::new(address, port), now, out);
-    *written = answer.written;
-    match answer.refusal {
-        Some(refusal) => refused(refusal),
-        None => {
-            *waiting = service.waiting();
-            i64::try_from(answer.consumed).unwrap_or(MEMORY)
-        }
-    }
+    tell_stream(
+        alloc,
+        &mut service.answering,
+        bytes,
+        source,
+        port,
+        now,
+        out,
+        taken,
+        written,
+        waiting,
+    )
 }
 
-/// Writes replies to the last message that wait, as `zone_service_answer` does, and says how many bytes they take.
+/// Writes replies to the last message that wait, each behind its length in two bytes, as many as there is room for, and says how many
+/// bytes they take, and how many replies wait still.
 #[unsafe(no_mangle)]
 pub extern "C" fn zone_service_take(
     service: &mut Handle,
     out: &mut [u8],
     waiting: &mut usize,
-) -> i64
-    ensures { service.new.service.server.rules ≡ service.old.service.server.rules }
+) -> usize
+    ensures others { service.new.service ≡ record service.old.service { answering = service.new.service.answering } }
+    ensures server { service.new.service.answering.server ≡ service.old.service.answering.server }
+    ensures put { ArePut (waiting_in service.old.service.answering) out.old 0 out.new result (waiting_in service.new.service.answering) }
+    ensures waiting { waiting.new ≡ length (waiting_in service.new.service.answering) }
 {
     let service = service.service();
-    let count = service.take(out);
-    *waiting = service.waiting();
-    i64::try_from(count).unwrap_or(MEMORY)
+    let written = service.answering.take(out);
+    *waiting = service.answering.waiting();
+    written
 }

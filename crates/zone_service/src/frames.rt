@@ -1,20 +1,26 @@
 //! Replies behind their lengths (RFC 1035 section 4.2.2), and messages that stand so in a stream.
 
-ghost use Rattle.std.specs.Prelude.{◌≡◌, ◌≤◌, ◌+◌, ◌++◌, ℕ, List, IfSome, IsNone, length, take};
-ghost use Rattle.zone_service.specs.Frames.{AreFrames, IsFrame};
+ghost use Rattle.std.specs.Prelude.{◌≡◌, ◌≤◌, ◌+◌, ◌-◌, ◌++◌, ℕ, List, IfSome, IsNone, drop, length, take};
+ghost use Rattle.zone_service.specs.Frames.{ArePut, BeginsWith, HasNoRoom, IsCutShort, IsFrame};
 
 use hickory_server::proto::Octets;
 
 /// So many bytes a reply has at most, with its length before it.
 pub(crate) const MOST_FRAME: usize = 65_537;
 
-/// The message that stands whole at the front of a stream's bytes, and what stands behind it.
-pub(crate) fn whole_message(bytes: &[u8]) -> Option<(&[u8], &[u8])> {
+/// The message that stands whole at the front of a stream's bytes.
+pub(crate) fn whole_message(bytes: &[u8]) -> Option<&[u8]>
+    ensures whole { IfSome result (λ message. BeginsWith bytes.now message.now) }
+    ensures none { IsNone result → IsCutShort bytes.now }
+{
     let [high, low, rest @ ..] = bytes else {
         return None;
     };
     let len = 256 * usize::from(*high) + usize::from(*low);
-    Some((rest.get(..len)?, rest.get(len..)?))
+    if rest.len() < len {
+        return None;
+    }
+    Some(&rest[..len])
 }
 
 /// Writes bytes at a place: the place behind them.
@@ -34,6 +40,7 @@ fn put_frame(out: &mut [u8], at: usize, reply: &[u8]) -> Option<usize>
     requires { at ≤ length out.old }
     ensures len { length out.new ≡ length out.old }
     ensures kept { IsNone result → out.new ≡ out.old }
+    ensures no_room { IsNone result → HasNoRoom (length out.old - at) reply.now }
     ensures frame { IfSome result (λ end. (end ≤ length out.new) × (frame : List ℕ) × IsFrame frame reply.now × (take end out.new ≡ take at out.old ++ frame)) }
 {
     let (Ok(high), Ok(low)) = (
@@ -49,21 +56,20 @@ fn put_frame(out: &mut [u8], at: usize, reply: &[u8]) -> Option<usize>
     Some(put(out, behind, reply))
 }
 
-/// Writes replies, each behind its length, as many as there is room for: how many bytes they take, and how many they are.
-pub(crate) fn put_frames(out: &mut [u8], replies: &[Octets]) -> (usize, usize)
-    ensures len { length out.new ≡ length out.old }
-    ensures frames { AreFrames (take result.0 out.new) (take result.1 replies.now) }
-    ensures within { result.0 ≤ length out.new }
+/// Writes replies at this place, each behind its length, as many as there is room for: the place behind them, and how many they are.
+pub(crate) fn put_frames(out: &mut [u8], at: usize, replies: &[Octets]) -> (usize, usize)
+    requires { at ≤ length out.old }
+    ensures put { ArePut replies.now out.old at out.new result.0 (drop result.1 replies.now) }
     ensures count { result.1 ≤ length replies.now }
 {
-    let mut at = 0;
+    let mut end = at;
     let mut count = 0;
     for reply in replies {
-        match put_frame(out, at, reply.as_slice()) {
-            Some(end) => at = end,
-            None => return (at, count),
+        match put_frame(out, end, reply.as_slice()) {
+            Some(behind) => end = behind,
+            None => return (end, count),
         }
         count += 1;
     }
-    (at, count)
+    (end, count)
 }

@@ -5,8 +5,10 @@
 //! process may have one of its own.
 #![tactic(auto)]
 
+mod answering;
 mod exports;
 mod frames;
 mod handle;
 mod service;
 mod settings;
+mod told;
