@@ -20,4 +20,4 @@ sent_within limit [] all = tt
 sent_within limit (bytes ∷ others) all =
     let first : length bytes ≤ limit = all 0 bytes (omega arith) in
     let rest = All-tail (λ (b : List ℕ). length b ≤ limit) bytes others all in
-    ((first, λ _. refl), sent_within limit others rest)
+    ((first, λ _. refl, λ long. absurd (omega (arith, first, long))), sent_within limit others rest)

@@ -1,3 +1,4 @@
+pub mod Cut
 pub mod DecodedOutcomes
 pub mod Isolation
 pub mod KeptZones

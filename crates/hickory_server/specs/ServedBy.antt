@@ -16,6 +16,7 @@ use Rattle.hickory_catalog.specs.ReplyEdns.{reply_edns}
 use Rattle.hickory_catalog.specs.Requests.{RequestAnswered}
 use Rattle.hickory_catalog.specs.Server.{Server}
 use Rattle.hickory_catalog.specs.WholeTransfers.{TransferReplies}
+use Rattle.hickory_server.specs.Cut.{IsCut}
 use Rattle.hickory_server.specs.Ruling.{IsResponse, IsRuling, refusal, truncation, udp_limit}
 use Rattle.hickory_server.specs.Serving.{IsRequestOf, LeavesUnserved}
 use Rattle.hickory_server.specs.declared.server.answer.Answer.{Answer}
@@ -25,9 +26,9 @@ use Rattle.hickory_server.specs.declared.server.rules.Ruling.TheVariants.{Pass, 
 use Rattle.hickory_server.specs.declared.server.serve.Incoming.{Incoming}
 use Rattle.hickory_server.specs.declared.server.serve.ServeError.{ServeError}
 
--- What is sent of a reply over UDP: itself where it is within the limit, and else a shorter one that is.
+-- What is sent of a reply over UDP: itself where it is within the limit, and else what it is cut to.
 abbrev pub IsBounded : ℕ → List ℕ → List ℕ → Type 0
-IsBounded limit reply bytes = (length bytes ≤ limit) × (length reply ≤ limit → bytes ≡ reply)
+IsBounded limit reply bytes = (length bytes ≤ limit) × (length reply ≤ limit → bytes ≡ reply) × (limit < length reply → IsCut limit reply bytes)
 
 -- What is sent of replies: over UDP each within the limit, and over a stream each as it is.
 abbrev pub AreSent : Protocol → ℕ → List (List ℕ) → List (List ℕ) → Type 0

@@ -1,12 +1,13 @@
 //! Replies over UDP: none is longer than the server's own limit, and none has records in answer to a transfer.
 
-ghost use Rattle.std.specs.Prelude.{◌≡◌, ◌≤◌, [], All, IfOk, IsTrue, None, Some, length, max};
+ghost use Rattle.std.specs.Prelude.{◌≡◌, ◌≤◌, ◌<◌, [], All, IfOk, IsTrue, None, Some, length, max};
 ghost use Rattle.std.specs.Option.{option_copied};
 ghost use Rattle.wire_messages.specs.serialize.writing.Reply.{size_limit};
 ghost use Rattle.wire_messages.specs.declared.op.header.Header.{Header};
 ghost use Rattle.hickory_wire.specs.serialize.writing.ReplyParts.{ReplyEncoded};
 ghost use Rattle.hickory_base.specs.responses.EncodingSinks.{IsEncodingOf};
 ghost use Rattle.hickory_catalog.specs.ReplyEdns.{reply_edns};
+ghost use Rattle.hickory_server.specs.Cut.{IsCut, header_alone, id_of, without_signature};
 ghost use Rattle.hickory_server.specs.Ruling.{truncation};
 ghost use Rattle.hickory_server.specs.ServedBy.{AreSent, IsBounded};
 ghost use Rattle.hickory_server.specs.Written.{said};
@@ -125,7 +126,8 @@ pub(crate) fn truncated(alloc: Global, request: &Request) -> Result<Octets, Allo
 /// The bytes of a reply that was read, with as many records as fit the limit. A signature over the longer one would not hold, so there is none.
 fn shortened(alloc: Global, reply: &MessageRequest, limit: u16) -> Result<Octets, AllocError>
     requires { 12 ≤ limit }
-    ensures { IfOk result (λ bytes. length bytes ≤ limit) }
+    ensures reply { IfOk result (λ bytes. (header : Header) × ReplyEncoded limit (without_signature reply.now) bytes header) }
+    ensures within { IfOk result (λ bytes. length bytes ≤ limit) }
 {
     let count = reply.queries.len() as u16;
     let edns = reply.edns.as_ref();
@@ -144,11 +146,39 @@ fn shortened(alloc: Global, reply: &MessageRequest, limit: u16) -> Result<Octets
 /// The header of a reply to the message of this identifier that has no room: TC, and nothing else.
 fn header_alone(alloc: Global, id: u16, limit: u16) -> Result<Octets, AllocError>
     requires { 12 ≤ limit }
-    ensures { IfOk result (λ bytes. length bytes ≤ limit) }
+    ensures reply { IfOk result (λ bytes. (header : Header) × ReplyEncoded limit (header_alone id) bytes header) }
+    ensures within { IfOk result (λ bytes. length bytes ≤ limit) }
 {
     let mut metadata = Metadata::new(id, MessageType::Response, OpCode::QUERY);
     metadata.truncation = true;
     encoded(alloc, &without_records(metadata, &[], 0, None), limit)
+}
+
+/// The identifier of a message (RFC 1035 section 4.1.1).
+fn id_of(bytes: &[u8]) -> u16
+    requires { 2 ≤ length bytes.now }
+    ensures { result ≡ id_of bytes.now }
+{
+    256 * u16::from(bytes[0]) + u16::from(bytes[1])
+}
+
+/// What is sent in the place of a longer reply.
+fn cut(alloc: Global, reply: Octets, src: SocketAddr, limit: u16) -> Result<Octets, AllocError>
+    requires fits { 12 ≤ limit }
+    requires long { limit < length reply }
+    ensures within { IfOk result (λ bytes. length bytes ≤ limit) }
+    ensures cut { IfOk result (IsCut limit reply) }
+{
+    let id = id_of(reply.as_slice());
+    let read = Request::from_bytes(alloc, reply.into_vec(), src, Protocol::Udp);
+    let shorter = match &read {
+        Ok(reply) => shortened(alloc, reply.message(), limit),
+        Err(ProtoError::Memory) => Err(AllocError),
+        // A record stands in it that no answer section is read with, as SIG.
+        Err(_) => header_alone(alloc, id, limit),
+    };
+    drop(read);
+    shorter
 }
 
 /// A reply within the limit: itself, or with as many records as fit.
@@ -159,19 +189,7 @@ fn bounded(alloc: Global, reply: Octets, src: SocketAddr, limit: u16) -> Result<
     if reply.len() <= usize::from(limit) {
         return Ok(reply);
     }
-    let id = match reply.as_slice() {
-        [high, low, ..] => 256 * u16::from(*high) + u16::from(*low),
-        _ => 0,
-    };
-    let read = Request::from_bytes(alloc, reply.into_vec(), src, Protocol::Udp);
-    let shorter = match &read {
-        Ok(reply) => shortened(alloc, reply.message(), limit),
-        Err(ProtoError::Memory) => Err(AllocError),
-        // A record stands in it that no answer section is read with, as SIG.
-        Err(_) => header_alone(alloc, id, limit),
-    };
-    drop(read);
-    shorter
+    cut(alloc, reply, src, limit)
 }
 
 /// Replies within the limit, each itself, or with as many records as fit.
