@@ -73,8 +73,9 @@ fn put<H: ZoneHandler + Drop>(
     apex: &Name,
     zone: H,
 ) -> Result<(), Fault> {
-    let apex = LowerName::new(alloc, apex)?;
-    match catalog.upsert(apex, vec![in alloc; zone]?) {
+    let mut chain = Vec::new(alloc);
+    chain.push(zone)?;
+    match catalog.upsert(LowerName::new(alloc, apex)?, chain) {
         Ok(_) => Ok(()),
         Err(_) => Err(Fault::Memory),
     }
@@ -99,7 +100,12 @@ pub fn updated(alloc: Global) -> Result<Server<Trusting, DynamicZone<Trusting>>,
     let zone = zone(alloc, ZONE, &apex)?;
     let updatable = SqliteZoneHandler::new(zone, AxfrPolicy::AllowAll, true, Trusting);
     let mut catalog = Catalog::new(alloc, Trusting);
-    put(alloc, &mut catalog, &apex, DynamicZone::new(alloc, updatable))?;
+    put(
+        alloc,
+        &mut catalog,
+        &apex,
+        DynamicZone::new(alloc, updatable),
+    )?;
     Ok(Server::new(alloc, rules(alloc)?, catalog)?)
 }
 
@@ -114,6 +120,14 @@ pub fn above(alloc: Global) -> Result<Server<Trusting, ZoneWithParent>, Fault> {
     };
     let mut catalog = Catalog::new(alloc, Trusting);
     put(alloc, &mut catalog, &below, child)?;
-    put(alloc, &mut catalog, &apex, ZoneWithParent { zone: parent, parent: None })?;
+    put(
+        alloc,
+        &mut catalog,
+        &apex,
+        ZoneWithParent {
+            zone: parent,
+            parent: None,
+        },
+    )?;
     Ok(Server::new(alloc, rules(alloc)?, catalog)?)
 }
