@@ -1,6 +1,6 @@
 //! The chains of zones, and where they are put.
 
-ghost use Rattle.std.specs.Prelude.{◌≡◌, ◌↔◌, IfOk, IsNone, IsTrue, Option, Some, option_map, true};
+ghost use Rattle.std.specs.Prelude.{◌≡◌, ◌↔◌, IfOk, IsNone, IsTrue, OnErr, Option, Some, option_map, true};
 ghost use Rattle.wire_names.specs.rr.domain.NameOrder.{lower_name};
 ghost use Rattle.hickory_catalog.specs.Zones.{ChangesAt};
 ghost use Rattle.served_zones.specs.ServedZones.{Chain, IsChain};
@@ -42,15 +42,17 @@ pub fn chain(
     Ok(chain)
 }
 
-/// Puts the chain of a zone at its apex; whether there was none.
+/// Puts the chain of a zone at its apex; whether there was none. Where memory is refused, the catalog is as before.
 pub fn put_chain(
     alloc: Global,
     catalog: &mut Zones,
     apex: &Name,
     chain: Vec<Handler>,
 ) -> Result<bool, AllocError>
-    ensures { IfOk result (λ fresh. (was : Option Chain) ×
+    ensures put { IfOk result (λ fresh. (was : Option Chain) ×
         ChangesAt catalog.old.zones (lower_name apex.now) was (Some chain.items) catalog.new.zones × (IsTrue fresh ↔ IsNone was)) }
+    ensures err { OnErr result (catalog.new.zones ≡ catalog.old.zones) }
+    ensures others { catalog.new ≡ record catalog.old { zones = catalog.new.zones } }
 {
     let name = LowerName::new(alloc, apex)?;
     match catalog.upsert(name, chain) {

@@ -7,4 +7,5 @@ pub mod handler;
 pub mod identifier;
 pub mod lists;
 pub mod networks;
+pub mod parents;
 pub mod zones;

@@ -14,9 +14,6 @@ use thiserror::Error;
 /// Why a zone file is not taken.
 #[derive(Clone, Copy, Debug, PartialEq, Eq, Error)]
 pub enum ZoneFault {
-    /// It begins with a byte order mark, which no zone file has.
-    #[error("a byte order mark stands at the front of the file")]
-    ByteOrderMark,
     /// It is no text.
     #[error("the file is not UTF-8")]
     NotUtf8,
@@ -31,9 +28,6 @@ pub enum ZoneFault {
     Memory,
 }
 
-/// A byte order mark (U+FEFF) in UTF-8.
-const BYTE_ORDER_MARK: [u8; 3] = [0xEF, 0xBB, 0xBF];
-
 /// The zone of this apex that the bytes of a zone file have. Everybody who may use the server may have a transfer of it (RFC 5936
 /// section 5), and no update of it is made.
 pub fn zone_of_file(
@@ -44,9 +38,6 @@ pub fn zone_of_file(
     ensures zone { IfOk result (IsServedZone apex.now) }
     ensures fault { IfErr result (IsFileFault apex.now) }
 {
-    if bytes.starts_with(&BYTE_ORDER_MARK) {
-        return Err(ZoneFault::ByteOrderMark);
-    }
     let Ok(text) = str::from_utf8(bytes) else {
         return Err(ZoneFault::NotUtf8);
     };

@@ -9,10 +9,10 @@ use crate::settings::{SettingFault, blocklist, network, zone_name};
 use hickory_server::server::{NoKeys, Rules, Server};
 use hickory_server::store::blocklist::BlocklistZoneHandler;
 use hickory_server::zone_handler::Catalog;
-use hickory_server::zone_store::Either;
 use served_zones::chains::{chain, put_chain};
 use served_zones::handler::Handler;
 use served_zones::identifier::identifier;
+use served_zones::parents::alone;
 use served_zones::zones::zone_of_file;
 use std::alloc::{AllocError, Global};
 use std::rc::Rc;
@@ -51,8 +51,8 @@ impl Service {
         ensures rules { self.new.answering.server.rules ≡ self.old.answering.server.rules }
     {
         let apex = zone_name(alloc, name)?;
-        let zone = zone_of_file(alloc, &apex, bytes)?;
-        let chain = chain(alloc, Either::Left(zone), self.list.as_ref())?;
+        let zone = alone(alloc, zone_of_file(alloc, &apex, bytes)?)?;
+        let chain = chain(alloc, zone, self.list.as_ref())?;
         if put_chain(alloc, &mut self.answering.server.catalog, &apex, chain)? {
             Ok(())
         } else {

@@ -2,7 +2,7 @@
 
 use hickory_server::access::{IpNet, IpNetTextError};
 use hickory_server::proto::{Name, NameError};
-use hickory_server::store::blocklist::{AddError, BlocklistZoneHandler};
+use hickory_server::store::blocklist::BlocklistZoneHandler;
 use served_zones::chains::apex;
 use served_zones::identifier::IdentifierFault;
 use served_zones::lists;
@@ -24,9 +24,9 @@ pub enum SettingFault {
     /// A zone file is not taken.
     #[error("{0}")]
     Zone(ZoneFault),
-    /// A list of blocked names is not taken.
-    #[error("{0}")]
-    List(AddError),
+    /// A list of blocked names blocks nothing: it is empty, or another kind of text.
+    #[error("no line of the list gives a name")]
+    NoNames,
     /// A network is none.
     #[error("{0}")]
     Network(IpNetTextError),
@@ -61,15 +61,6 @@ impl From<ZoneFault> for SettingFault {
         match e {
             ZoneFault::Memory => SettingFault::Memory,
             other => SettingFault::Zone(other),
-        }
-    }
-}
-
-impl From<AddError> for SettingFault {
-    fn from(e: AddError) -> SettingFault {
-        match e {
-            AddError::Memory => SettingFault::Memory,
-            other => SettingFault::List(other),
         }
     }
 }
@@ -109,6 +100,8 @@ pub(crate) fn blocklist(
     text: &[u8],
 ) -> Result<Rc<BlocklistZoneHandler>, SettingFault> {
     let mut list = lists::blocklist(alloc)?;
-    lists::add_names(&mut list, text)?;
+    if lists::add_names(alloc, &mut list, text)?.taken() == 0 {
+        return Err(SettingFault::NoNames);
+    }
     Ok(Rc::new(alloc, list)?)
 }
