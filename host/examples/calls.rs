@@ -77,7 +77,7 @@ fn settings() {
     service.add_zone("example.net.", ZONE).unwrap();
     service.answer(&query(b"www.example.net", 1), client(), Transport::Datagram, 1, &mut out).unwrap();
     service.allow_transfer("198.51.100.0/24").unwrap();
-    service.deny_transfer("198.51.100.7").unwrap();
+    service.deny_transfer("192.0.2.9").unwrap();
     service.answer(&query(b"example.com", 252), client(), Transport::Stream, 1, &mut out).unwrap();
     assert_eq!(out[5] & 15, 5);
 }

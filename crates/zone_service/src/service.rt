@@ -51,8 +51,9 @@ impl Service {
         ensures rules { self.new.answering.server.rules ≡ self.old.answering.server.rules }
     {
         let apex = zone_name(alloc, name)?;
-        let zone = alone(alloc, zone_of_file(alloc, &apex, bytes)?)?;
-        let chain = chain(alloc, zone, self.list.as_ref())?;
+        let zone = zone_of_file(alloc, &apex, bytes)?;
+        let handler = alone(alloc, zone)?;
+        let chain = chain(alloc, handler, self.list.as_ref())?;
         if put_chain(alloc, &mut self.answering.server.catalog, &apex, chain)? {
             Ok(())
         } else {
