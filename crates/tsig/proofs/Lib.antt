@@ -2,6 +2,7 @@ mod Appending
 mod HashLengths
 mod Judgements
 mod Replies
+mod Rooms
 mod SameBytes
 mod Signatures
 mod Skips

@@ -92,7 +92,8 @@ authentic keys bytes now n place s j (good key h t e) v is right = (key, h)
 
 -- ---- records that can be written
 
-fields_len : (t : TSIG) → length (tsig_fields t) ≡ 16 + (length t.mac + length t.other)
+-- how many bytes the fields behind the algorithm take
+pub fields_len : (t : TSIG) → length (tsig_fields t) ≡ 16 + (length t.mac + length t.other)
 fields_len t =
     let a : List ℕ = to_be_bytes w16 (t.time / 2 ^ 32) ++ to_be_bytes w32 (t.time % 2 ^ 32) ++ to_be_bytes w16 t.fudge ++ to_be_bytes w16 (length t.mac) in
     let b : List ℕ = to_be_bytes w16 t.oid in

@@ -1,14 +1,15 @@
 //! Laws of signed messages, each the contract of a function with nothing to do.
 
-ghost use Rattle.std.specs.Prelude.{◌≡◌, ◌≤◌, ◌<◌, ◌+◌, ◌^◌, ℕ, List, [], IsTrue, Some, false};
+ghost use Rattle.std.specs.Prelude.{◌≡◌, ◌≤◌, ◌<◌, ◌+◌, ◌^◌, ℕ, List, [], IsTrue, Some, false, length};
 ghost use Rattle.wire_names.specs.serialize.layout.Bytes.{AreBytes};
 ghost use Rattle.wire_messages.specs.declared.rr.record.Record.{Record as AnyRecord};
 ghost use Rattle.wire_messages.specs.declared.rr.tsig.TSIG.{TSIG as Data};
 ghost use Rattle.tsig.specs.Hmac.{mac_len};
 ghost use Rattle.tsig.specs.Judging.{HasKey, Judged};
 ghost use Rattle.tsig.specs.Keys.{key_of};
-ghost use Rattle.tsig.specs.Signing.{Reply, next_of, reply_of};
+ghost use Rattle.tsig.specs.Signing.{HasRoom, Reply, next_of, reply_of, room_of};
 ghost use Rattle.tsig.specs.Verifying.{IsKey, IsWholeMessage, Verifies, VerifiesNext, is_mac_right, request_record, signed_request};
+ghost use Rattle.tsig.specs.declared.judgement.Judgement.{Judgement as AnyJudgement};
 ghost use Rattle.tsig.specs.declared.judgement.Judgement.TheVariants.{Signed};
 ghost use Rattle.tsig.specs.declared.judgement.Verdict.{Verdict as AnyVerdict};
 ghost use Rattle.tsig.specs.declared.judgement.Verdict.TheVariants.{Good};
@@ -35,4 +36,12 @@ pub fn signed_requests_are_good()
     ensures { (keys : List AnyKey) (key : AnyKey) (message : List ℕ) (time fudge now : ℕ) → AreBytes message → IsWholeMessage message → IsKey key → key_of keys key.name ≡ Some key →
         time < 2 ^ 48 → fudge < 2 ^ 16 → time ≤ now + fudge → now ≤ time + fudge → key.shortest ≤ mac_len key.algorithm →
         Judged keys (signed_request key time fudge message) now (Signed (request_record key time fudge message) Good) }
+{}
+
+/// A reply is longer than the message that is signed by the room that `room` tells, and so is each further message of a transfer.
+pub fn replies_take_their_room()
+    ensures first { (keys : List AnyKey) (judgement : AnyJudgement) (message : List ℕ) (now : ℕ) (reply : Reply) → HasRoom message → reply_of keys judgement message now ≡ Some reply →
+        length reply.bytes ≡ length message + room_of keys judgement }
+    ensures next { (keys : List AnyKey) (s : AnyRecord Data) (prior message : List ℕ) (now : ℕ) (reply : Reply) → HasRoom message → next_of keys (Signed s Good) prior message now ≡ Some reply →
+        length reply.bytes ≡ length message + room_of keys (Signed s Good) }
 {}

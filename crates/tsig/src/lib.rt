@@ -22,7 +22,7 @@ pub use judging::{judge, one_judgement};
 pub use key_file::read_keys;
 pub use key_text::{KeyFault, KeyTextError, read_key};
 pub use keys::{Key, Keys, Secret};
-pub use laws::{replies_verify, signed_requests_are_good};
+pub use laws::{replies_take_their_room, replies_verify, signed_requests_are_good};
 pub use macs::{hmac, is_same_mac, mac};
 pub use signer::TsigSigner;
 pub use signing::{SigningError, room, sign, sign_next};
