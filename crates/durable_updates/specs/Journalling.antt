@@ -1,8 +1,12 @@
 -- What becomes of a journal while a request is answered.
-use Rattle.std.specs.Prelude.{◌≡◌, ◌⊎◌, ℕ, true, false, List, [], ◌∷◌, ◌++◌, Result, OnErr, OnOk}
+use Rattle.std.specs.Prelude.{◌≡◌, ◌⊎◌, ◌≤◌, ◌^◌, ℕ, Bool, length, true, false, List, [], ◌∷◌, ◌++◌, Result, OnErr, OnOk}
 use Rattle.update_journal.specs.Frames.{IsBeforeOrAfter}
-use Rattle.update_journal.specs.JournalState.{JournalState}
+use Rattle.update_journal.specs.JournalState.{IsShut, JournalState}
 use Rattle.update_journal.specs.Settled.{IsSettled}
+
+-- The journal takes no entry any more, or this one is too long for it.
+abbrev pub RefusesEntry : {D : Type 0} → (D → Bool) → JournalState D → List ℕ → Type 0
+RefusesEntry is_usable journal entry = IsShut is_usable journal ⊎ (2 ^ 32 ≤ length entry)
 
 module _ {D : Type 0} (seen : D → List ℕ) (may_leave : D → List ℕ → Type 0) where
   -- An entry is added where the answer is Ok, and is then on the disk. After an error the journal is as before, or it is shut, and the entry

@@ -18,7 +18,7 @@ use Rattle.update_journal.specs.Recovery.{Recovers}
 use Rattle.update_journal.specs.declared.reading.Recovered.{Recovered}
 use Rattle.update_journal.specs.declared.error.JournalError.{JournalError}
 use Rattle.durable_updates.specs.DurableUpdates.{AnswersDurably}
-use Rattle.durable_updates.specs.Journalling.{Journals}
+use Rattle.durable_updates.specs.Journalling.{Journals, RefusesEntry}
 use Rattle.durable_updates.specs.Redone.{Makes, Redone}
 
 -- The message of a request is the one that its bytes begin with, as it is of each that `Request::from_bytes` reads.
@@ -75,7 +75,7 @@ pub record Server (V D : Type 0) : Type 0 where
 module _ {V D : Type 0} (by : Ghosts V) (disks : DiskGhosts D) where
   -- A request is answered: the contract of `update_durably`.
   pub record ServesOne (request : ReceivedRequest) (now : ℕ) (answer : Result Bool UpdateFault) (context : Option TSigResponseContext) (old new : Server V D) : Type 0 where
-    pub answers : AnswersDurably by old.zone request now answer context new.zone
+    pub answers : AnswersDurably (RefusesEntry disks.is_usable new.journal request.bytes) by old.zone request now answer context new.zone
     pub made : OnOk answer (Makes (update_of request.message).updates old.zone.zone new.zone.zone)
     pub kept : OnErr answer (new.zone ≡ old.zone)
     pub journals : Journals disks.seen disks.may_leave answer request.bytes old.journal new.journal

@@ -140,7 +140,7 @@ impl<V: Verifier, D: Disk + Drop> ZoneHandler for JournalledZone<V, D> {
 
     ghost nsec3_gives = { λ _ _ _ answer. answer ≡ Skip };
 
-    ghost update_gives = { AnswersDurably V.Verifier };
+    ghost update_gives = { AnswersDurably (Unit {0}) V.Verifier };
 
     fn zone_type(&self) -> ZoneType {
         self.zone.zone_type()

@@ -5,7 +5,7 @@ ghost use Rattle.hickory_base.specs.requests.Updates.{update_of};
 ghost use Rattle.hickory_store.specs.Prescan.{prescan_refusal};
 ghost use Rattle.hickory_store.specs.UpdateAnswers.{told_context};
 ghost use Rattle.durable_updates.specs.DurableUpdates.{AnswersDurably, DoesDurably, IsWriteFault, MakesDurably};
-ghost use Rattle.durable_updates.specs.Journalling.{Journals};
+ghost use Rattle.durable_updates.specs.Journalling.{Journals, RefusesEntry};
 ghost use Rattle.durable_updates.specs.Redone.{Makes};
 
 use hickory_base::errors::UpdateFault;
@@ -25,12 +25,14 @@ fn write<D: Disk>(
 ) -> Result<(), UpdateFault>
     ensures journals { Journals D.seen D.may_leave result request.now.bytes journal.old journal.new }
     ensures clean { D.is_clean journal.new.disk ≡ D.is_clean journal.old.disk }
-    ensures err { IfErr result IsWriteFault }
+    ensures err { IfErr result (IsWriteFault (RefusesEntry D.is_usable journal.new request.now.bytes)) }
 {
     match journal.append(alloc, request.as_slice()) {
         Ok(()) => Ok(()),
         Err(JournalError::Memory) => Err(UpdateFault::Memory),
-        Err(_) => Err(UpdateFault::Code(ResponseCode::SERV_FAIL)),
+        Err(JournalError::Shut) => Err(UpdateFault::Code(ResponseCode::SERV_FAIL)),
+        Err(JournalError::TooLong) => Err(UpdateFault::Code(ResponseCode::SERV_FAIL)),
+        Err(JournalError::Disk(_)) => Err(UpdateFault::Code(ResponseCode::SERV_FAIL)),
     }
 }
 
@@ -43,7 +45,7 @@ fn write_and_do<V: Verifier, D: Disk>(
     request: &Request,
 ) -> Result<bool, UpdateFault>
     requires { prescan_refusal zone.old.zone.origin 1 (update_of request.now.message).updates ≡ None }
-    ensures done { DoesDurably (update_of request.now.message) result zone.old zone.new }
+    ensures done { DoesDurably (RefusesEntry D.is_usable journal.new request.now.bytes) (update_of request.now.message) result zone.old zone.new }
     ensures made { OnOk result (Makes (update_of request.now.message).updates zone.old.zone zone.new.zone) }
     ensures untouched { IfOk result (λ changed. changed ≡ false → zone.new ≡ zone.old) }
     ensures journals { Journals D.seen D.may_leave result request.now.bytes journal.old journal.new }
@@ -66,7 +68,7 @@ fn make<V: Verifier, D: Disk>(
     alloc: Global,
     request: &Request,
 ) -> Result<bool, UpdateFault>
-    ensures done { MakesDurably (update_of request.now.message) result zone.old zone.new }
+    ensures done { MakesDurably (RefusesEntry D.is_usable journal.new request.now.bytes) (update_of request.now.message) result zone.old zone.new }
     ensures made { OnOk result (Makes (update_of request.now.message).updates zone.old.zone zone.new.zone) }
     ensures untouched { IfOk result (λ changed. changed ≡ false → zone.new ≡ zone.old) }
     ensures journals { Journals D.seen D.may_leave result request.now.bytes journal.old journal.new }
@@ -97,8 +99,8 @@ fn told_context(
 /// Makes the update that a request asks for (RFC 2136 section 3), once its bytes are on the disk. `now` is in seconds since 1970.
 ///
 /// First it is judged as `SqliteZoneHandler::update` judges it; a request that is refused is not written. With an answer of `Ok` its
-/// bytes are an entry of the journal. Where the journal refuses them, the answer is ServFail, and the zone is as before. A
-/// journal in which a write has failed, or whose last entry was not done for want of memory, is shut: every update is ServFail
+/// bytes are an entry of the journal. Where the journal refuses them, as it takes no entry or they are 2^32 or more, the answer
+/// is ServFail, and the zone is as before. A journal in which a write has failed, or whose last entry was not done for want of memory, is shut: every update is ServFail
 /// until the zone is recovered from the file. Whatever the answer, a crash leaves the entries from before, with this one or
 /// without. Two syncs.
 pub fn update_durably<V: Verifier, D: Disk>(
@@ -108,7 +110,7 @@ pub fn update_durably<V: Verifier, D: Disk>(
     request: &Request,
     now: u64,
 ) -> (Result<bool, UpdateFault>, Option<TSigResponseContext>)
-    ensures answers { AnswersDurably V.Verifier zone.old request.now now result.0 result.1 zone.new }
+    ensures answers { AnswersDurably (RefusesEntry D.is_usable journal.new request.now.bytes) V.Verifier zone.old request.now now result.0 result.1 zone.new }
     ensures made { OnOk result.0 (Makes (update_of request.now.message).updates zone.old.zone zone.new.zone) }
     ensures kept { OnErr result.0 (zone.new ≡ zone.old) }
     ensures journals { Journals D.seen D.may_leave result.0 request.now.bytes journal.old journal.new }

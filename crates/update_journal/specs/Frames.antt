@@ -1,5 +1,5 @@
 -- What a journal's file stands for.
-use Rattle.std.specs.Prelude.{◌≡◌, ◌⊎◌, ℕ, ◌<◌, ◌^◌, List, [], ◌∷◌, ◌++◌, length}
+use Rattle.std.specs.Prelude.{◌≡◌, ◌⊎◌, ℕ, ◌<◌, ◌≤◌, ◌^◌, List, [], ◌∷◌, ◌++◌, length}
 use Rattle.std.specs.Int.{w32, to_be_bytes}
 
 -- A frame: an open gate, 1, the length of the entry in four bytes, and the entry.
@@ -17,6 +17,10 @@ IsSmall entry = length entry < 2 ^ 32
 abbrev pub AreSmall : List (List ℕ) → Type 0
 AreSmall [] = Unit {0}
 AreSmall (entry ∷ entries) = IsSmall entry × AreSmall entries
+
+-- An entry is too long for its frame, or all together are for a file.
+abbrev pub AreTooLong : List (List ℕ) → Type 0
+AreTooLong entries = AreSmall entries → 2 ^ 60 ≤ length (frames entries)
 
 -- The bytes begin with no whole frame.
 abbrev pub IsEnd : List ℕ → Type 0

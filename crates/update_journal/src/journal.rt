@@ -1,7 +1,7 @@
 //! Adding entries to a journal.
 
-ghost use Rattle.std.specs.Prelude.{◌≡◌, ◌⊎◌, ◌^◌, ◌<◌, ◌++◌, ◌∷◌, [], ℕ, List, length, Err, IfErr, OnOk, IsTrue, IsFalse, true, false};
-ghost use Rattle.update_journal.specs.Frames.{AreSmall, IsBeforeOrAfter, StandsFor};
+ghost use Rattle.std.specs.Prelude.{◌≡◌, ◌⊎◌, ◌^◌, ◌<◌, ◌≤◌, ◌++◌, ◌∷◌, [], ℕ, List, length, Err, IfErr, OnOk, IsTrue, IsFalse, true, false};
+ghost use Rattle.update_journal.specs.Frames.{AreTooLong, IsBeforeOrAfter, StandsFor};
 ghost use Rattle.update_journal.specs.Generations.{IsBeingReplaced, header};
 ghost use Rattle.update_journal.specs.Read.{contents};
 ghost use Rattle.sqlite_disk.specs.Disk.{MoreFaults};
@@ -81,6 +81,7 @@ impl<D: Disk> Journal<D> {
         ensures unwritten { IfErr result (λ e. IsFalse (is_of_disk e) → self.new ≡ self.old) }
         ensures failed { IfErr result (λ e. IsTrue (is_of_disk e) → (self.old.is_open ≡ true) × (self.new.is_open ≡ false) × MoreFaults (D.faults self.old.disk) (D.faults self.new.disk)) }
         ensures shut { result ≡ Err journal_error.Shut → IsShut D.is_usable self.old }
+        ensures too_long { result ≡ Err journal_error.TooLong → 2 ^ 32 ≤ length entry.now }
         ensures clean { D.is_clean self.new.disk ≡ D.is_clean self.old.disk }
         // Whatever the answer, a crash leaves the entries from before, with the new one or without.
         ensures crash { (entries : List (List ℕ)) → IsSettled D.seen D.may_leave self.old entries → (c : List ℕ) → D.may_leave self.new.disk c → IsBeforeOrAfter entries (entry.now ∷ []) c }
@@ -99,6 +100,7 @@ impl<D: Disk> Journal<D> {
         ensures unwritten { IfErr result (λ e. IsFalse (is_of_disk e) → self.new ≡ self.old) }
         ensures failed { IfErr result (λ e. IsTrue (is_of_disk e) → (self.old.is_open ≡ true) × (self.new.is_open ≡ false) × MoreFaults (D.faults self.old.disk) (D.faults self.new.disk)) }
         ensures shut { result ≡ Err journal_error.Shut → IsShut D.is_usable self.old }
+        ensures too_long { result ≡ Err journal_error.TooLong → AreTooLong (contents entries.now) }
         ensures clean { D.is_clean self.new.disk ≡ D.is_clean self.old.disk }
         // Whatever the answer, a crash leaves the entries from before, with all of the new ones or with none.
         ensures crash { (before : List (List ℕ)) → IsSettled D.seen D.may_leave self.old before → (c : List ℕ) → D.may_leave self.new.disk c → IsBeforeOrAfter before (contents entries.now) c }
@@ -182,13 +184,17 @@ impl<D: Disk> Journal<D> {
         ensures unwritten { IfErr result (λ e. IsFalse (is_of_disk e) → self.new ≡ self.old) }
         ensures failed { IfErr result (λ e. IsTrue (is_of_disk e) → (self.old.is_open ≡ true) × (self.new.is_open ≡ false) × MoreFaults (D.faults self.old.disk) (D.faults self.new.disk)) }
         ensures shut { result ≡ Err journal_error.Shut → IsShut D.is_usable self.old }
+        ensures too_long { result ≡ Err journal_error.TooLong → AreTooLong (first.now ∷ contents others.now) }
         ensures clean { D.is_clean self.new.disk ≡ D.is_clean self.old.disk }
         ensures crash { (entries : List (List ℕ)) → IsSettled D.seen D.may_leave self.old entries → (c : List ℕ) → D.may_leave self.new.disk c → IsBeforeOrAfter entries (first.now ∷ contents others.now) c }
     {
         if !self.is_ready() {
             return Err(JournalError::Shut);
         }
-        if first.len() >= 1 << 32 || !are_small(others) {
+        if first.len() >= 1 << 32 {
+            return Err(JournalError::TooLong);
+        }
+        if !are_small(others) {
             return Err(JournalError::TooLong);
         }
         let Ok(bytes) = behind_gate(alloc, first, others) else {

@@ -1,6 +1,6 @@
 //! What is written of entries, and in which order.
 
-ghost use Rattle.std.specs.Prelude.{◌≡◌, ◌⊎◌, ◌^◌, ◌<◌, ◌++◌, ◌∷◌, [], List, ℕ, IfOk, IsErr, IsTrue, OnOk, length};
+ghost use Rattle.std.specs.Prelude.{◌≡◌, ◌⊎◌, ◌^◌, ◌<◌, ◌++◌, ◌∷◌, [], List, ℕ, IfOk, IsErr, IsFalse, IsTrue, OnOk, length};
 ghost use Rattle.std.specs.Int.{w32, to_be_bytes};
 ghost use Rattle.sqlite_disk.specs.Disk.{CountsFault, Follows, Holds, Only, Torn};
 ghost use Rattle.update_journal.specs.Frames.{AreSmall, IsBeforeOrAfter, IsSmall, StandsFor};
@@ -14,6 +14,7 @@ use std::io;
 /// Whether each of these lengths fits in a frame.
 pub(crate) fn are_small(entries: &[Vec<u8>]) -> bool
     ensures small { IsTrue result → AreSmall (contents entries.now) }
+    ensures large { IsFalse result → AreSmall (contents entries.now) → ⊥ }
 {
     let mut rest = entries;
     while let [entry, others @ ..] = rest {

@@ -13,6 +13,9 @@ returns-then-not-is_ready-clause-crash g c = λ entries s file left. inl (rests 
 pub returns-then-first-clause-crash : goal.returns-then-first-clause-crash
 returns-then-first-clause-crash g c = λ entries s file left. inl (rests g.D.Disk.seen g.D.Disk.may_leave c.args.self.now.disk c.args.self.now.end entries s file left)
 
+pub returns-then-not-are_small-clause-crash : goal.returns-then-not-are_small-clause-crash
+returns-then-not-are_small-clause-crash g c = λ entries s file left. inl (rests g.D.Disk.seen g.D.Disk.may_leave c.args.self.now.disk c.args.self.now.end entries s file left)
+
 pub returns-in_default-clause-crash : goal.returns-in_default-clause-crash
 returns-in_default-clause-crash g c = λ entries s file left. inl (rests g.D.Disk.seen g.D.Disk.may_leave c.args.self.now.disk c.args.self.now.end entries s file left)
 
