@@ -1,6 +1,7 @@
 //! A server as C holds it.
 
 ghost use Rattle.std.specs.Prelude.{◌≡◌};
+ghost use Rattle.std.specs.Global.{Global};
 ghost use Rattle.zone_service.specs.declared.service.Service.{Service};
 
 use crate::service::Service;
@@ -13,14 +14,15 @@ use std::ptr::NonNull;
 pub struct Handle {
     at: *mut u8,
     ghost service: { Service },
+    ghost heap: { Global },
 }
 
 impl Model for Handle {
     ghost use Rattle.std.specs.Box.Ownership.{box_owns};
-    ghost use Rattle.libc.specs.Heap.{chunk};
+    ghost use Rattle.std_heap.specs.contracts.GlobalAllocator.TheImpl.{ghosts};
     ghost use Rattle.zone_service.specs.contracts.service.Service.{the_row as service_row};
 
-    ghost also_owns = { λ h. box_owns chunk service_row h.at h.service };
+    ghost also_owns = { λ h. box_owns (ghosts.dealloc_token h.heap) service_row h.at h.service };
 }
 
 impl Handle {

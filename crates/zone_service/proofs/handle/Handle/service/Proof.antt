@@ -37,7 +37,8 @@ use denote.Triple.Table.{entered}
 use denote.Triple.Walked.{says, Stays, stay_dropped, walk_of, ends_at, walked, walk_Meets, Goes-spent_ref}
 use Rattle.core.proofs.alloc.Shapes.{after}
 use Rattle.std_alloc.specs.Box.Ownership.{box_owns}
-use Rattle.libc.specs.Heap.{chunk}
+use Rattle.std_heap.proofs.Handle.{handle}
+use Rattle.std_heap.specs.contracts.GlobalAllocator.TheImpl.{ghosts}
 use Rattle.zone_service.specs.contracts.service.Service as S
 use Rattle.zone_service.specs.contracts.handle.Handle as Hd
 use Rattle.zone_service.specs.declared.handle.Handle.{Handle}
@@ -75,13 +76,13 @@ module _ {M : Type 1} {𝓤 : Ura M} (𝓛 : Logic 𝓤) (at_mem : Memory → SP
 
       -- all of the handle but the service
       abbrev Rest : Fml
-      Rest = fsep (chunk (bare (layout S.the_row)) (block_ptr b o)) (cell_at full_share Hd.the_row.mir (word ∷ []) rb ro)
+      Rest = fsep (ghosts.dealloc_token handle (bare (layout S.the_row)) (block_ptr b o)) (cell_at full_share Hd.the_row.mir (word ∷ []) rb ro)
 
       back : h.at ≡ block_ptr b o → (w : Service) → ent 𝓤 (sep 𝓤 (sem 𝓛 ((mem S.the_row).own_at w b o)) (sem 𝓛 Rest)) (sem 𝓛 ((mem Hd.the_row).own_at (with_service h w) rb ro))
       unfolding part_of
       back at_b w =
           qed 𝓛 (‵ (part_at S.the_row full_share w b o) ∷ ‵ Rest ∷ []) ∵ move ! (1 ∷ []) $ fsplit ! $ move ! (2 ∷ 0 ∷ []) $ fjoin ! $
-          rewrite ! 0 (λ (p : Ptr). ‵ (box_owns chunk S.the_row p w)) (sym at_b) refl $
+          rewrite ! 0 (λ (p : Ptr). ‵ (box_owns (ghosts.dealloc_token handle) S.the_row p w)) (sym at_b) refl $
           nothing ! $ feq_i ! (List Val) (vptr b o ∷ []) (ptr_val h.at ∷ []) (ap (λ (p : Ptr). ptr_val p ∷ []) (sym at_b)) $ fjoin ! $
           feq_i ! (List Val) (word ∷ []) (word ∷ []) refl $ fjoin ! $
           fpack ! (Valss (RawPtr ∷ [])) (within (shape Hd.the_type) (h.at, tt) (word ∷ [])) (vptr b o ∷ [], tt) $ fjoin ! $ move ! (1 ∷ 0 ∷ []) $ fjoin ! $
@@ -105,7 +106,7 @@ module _ {M : Type 1} {𝓤 : Ura M} (𝓛 : Logic 𝓤) (at_mem : Memory → SP
           opens ! tt Hd.the_row {h = h} rb ro (λ vs. move ! (1 ∷ []) $
           -- the handle is taken apart
           fsplit ! $ fpick ! (λ vss. fsplit ! $ feq_l ! (λ ev. fsplit ! $ feq_l ! (λ ep. drop ! $
-          in_a_block ! h.at (λ p. box_owns chunk S.the_row p h.service) (fst∗ 𝓤 (never 𝓤) (sem 𝓛 (chunk (bare (layout S.the_row)) null_ptr))) (λ b o e.
+          in_a_block ! h.at (λ p. box_owns (ghosts.dealloc_token handle) S.the_row p h.service) (fst∗ 𝓤 (never 𝓤) (sem 𝓛 (ghosts.dealloc_token handle (bare (layout S.the_row)) null_ptr))) (λ b o e.
           let is : vs ≡ word b o ∷ [] = subst (λ (p : Ptr). vs ≡ vstruct (of_list (ptr_val p ∷ [])) ∷ []) e (subst (λ (ps : List Val). vs ≡ vstruct (of_list (ps ++ [])) ∷ []) ep ev) in
           fsplit ! $ rewrite ! 2 (λ (us : List Val). ‵ (cell_at full_share Hd.the_row.mir us rb ro)) is refl $
           -- [the service; the right to free it; the handle's cell; the open borrow; obs; auth]
