@@ -49,15 +49,18 @@ fn told<R: Env + Input + Alloc<A = Global>>(rt: &R) -> Result<String, Fault> {
     }
 }
 
-fn main(rt: HostRuntime) -> ExitCode {
-    match told(&rt) {
-        Ok(text) => match print!(rt; "{text}") {
-            Ok(()) => ExitCode::from(0),
-            Err(_) => ExitCode::from(4),
-        },
-        Err(fault) => {
-            let _ = println!(rt; "{fault}");
-            ExitCode::from(fault.status())
-        }
+/// The status of the program, once what it tells is written.
+fn status_of(written: io::Result<()>, status: u8) -> u8 {
+    match written {
+        Ok(()) => status,
+        Err(_) => 4,
     }
+}
+
+fn main(rt: HostRuntime) -> ExitCode {
+    let status = match told(&rt) {
+        Ok(text) => status_of(print!(rt; "{text}"), 0),
+        Err(fault) => status_of(println!(rt; "{fault}"), fault.status()),
+    };
+    ExitCode::from(status)
 }
