@@ -55,7 +55,8 @@ void zone_service_free(zone_service service);
  * is how many they are, 0 after DONE. After these the server is to be freed: a list of networks may be as before or not, and
  * zone_service_add_zone may have let a zone of that name go.
  *
- * zone_service_set_blocklist: the names of a list, a line each; a second list takes the place of the first.
+ * zone_service_set_blocklist: the names that the lines of a list give, in any of the spellings that docs/OPERATORS.md tells, at least one; a
+ *     second list takes the place of the first.
  * zone_service_add_zone: the zone at a name (with or without a dot at its end), from the bytes of its zone file.
  * zone_service_set_allowed, .._denied: a network, as 192.0.2.0/24, whose addresses may use the server, or may not; one more by each call.
  * zone_service_set_transfer_allowed, .._denied: the same for transfers (AXFR, IXFR) by those who may use the server.
