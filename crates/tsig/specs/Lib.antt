@@ -1,0 +1,12 @@
+pub mod ContextSigning
+pub mod Digest
+pub mod Hmac
+pub mod Judging
+pub mod JudgingSteps
+pub mod KeyTexts
+pub mod Keys
+pub mod Reading
+pub mod Signing
+pub mod Standing
+pub mod Validity
+pub mod Verifying

@@ -1,0 +1,155 @@
+//! Keys by their names.
+
+ghost use Rattle.std.specs.Prelude.{◌≡◌, ◌++◌, ◌∷◌, [], ◌↔◌, IsTrue, IfOk, OnOk, OnErr};
+ghost use Rattle.std.specs.Option.{option_copied};
+ghost use Rattle.tsig.specs.Keys.{key_of};
+
+use crate::algorithm::Algorithm;
+use std::alloc::{AllocError, Global};
+use std::marker::Model;
+use wire_names::rr::domain::name::Name;
+
+/// The secret of a key. It has no text form: neither `Debug` nor `Display`, and nothing outside this crate sees its bytes.
+#[derive(Drop)]
+pub struct Secret {
+    bytes: Vec<u8>,
+}
+
+impl Model for Secret {
+    ghost use Rattle.std.specs.Prelude.{List, ℕ};
+
+    ghost Value = { List ℕ };
+
+    ghost view = { λ secret. secret.bytes.items };
+}
+
+impl Secret {
+    /// The secret of these bytes.
+    pub fn new(bytes: Vec<u8>) -> Secret
+        ensures { result ≡ bytes.items }
+    {
+        Secret { bytes }
+    }
+
+    /// Its bytes.
+    pub(crate) fn as_slice(&self) -> &[u8]
+        ensures { result.now ≡ self.now }
+    {
+        self.bytes.as_slice()
+    }
+
+    /// Whether it has no byte.
+    pub fn is_empty(&self) -> bool
+        ensures { IsTrue result ↔ (self.now ≡ []) }
+    {
+        self.bytes.is_empty()
+    }
+
+    /// A copy.
+    fn copied(&self, alloc: Global) -> Result<Secret, AllocError>
+        ensures { IfOk result (λ secret. secret ≡ self.now) }
+    {
+        let bytes = Vec::from_slice(alloc, self.bytes.as_slice())?;
+        Ok(Secret { bytes })
+    }
+}
+
+/// A secret that client and server share, with its name and the one algorithm that it is used with (RFC 8945 section 4.2).
+#[derive(Drop)]
+pub struct Key {
+    /// Its name.
+    pub name: Name,
+    /// Its algorithm.
+    pub algorithm: Algorithm,
+    /// The secret.
+    pub secret: Secret,
+    /// How many bytes a MAC has to have at least, by local policy (RFC 8945 section 5.2.4). What the RFC demands at least
+    /// is demanded anyway.
+    pub shortest: usize,
+}
+
+impl Key {
+    /// A key that takes each MAC that RFC 8945 allows, truncated ones among them.
+    pub fn new(name: Name, algorithm: Algorithm, secret: Secret) -> Key
+        ensures { result ≡ record { name = name; algorithm = algorithm; secret = secret; shortest = 0 } }
+    {
+        Key {
+            name,
+            algorithm,
+            secret,
+            shortest: 0,
+        }
+    }
+
+    /// A copy.
+    fn copied(&self, alloc: Global) -> Result<Key, AllocError>
+        ensures { IfOk result (λ key. key ≡ self.now) }
+    {
+        Ok(Key {
+            name: self.name.clone()?,
+            algorithm: self.algorithm,
+            secret: self.secret.copied(alloc)?,
+            shortest: self.shortest,
+        })
+    }
+}
+
+/// Keys by their names.
+#[derive(Drop)]
+pub struct Keys {
+    keys: Vec<Key>,
+}
+
+impl Model for Keys {
+    ghost use Rattle.std.specs.Prelude.{List};
+    ghost use Rattle.tsig.specs.declared.keys.Key.{Key};
+
+    ghost Value = { List Key };
+
+    ghost view = { λ keys. keys.keys.items };
+}
+
+impl Keys {
+    /// No keys. It needs no memory.
+    pub fn new(alloc: Global) -> Keys
+        ensures { result ≡ [] }
+    {
+        Keys {
+            keys: Vec::new(alloc),
+        }
+    }
+
+    /// Adds a key. Where there is one of its name, that one stays the one that is found.
+    pub fn add(&mut self, key: Key) -> Result<(), AllocError>
+        ensures ok { OnOk result (self.new ≡ self.old ++ key ∷ []) }
+        ensures err { OnErr result (self.new ≡ self.old) }
+    {
+        self.keys.push(key)?;
+        Ok(())
+    }
+
+    /// A copy.
+    pub fn copied(&self, alloc: Global) -> Result<Keys, AllocError>
+        ensures { IfOk result (λ keys. keys ≡ self.now) }
+    {
+        let mut keys = Keys::new(alloc);
+        for key in self.keys.as_slice() {
+            keys.add(key.copied(alloc)?)?;
+        }
+        Ok(keys)
+    }
+
+    /// The key of a name, letter case aside. It looks at each key in turn.
+    pub fn find(&self, name: &Name) -> Option<&Key>
+        ensures { option_copied result ≡ key_of self.now name.now }
+    {
+        let mut rest = self.keys.as_slice();
+        while let [key, others @ ..] = rest {
+            if key.name == *name {
+                return Some(key);
+            }
+            rest = others;
+        }
+        None
+    }
+}
