@@ -34,7 +34,9 @@ fn obey<D: Disk>(alloc: Global, journal: &mut Journal<D>, line: &str) -> Result<
     };
     match words.as_slice() {
         [word] => journal.append(alloc, word),
-        [first, rest @ ..] if first.as_slice() == b"replace".as_slice() => journal.replace(alloc, 7, rest),
+        [first, rest @ ..] if first.as_slice() == b"replace".as_slice() => journal.replace(
+            alloc, 7, rest,
+        ),
         words => journal.append_all(alloc, words),
     }
 }

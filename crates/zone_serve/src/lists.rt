@@ -78,10 +78,14 @@ fn tell_of_skipped<R: Eprint>(rt: &R, file: &str, report: &ListReport) {
             let _ = eprintln!(rt; "zone_serve: {file}: 1 line skipped, which gives no name: {a}");
         }
         [a, b] => {
-            let _ = eprintln!(rt; "zone_serve: {file}: 2 lines skipped, which give no name: {a}, {b}");
+            let _ = eprintln!(rt;
+                "zone_serve: {file}: 2 lines skipped, which give no name: {a}, {b}"
+            );
         }
         [a, b, c, ..] => {
-            let _ = eprintln!(rt; "zone_serve: {file}: {skipped} lines skipped, which give no name, the first: {a}, {b}, {c}");
+            let _ = eprintln!(rt;
+                "zone_serve: {file}: {skipped} lines skipped, which give no name, the first: {a}, {b}, {c}"
+            );
         }
     }
 }
