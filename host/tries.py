@@ -289,7 +289,7 @@ def try_same(zone):
         print("note: nothing is compared with crates/zone_serve, which is not built or not to be used")
         return
     names = ["www.example.com", "WWW.example.COM", "example.com", "no.example.com", "h1.example.com", "large.example.com", "other.org", "a.b.c.example.com"]
-    messages = [query(n, k, payload=p) for n in names for k in (1, 2, 6, 16, 28, 255) for p in (None, 600, 4096)]
+    messages = [query(n, k, payload=p) for n in names for k in (1, 2, 6, 16, 28, 255) for p in (None, 4096)]
     messages += [query("example.com", 251), query("www.example.com", flags=b"\x29\x00"), query("www.example.com", flags=b"\x11\x00"), query("www.example.com", dns_class=3)]
     messages += [query("www.example.com") + b"\0", query("www.example.com")[:-3], b"\x12\x34" + bytes(10), query("example.com", 41)]
 
