@@ -1,7 +1,5 @@
 //! Whole replies: a request is read, its zone found and searched, and the reply made and written.
 
-ghost use Rattle.std.specs.Prelude.{None};
-
 use crate::WRONG;
 use crate::messages::{request, source};
 use crate::reply_sizes::ReplySizes;
@@ -9,36 +7,19 @@ use crate::zone::{updatable_zone, zone};
 use hickory_base::server::{Request, RequestHandler};
 use hickory_base::zone_store::ZoneHandler;
 use hickory_catalog::catalog::Catalog;
-use hickory_catalog::signer::{ReplySigner, SignError};
-use hickory_wire::{Boxed, LowerName, Protocol, Record, TSIG, TSigResponseContext};
+use hickory_server::server::NoKeys;
+use hickory_wire::{LowerName, Protocol};
 use std::alloc::Global;
-
-/// A signer without a key.
-#[derive(Drop)]
-pub(crate) struct NoSigner;
-
-impl ReplySigner for NoSigner {
-    ghost signature_for = { λ _ _ _. None };
-
-    fn sign(
-        &self,
-        _alloc: Global,
-        _context: &TSigResponseContext,
-        _bytes: &[u8],
-    ) -> Result<Boxed<Record<TSIG>>, SignError> {
-        Err(SignError::Failed)
-    }
-}
 
 /// The catalog with one zone, which this handler answers for.
 pub(crate) fn catalog<H: ZoneHandler>(
     alloc: Global,
     origin: LowerName,
     handler: H,
-) -> Option<Catalog<NoSigner, H>> {
+) -> Option<Catalog<NoKeys, H>> {
     let mut chain = Vec::new(alloc);
     chain.push(handler).ok()?;
-    let mut catalog = Catalog::new(alloc, NoSigner);
+    let mut catalog = Catalog::new(alloc, NoKeys);
     match catalog.upsert(origin, chain) {
         Ok(old) => {
             drop(old);
@@ -55,7 +36,7 @@ pub(crate) fn catalog<H: ZoneHandler>(
 #[inline(never)]
 fn measured_answer_request<H: ZoneHandler>(
     alloc: Global,
-    catalog: &mut Catalog<NoSigner, H>,
+    catalog: &mut Catalog<NoKeys, H>,
     sizes: &mut ReplySizes,
     request: &mut Request,
     bytes: &[u8],
@@ -89,7 +70,7 @@ fn answer<H: ZoneHandler>(
 /// The same, by this catalog.
 fn answered<H: ZoneHandler>(
     alloc: Global,
-    catalog: &mut Catalog<NoSigner, H>,
+    catalog: &mut Catalog<NoKeys, H>,
     bytes: &[u8],
     rounds: u64,
 ) -> Option<u64> {

@@ -12,7 +12,6 @@ mod messages;
 mod reply_sizes;
 mod served;
 mod updates;
-mod verifier;
 mod zone;
 mod zones;
 

@@ -1,11 +1,12 @@
 //! Datagrams served as programs serve them: each is read as a request of its own, a zone answers as RFC 1034 says, and the reply is handed on.
 
 use crate::WRONG;
-use crate::answers::{NoSigner, catalog};
+use crate::answers::catalog;
 use crate::messages::source;
 use crate::zone::authoritative_zone;
 use hickory_catalog::catalog::Catalog;
 use hickory_server::access::AccessControl;
+use hickory_server::server::NoKeys;
 use hickory_server::server::serve::{Incoming, Outcome, serve};
 use hickory_wire::{Items, Octets, Protocol};
 use hickory_zone::AuthoritativeZone;
@@ -24,7 +25,7 @@ fn total_len(replies: &Items<Octets>) -> u64 {
 fn served(
     alloc: Global,
     access: &AccessControl,
-    catalog: &mut Catalog<NoSigner, AuthoritativeZone>,
+    catalog: &mut Catalog<NoKeys, AuthoritativeZone>,
     bytes: &[u8],
 ) -> Option<u64> {
     let message = Incoming {
@@ -43,7 +44,7 @@ fn served(
 fn measured_serve(
     alloc: Global,
     access: &AccessControl,
-    catalog: &mut Catalog<NoSigner, AuthoritativeZone>,
+    catalog: &mut Catalog<NoKeys, AuthoritativeZone>,
     bytes: &[u8],
     rounds: u64,
 ) -> Option<u64> {

@@ -1,8 +1,8 @@
 //! Dynamic updates.
 
 use crate::WRONG;
-use crate::verifier::NoKeys;
 use crate::zone::updatable_zone;
+use hickory_server::server::NoKeys;
 use hickory_store::sqlite::SqliteZoneHandler;
 use hickory_wire::{Message, Record};
 use std::alloc::Global;

@@ -1,7 +1,7 @@
 //! Zones of the records of messages.
 
-use crate::verifier::NoKeys;
 use hickory_base::zone_store::{AxfrPolicy, InMemoryZoneHandler, RecordSet, ZoneType};
+use hickory_server::server::NoKeys;
 use hickory_store::sqlite::SqliteZoneHandler;
 use hickory_wire::{LowerName, Message, Record, RrKey};
 use hickory_zone::AuthoritativeZone;

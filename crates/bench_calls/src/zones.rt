@@ -1,9 +1,9 @@
 //! The zone of a name.
 
 use crate::WRONG;
-use crate::answers::NoSigner;
 use hickory_base::zone_store::InMemoryZoneHandler;
 use hickory_catalog::catalog::Catalog;
+use hickory_server::server::NoKeys;
 use hickory_wire::{BinDecoder, LowerName};
 use std::alloc::Global;
 
@@ -16,7 +16,7 @@ pub(crate) fn lower_name(alloc: Global, decoder: &mut BinDecoder<'_>) -> Option<
 /// Puts a zone without handlers, whose name stands at the decoder's place, into a catalog.
 fn put(
     alloc: Global,
-    catalog: &mut Catalog<NoSigner, InMemoryZoneHandler>,
+    catalog: &mut Catalog<NoKeys, InMemoryZoneHandler>,
     decoder: &mut BinDecoder<'_>,
 ) -> Option<()> {
     let name = lower_name(alloc, decoder)?;
@@ -25,8 +25,8 @@ fn put(
 }
 
 /// A catalog with a zone for each of the names that stand in bytes one behind the other. No zone has a handler.
-fn catalog(alloc: Global, names: &[u8]) -> Option<Catalog<NoSigner, InMemoryZoneHandler>> {
-    let mut catalog = Catalog::new(alloc, NoSigner);
+fn catalog(alloc: Global, names: &[u8]) -> Option<Catalog<NoKeys, InMemoryZoneHandler>> {
+    let mut catalog = Catalog::new(alloc, NoKeys);
     let mut decoder = BinDecoder::new(names);
     for _ in 0..names.len() {
         if decoder.index() >= names.len() {
@@ -42,7 +42,7 @@ fn catalog(alloc: Global, names: &[u8]) -> Option<Catalog<NoSigner, InMemoryZone
 
 #[inline(never)]
 fn measured_find_zone(
-    catalog: &Catalog<NoSigner, InMemoryZoneHandler>,
+    catalog: &Catalog<NoKeys, InMemoryZoneHandler>,
     wanted: &LowerName,
     rounds: u64,
 ) -> Option<u64> {

@@ -1,16 +1,21 @@
 -- What a zone that takes updates answers: what `hickory_zone` says of the zone that they leave, as long as each of its owner names may own records of it.
-use Rattle.std.specs.Prelude.{◌≡◌, ◌⊎◌, ℕ, Result, Ok, Err}
+use Rattle.std.specs.Prelude.{◌≡◌, ◌⊎◌, ℕ, Option, Some, None, Result, Ok, Err}
+use Rattle.std.specs.Bool.{MatchBool}
 use Rattle.wire_names.specs.rr.domain.DomainName.{DomainName}
 use Rattle.wire_messages.specs.declared.op.query.Query.{Query}
+use Rattle.wire_messages.specs.declared.rr.tsig.TSigResponseContext.{TSigResponseContext}
 use Rattle.hickory_base.specs.requests.Questions.{one_query}
 use Rattle.hickory_base.specs.requests.Requests.{ReceivedRequest}
 use Rattle.hickory_base.specs.zone_store.Lookups.{Flow}
 use Rattle.hickory_base.specs.zone_store.ZoneAnswers.{MemoryZone}
 use Rattle.hickory_base.specs.declared.errors.LookupError.{LookupError}
-use Rattle.hickory_base.specs.declared.errors.LookupError.TheVariants.{Memory}
+use Rattle.hickory_base.specs.declared.errors.LookupError.TheVariants.{Memory, ResponseCode}
 use Rattle.hickory_base.specs.declared.zone_store.lookup.AuthLookup.{AuthLookup}
 use Rattle.hickory_base.specs.declared.zone_store.lookup.LookupControlFlow.TheVariants.{Break, Continue}
-use Rattle.hickory_zone.specs.Handled.{IsLookedUp, StandsFor}
+use Rattle.hickory_base.specs.declared.zone_store.lookup.ZoneTransfer.{ZoneTransfer}
+use Rattle.hickory_store.specs.Permission.{Permission}
+use Rattle.hickory_store.specs.TransferAnswers.{TransferredAs}
+use Rattle.hickory_zone.specs.Handled.{IsLookedUp, StandsFor, names_zone}
 use Rattle.hickory_zone.specs.Replies.{zone_of}
 use Rattle.hickory_zone.specs.Zones.{AreOwners}
 
@@ -32,3 +37,12 @@ Searched zone request answer = SearchedFor zone (one_query request.message.queri
 
 abbrev pub LookedUp : MemoryZone → DomainName → ℕ → Flow → Type 0
 LookedUp zone name t answer = (result : _) × (IsFound zone name t result ⊎ (result ≡ Err Memory)) × (answer ≡ Continue result)
+
+-- A transfer of the zone is answered as by the handler that takes its updates; of any other name the server holds no zone: NOTAUTH, which is 9 (RFC 5936
+-- section 2.2.1).
+abbrev pub TransferredFor : MemoryZone → Permission → Result Query LookupError → Option (Result ZoneTransfer LookupError × Option TSigResponseContext) → Type 0
+TransferredFor zone permission (Ok query) answer = MatchBool (names_zone (zone_of zone) query) (TransferredAs zone permission answer) (answer ≡ Some (Err (ResponseCode 9), None))
+TransferredFor zone permission (Err e) answer = answer ≡ Some (Err e, None)
+
+abbrev pub TransferAnswered : MemoryZone → Permission → ReceivedRequest → Option (Result ZoneTransfer LookupError × Option TSigResponseContext) → Type 0
+TransferAnswered zone permission request answer = TransferredFor zone permission (one_query request.message.queries.queries) answer

@@ -5,12 +5,11 @@ ghost use Rattle.std.specs.Prelude.{◌≡◌, ◌↔◌, ◌⊎◌, Err, IsTrue
 ghost use Rattle.hickory_base.specs.declared.errors.LookupError.TheVariants.{Memory};
 ghost use Rattle.hickory_base.specs.declared.zone_store.lookup.LookupControlFlow.TheVariants.{Skip};
 ghost use Rattle.hickory_store.specs.Permission.{transfer_permission};
-ghost use Rattle.hickory_store.specs.TransferAnswers.{TransferredAs};
 ghost use Rattle.hickory_store.specs.UpdateAnswers.{AnswersUpdate};
 ghost use Rattle.hickory_zone.specs.Features.{AreFeatures};
 ghost use Rattle.hickory_zone.specs.Replies.{zone_of};
 ghost use Rattle.hickory_zone.specs.Zones.{AreOwners};
-ghost use Rattle.dynamic_zone.specs.DynamicZones.{IsAnswered, IsFound, LookedUp, Searched};
+ghost use Rattle.dynamic_zone.specs.DynamicZones.{IsAnswered, IsFound, LookedUp, Searched, TransferAnswered};
 
 use hickory_base::errors::{LookupError, UpdateFault};
 use hickory_base::server::{Request, RequestInfo};
@@ -21,7 +20,7 @@ use hickory_base::zone_store::{
 use hickory_store::sqlite::{SqliteZoneHandler, Verifier};
 use hickory_wire::{LowerName, LowerQuery, RecordType, ResponseCode, TSigResponseContext};
 use hickory_zone::denials::denial_soa;
-use hickory_zone::handled::{records, whole};
+use hickory_zone::handled::{names_zone, records, whole};
 use hickory_zone::{Features, are_owners, features_of, stored};
 use std::alloc::Global;
 use std::marker::Model;
@@ -130,7 +129,7 @@ impl<V: Verifier> ZoneHandler for DynamicZone<V> {
 
     ghost consult_gives = { λ _ _ _ _ _ last answer context. (answer ≡ last) × (context ≡ None) };
 
-    ghost transfer_gives = { λ handler request _ now answer. TransferredAs handler.zone (transfer_permission V.Verifier handler.verifier handler.axfr_policy request now) answer };
+    ghost transfer_gives = { λ handler request _ now answer. TransferAnswered handler.zone (transfer_permission V.Verifier handler.verifier handler.axfr_policy request now) request answer };
 
     ghost nsec_gives = { λ _ _ _ answer. answer ≡ Skip };
 
@@ -219,7 +218,15 @@ impl<V: Verifier> ZoneHandler for DynamicZone<V> {
             Option<TSigResponseContext>,
         ),
     > {
-        self.updatable.zone_transfer(alloc, request, options, now)
+        let query = match request.request_info() {
+            Ok(info) => info.query,
+            Err(e) => return Some((Err(e), None)),
+        };
+        if names_zone(self.updatable.in_memory().origin(), query) {
+            self.updatable.zone_transfer(alloc, request, options, now)
+        } else {
+            Some((Err(LookupError::ResponseCode(ResponseCode::NOT_AUTH)), None))
+        }
     }
 
     fn nsec_records(

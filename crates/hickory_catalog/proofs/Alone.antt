@@ -20,6 +20,8 @@ use Rattle.hickory_catalog.specs.Queries.{QueryReplies, ZoneReplies, ZoneReply, 
 use Rattle.hickory_catalog.specs.Requests.{RequestAnswered, asks, refused, updates}
 use Rattle.hickory_catalog.specs.Server.{Server}
 use Rattle.hickory_catalog.specs.Updates.{ApexUpdated, FirstUpdated, UpdateReply, answered, no_apex, no_handler, unnamed, updated_zone, zone_of}
+use Rattle.hickory_catalog.specs.WholeTransfers.{ChainTransfers, TransferReplies}
+use Rattle.hickory_catalog.specs.WholeTransfers as whole
 use Rattle.hickory_catalog.specs.Zones.{AreInOrder, ChangesAt}
 use Rattle.hickory_catalog.proofs.Nearest.{MayBy, no_longer, same_length}
 use Rattle.hickory_catalog.proofs.OneAnswer.{one_answer, one_nearest}
@@ -83,6 +85,12 @@ module _ {H : Type 0} (server : Server H) (zones : List (DomainName × List H)) 
   replies_elsewhere replies (one {reply = reply} r is) = one (reply_elsewhere reply r) is
   replies_elsewhere replies (transfer a b c) = transfer a b c
 
+-- the replies of a chain that gives its zone do not depend on other zones
+transfers_elsewhere : {H : Type 0} (server : Server H) (zones : List (DomainName × List H)) (chain : List H) (request : ReceivedRequest) (edns : Option EdnsFields) (now : ℕ) (replies : List Reply)
+    → ChainTransfers server chain request edns now replies → ChainTransfers (record server { zones = zones }) chain request edns now replies
+transfers_elsewhere server zones chain request edns now replies (whole.nobody a is) = whole.nobody a is
+transfers_elsewhere server zones chain request edns now replies (whole.given a b) = whole.given a b
+
 module _ {H : Type 0} (server : Server H) (key : DomainName) (chain : List H) (sorted : AreInOrder server.zones) (request : ReceivedRequest) (query : Query) (is_query : one_query request.message.queries.queries ≡ Ok query)
     (nearest : IsNearest server.zones (lower_name query.name) (key, chain)) (now : ℕ) where
   query_alone : (edns : Option EdnsFields) (replies : List Reply) → QueryReplies server request edns now replies → QueryReplies (alone server (key, chain)) request edns now replies
@@ -97,6 +105,18 @@ module _ {H : Type 0} (server : Server H) (key : DomainName) (chain : List H) (s
       let by_query = subst (λ (x : Query). ZoneReplies server c request edns now x replies) same r in
       let by_chain = subst (λ (x : List H). ZoneReplies server x request edns now query replies) chains by_query in
       zone is_query (key, near_alone (lower_name query.name) (key, chain) nearest.may_answer) (replies_elsewhere server ((key, chain) ∷ []) chain request edns now query replies by_chain)
+
+  pub transfer_alone : (edns : Option EdnsFields) (replies : List Reply) → TransferReplies server request edns now replies → TransferReplies (alone server (key, chain)) request edns now replies
+  transfer_alone edns replies (whole.other_count e is) = absurd cc
+  transfer_alone edns replies (whole.no_zone {query = q} asked none is) =
+      let same : q ≡ query = cc in
+      absurd (let found = one_answer server.zones (lower_name query.name) None (Some chain) sorted (subst (λ (x : Query). Finds server.zones (lower_name x.name) None) same none) (key, nearest) in cc)
+  transfer_alone edns replies (whole.zone {query = q} {chain = c} asked found r) =
+      let same : q ≡ query = cc in
+      let answers = one_answer server.zones (lower_name query.name) (Some c) (Some chain) sorted (subst (λ (x : Query). Finds server.zones (lower_name x.name) (Some c)) same found) (key, nearest) in
+      let chains : c ≡ chain = cc in
+      let by_chain = subst (λ (x : List H). ChainTransfers server x request edns now replies) chains r in
+      whole.zone is_query (key, near_alone (lower_name query.name) (key, chain) nearest.may_answer) (transfers_elsewhere server ((key, chain) ∷ []) chain request edns now replies by_chain)
 
   -- the zone of just the apex that an update names is this one
   updated_is : (name : DomainName) (z : DomainName × List H) → updated_zone request ≡ Some name → Contains server.zones z → SameName z.0 name → z ≡ (key, chain)

@@ -1,9 +1,16 @@
 -- From what the steps of a query say to what its reply is.
-use Rattle.std.proofs.Common.{◌≡◌, ◌<◌, ℕ, zero, suc, List, [], ◌∷◌, length, get_or, Option, Some, None, Result, Ok, Err, subst, sym, ap, arith}
+use Rattle.std.proofs.Common.{◌≡◌, ◌<◌, ℕ, zero, suc, true, List, [], ◌∷◌, length, get_or, Option, Some, None, Result, Ok, Err, refl, subst, sym, ap, arith}
 use Rattle.std.specs.Option.{option_map}
-use Rattle.std.specs.Prelude.{IfOk, IfErr, IfSome, slice_get}
+use Rattle.std.specs.Prelude.{◌==◌, IfOk, IfErr, IfSome, slice_get}
 use Rattle.wire_names.specs.rr.domain.DomainName.{DomainName}
+use Rattle.wire_messages.specs.op.EdnsFields.{EdnsFields}
+use Rattle.wire_messages.specs.serialize.writing.Reply.{Reply}
+use Rattle.wire_messages.specs.declared.op.query.Query.{Query}
+use Rattle.hickory_base.specs.requests.Requests.{ReceivedRequest}
 use Rattle.hickory_catalog.specs.Find.{Finds}
+use Rattle.hickory_catalog.specs.Queries.{ZoneReplies, one, transfer, untransferred}
+use Rattle.hickory_catalog.specs.Server.{Server}
+use Rattle.hickory_catalog.specs.WholeTransfers.{ChainTransfers, given, nobody}
 
 -- what follows from what is so of an `Ok`
 pub if_ok_map : {T E : Type 0} (r : Result T E) (P Q : T → Type 0) → IfOk r P → ((t : T) → P t → Q t) → IfOk r Q
@@ -38,3 +45,9 @@ pub get_at : {X : Type 0} (xs : List X) (i : ℕ) (x : X) → i < length xs → 
 get_at [] i x lt is = absurd (omega (arith, lt))
 get_at (y ∷ ys) zero x lt is = ap Some (sym is)
 get_at (y ∷ ys) (suc i) x lt is = get_at ys i x (omega (arith, lt)) is
+
+-- the replies to a transfer that is asked for
+pub transferred : {H : Type 0} (server : Server H) (chain : List H) (request : ReceivedRequest) (edns : Option EdnsFields) (now : ℕ) (query : Query) (replies : List Reply) → (query.query_type == 252) ≡ true
+    → ChainTransfers server chain request edns now replies → ZoneReplies server chain request edns now query replies
+transferred server chain request edns now query replies axfr (nobody asked is) = one (untransferred axfr asked refl) is
+transferred server chain request edns now query replies axfr (given asked replied) = transfer axfr asked replied

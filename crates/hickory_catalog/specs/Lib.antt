@@ -20,4 +20,5 @@ pub mod Transcripts
 pub mod TransferLaws
 pub mod Transfers
 pub mod Updates
+pub mod WholeTransfers
 pub mod Zones

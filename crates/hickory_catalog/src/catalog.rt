@@ -7,10 +7,12 @@ ghost use Rattle.wire_messages.specs.serialize.writing.Reply.{Reply};
 ghost use Rattle.hickory_base.specs.responses.Responses.{header_of};
 ghost use Rattle.hickory_catalog.specs.Find.{Finds};
 ghost use Rattle.hickory_catalog.specs.Queries.{QueryAnswered};
+ghost use Rattle.hickory_catalog.specs.ReplyEdns.{reply_edns};
 ghost use Rattle.hickory_catalog.specs.Requests.{BelongsTo, RequestAnswered, RequestLeaves};
 ghost use Rattle.hickory_catalog.specs.Sending.{IsUntouched, Sends, SendsInOrder};
 ghost use Rattle.hickory_catalog.specs.Server.{server_of};
 ghost use Rattle.hickory_catalog.specs.Updates.{UpdateAnswered, UpdateLeaves};
+ghost use Rattle.hickory_catalog.specs.WholeTransfers.{TransferReplies};
 ghost use Rattle.hickory_catalog.specs.Zones.{AreInOrder, ChangesAt, HasZone};
 
 use crate::edns::{cloned, reply_edns};
@@ -19,6 +21,7 @@ use crate::requests::request_fault;
 use crate::sending::send_error;
 use crate::signer::ReplySigner;
 use crate::updates::answer_update;
+use crate::whole_transfers::answer_by_transfer;
 use crate::zones::Zones;
 use hickory_base::errors::CatalogError;
 use hickory_base::server::{Request, RequestHandler, ResponseHandler, ResponseInfo};
@@ -151,6 +154,28 @@ impl<S: ReplySigner, H: ZoneHandler> Catalog<S, H> {
     {
         let mut edns = cloned(edns)?;
         answer_query(self, alloc, request, &mut edns, now, sink)
+    }
+
+    /// Answers a query by a transfer of the whole zone of its name, whatever type it asks for, as `handle_request` answers one of type AXFR, and hands
+    /// the sink the replies, which repeat the question as it was asked. So a server answers an IXFR of which it has no increments (RFC 1995
+    /// section 4). QR, opcode and EDNS version of the request are not looked at.
+    ///
+    /// Where there is not just one question the reply is FormErr, where no zone answers for the name Refused, and where no handler gives the transfer
+    /// or says why not ServFail. `Memory` says that no reply was handed over.
+    pub fn transfer<R: ResponseHandler>(
+        &self,
+        alloc: Global,
+        request: &Request,
+        now: u64,
+        sink: &mut R,
+    ) -> Result<ResponseInfo, CatalogError>
+        ensures replied { IfOk result (λ info. (replies : List Reply) ×
+            TransferReplies (server_of H.ZoneHandler S.signature_for self.now) request.now (reply_edns self.now.nsid request.now.message.edns) now replies ×
+            SendsInOrder R.ResponseHandler request.now.message.metadata sink.old sink.new replies (header_of info)) }
+        ensures refused { IfErr result (λ e. (e ≡ CatalogError.Memory) × IsUntouched R.ResponseHandler sink.old sink.new) }
+    {
+        let mut edns = reply_edns(alloc, self.nsid(), request.message().edns.as_ref())?;
+        answer_by_transfer(self, alloc, request, &mut edns, now, sink)
     }
 
     /// Answers a dynamic update (RFC 2136) by the first handler of its zone, and hands the sink one reply, with this EDNS.

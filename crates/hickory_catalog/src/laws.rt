@@ -11,6 +11,7 @@ ghost use Rattle.hickory_catalog.specs.ForwardedLaws.{AuthenticWhereProved, Dnss
 ghost use Rattle.hickory_catalog.specs.OneReply.{OneReply};
 ghost use Rattle.hickory_catalog.specs.Sending.{AreTaken, SendsInOrder};
 ghost use Rattle.hickory_catalog.specs.TransferLaws.{AnswersAreTheTransfer, NoAnswerIsCut, OneWayToRun};
+ghost use Rattle.hickory_catalog.specs.WholeTransfers.{TransferredAlone};
 
 use crate::signer::ReplySigner;
 use hickory_base::server::ResponseHandler;
@@ -76,13 +77,15 @@ pub fn transfers_in_several_replies()
 {}
 
 /// Each zone is served as if it were the only one: a request to it has the replies that it would have there, and leaves it as it would there; any
-/// other request leaves it as it was; no request makes or removes a zone; and of each request it is decided whether it is to a zone.
+/// other request leaves it as it was; no request makes or removes a zone; and of each request it is decided whether it is to a zone. A request that is
+/// answered by the whole zone has the replies that it would have there.
 pub fn zones_apart<S: ReplySigner, H: ZoneHandler>()
     ensures alone { ServedAlone H.ZoneHandler S.signature_for }
     ensures others { OthersStay H.ZoneHandler S.signature_for }
     ensures apexes { ApexesStay H.ZoneHandler S.signature_for }
     ensures one_chain { OneChain H }
     ensures decided { OfZoneIsDecided H }
+    ensures transfers { TransferredAlone H.ZoneHandler S.signature_for }
 {}
 
 /// A sink that counted no failure took all replies that were handed over, in their order, one entry for each.

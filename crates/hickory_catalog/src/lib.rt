@@ -18,4 +18,5 @@ mod stored;
 mod transfer_replies;
 mod transfers;
 mod updates;
+mod whole_transfers;
 pub mod zones;

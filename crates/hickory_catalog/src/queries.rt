@@ -14,6 +14,7 @@ ghost use Rattle.hickory_catalog.specs.Server.{server_of};
 ghost use Rattle.hickory_catalog.specs.Signing.{SignedReply};
 ghost use Rattle.hickory_catalog.specs.Transcripts.{ChainAnswers};
 ghost use Rattle.hickory_catalog.specs.Transfers.{transfer_contents};
+ghost use Rattle.hickory_catalog.specs.WholeTransfers.{ChainTransfers};
 
 use crate::authoritative::authoritative_contents;
 use crate::catalog::Catalog;
@@ -39,18 +40,18 @@ use std::mem;
 
 /// A query of a zone, with what it takes to answer it.
 #[derive(Drop)]
-struct ZoneQuery<'q, S: ReplySigner, H: ZoneHandler> {
+pub(crate) struct ZoneQuery<'q, S: ReplySigner, H: ZoneHandler> {
     /// The catalog, which signs its replies.
-    catalog: &'q Catalog<S, H>,
+    pub(crate) catalog: &'q Catalog<S, H>,
     /// The handlers of the zone.
-    chain: &'q [H],
-    alloc: Global,
+    pub(crate) chain: &'q [H],
+    pub(crate) alloc: Global,
     /// The request.
-    request: &'q Request,
+    pub(crate) request: &'q Request,
     /// Its one question.
-    query: &'q LowerQuery,
+    pub(crate) query: &'q LowerQuery,
     /// The moment of the call, in seconds since 1970.
-    moment: u64,
+    pub(crate) moment: u64,
 }
 
 /// Whether an answer says that memory was refused.
@@ -222,15 +223,14 @@ fn answer_given<S: ReplySigner, R: ResponseHandler>(
     answer_transferred(signer, alloc, request, edns, outcome, context, sink)
 }
 
-/// Answers a transfer of a zone by its handlers, and hands its replies over, with this EDNS.
-fn answer_transfer<S: ReplySigner, H: ZoneHandler, R: ResponseHandler>(
+/// Answers by a transfer of a zone, which its handlers give, and hands the replies over, with this EDNS.
+pub(crate) fn give_transfer<S: ReplySigner, H: ZoneHandler, R: ResponseHandler>(
     asked: &ZoneQuery<'_, S, H>,
     edns: &mut Option<Edns>,
     sink: &mut R,
 ) -> Result<ResponseInfo, CatalogError>
-    requires { (asked.now.query.now.query_type == 252) ≡ true }
     ensures replied { IfOk result (λ info. (replies : List Reply) ×
-        ZoneReplies (server_of H.ZoneHandler S.signature_for asked.now.catalog.now) asked.now.chain.now asked.now.request.now edns.old asked.now.moment asked.now.query.now replies ×
+        ChainTransfers (server_of H.ZoneHandler S.signature_for asked.now.catalog.now) asked.now.chain.now asked.now.request.now edns.old asked.now.moment replies ×
         SendsInOrder R.ResponseHandler asked.now.request.now.message.metadata sink.old sink.new replies (header_of info)) }
     ensures refused { IfErr result (λ e. (e ≡ CatalogError.Memory) × IsUntouched R.ResponseHandler sink.old sink.new) }
 {
@@ -248,6 +248,21 @@ fn answer_transfer<S: ReplySigner, H: ZoneHandler, R: ResponseHandler>(
             told
         }
     }
+}
+
+/// Answers a transfer of a zone by its handlers, and hands its replies over, with this EDNS.
+fn answer_transfer<S: ReplySigner, H: ZoneHandler, R: ResponseHandler>(
+    asked: &ZoneQuery<'_, S, H>,
+    edns: &mut Option<Edns>,
+    sink: &mut R,
+) -> Result<ResponseInfo, CatalogError>
+    requires { (asked.now.query.now.query_type == 252) ≡ true }
+    ensures replied { IfOk result (λ info. (replies : List Reply) ×
+        ZoneReplies (server_of H.ZoneHandler S.signature_for asked.now.catalog.now) asked.now.chain.now asked.now.request.now edns.old asked.now.moment asked.now.query.now replies ×
+        SendsInOrder R.ResponseHandler asked.now.request.now.message.metadata sink.old sink.new replies (header_of info)) }
+    ensures refused { IfErr result (λ e. (e ≡ CatalogError.Memory) × IsUntouched R.ResponseHandler sink.old sink.new) }
+{
+    give_transfer(asked, edns, sink)
 }
 
 /// Answers to what the chain of a zone answered, whose records may be taken out, and hands the reply over, with this EDNS.

@@ -22,11 +22,12 @@ use Rattle.hickory_catalog.specs.DecodedReplies.{ErrorRepliesFit, RepliesTo, Req
 use Rattle.hickory_catalog.specs.ReplyEdns.{reply_edns, with_high_code}
 use Rattle.hickory_catalog.specs.Server.{Server, server_of}
 use Rattle.hickory_catalog.specs.Signing.{Signer}
+use Rattle.hickory_catalog.specs.WholeTransfers.{TransferredAlone}
 use Rattle.hickory_catalog.specs.Zones.{AreInOrder}
 use Rattle.hickory_catalog.specs.declared.catalog.Catalog.{Catalog}
 use Rattle.hickory_server.specs.Isolation.{IsToZone}
 use Rattle.hickory_server.specs.Ruling.{IsResponse, IsRuling, refusal, truncation, udp_limit}
-use Rattle.hickory_server.specs.ServedBy.{AreSent, IsBounded, RequestServed, ServedBy, refused, truncated, passed, short, response, request}
+use Rattle.hickory_server.specs.ServedBy.{AreSent, IsBounded, RequestServed, ServedBy, refused, truncated, transferred, passed, short, response, request}
 use Rattle.hickory_server.specs.ServedBy as by_rules
 use Rattle.hickory_server.specs.ServedLaws.{IsLetThrough, IsSent, HasNoReply, LetThroughSteps, NoReplyToResponses, OtherZonesStay, ServedAloneBy, WithinBothLimits}
 use Rattle.hickory_server.specs.Serving.{IsRequestOf, Step, handled}
@@ -34,7 +35,7 @@ use Rattle.hickory_server.specs.Serving as without
 use Rattle.hickory_server.specs.declared.server.answer.Answer.{Answer}
 use Rattle.hickory_server.specs.declared.server.answer.Answer.TheVariants as answers
 use Rattle.hickory_server.specs.declared.server.rules.Rules.{Rules}
-use Rattle.hickory_server.specs.declared.server.rules.Ruling.TheVariants.{Pass, Refuse, Truncate}
+use Rattle.hickory_server.specs.declared.server.rules.Ruling.TheVariants.{Pass, Refuse, Transfer, Truncate}
 use Rattle.hickory_server.specs.declared.server.serve.Incoming.{Incoming}
 use Rattle.hickory_server.specs.declared.server.serve.Outcome.{Outcome}
 use Rattle.hickory_server.specs.declared.server.serve.Outcome.TheVariants as outcomes
@@ -43,10 +44,13 @@ use Rattle.hickory_server.proofs.Isolation.{of_zone_too}
 -- what passes is neither refused nor truncated
 not_refused : (rules : Rules) (r : ReceivedRequest) → IsRuling rules r Pass → IsRuling rules r Refuse → ⊥
 not_refused rules r passes (query, is, inl other) = other (passes query is).0
-not_refused rules r passes (query, is, inr (transfer, may_not)) = may_not ((passes query is).1 transfer).0
+not_refused rules r passes (query, is, inr (transfer, may_not)) = may_not ((passes query is).2 transfer).0
 
 not_truncated : (rules : Rules) (r : ReceivedRequest) → IsRuling rules r Pass → IsRuling rules r Truncate → ⊥
-not_truncated rules r passes (query, is, transfer, may, udp) = ((passes query is).1 transfer).1 udp
+not_truncated rules r passes (query, is, class, transfer, may, udp) = ((passes query is).2 transfer).1 udp
+
+not_transferred : (rules : Rules) (r : ReceivedRequest) → IsRuling rules r Pass → IsRuling rules r Transfer → ⊥
+not_transferred rules r passes (query, is, class, incremental, may, stream) = (passes query is).1 incremental
 
 module _ {S H : Type 0} (handler : Ghosts H) (signature_for : S → Signer) where
   pub steps : LetThroughSteps handler signature_for
@@ -62,6 +66,7 @@ module _ {S H : Type 0} (handler : Ghosts H) (signature_for : S → Signer) wher
         → (outcome : Outcome) × Step rules.access (server_of handler signature_for catalog) message outcome zones × IsSent message.protocol (udp_limit rules) outcome answer
     by (refused ruling _ _ _) = absurd (not_refused rules r passes ruling)
     by (truncated ruling _ _ _) = absurd (not_truncated rules r passes ruling)
+    by (transferred ruling _ _ _) = absurd (not_transferred rules r passes ruling)
     by (passed _ answered encodings) = (outcomes.Replies encoded, handled allowed is answered (rw is.protocol_is at encodings) refl, (sent, are, answer_is))
 
   no_reply : (answer : Answer) → answer ≡ answers.Response ⊎ (answer ≡ answers.Unreadable) ⊎ (answer ≡ answers.Denied) → HasNoReply answer
@@ -121,6 +126,7 @@ module _ {S H : Type 0} (handler : Ghosts H) (signature_for : S → Signer) wher
         let here = limited _ (truncation r) bytes m.0 m.1.encoded in
         let there = plain_limit None r.message.edns in
         rw is (omega (arith, here, there), tt)
+    taken rules catalog r now encoded zones udp (transferred (query, is, class, incremental, may, stream) _ _ _) = absurd (stream udp)
     taken rules catalog r now encoded zones udp (passed {replies = replies} _ answered made) = all_take catalog.nsid r replies encoded (fit catalog r now replies zones answered) (rw udp at made)
 
     bounded_both : (rules : Rules) (r : ReceivedRequest) (encoded sent : List (List ℕ)) → AllZip (IsBounded (udp_limit rules)) encoded sent → AllByRecursion (Takes r) encoded
@@ -149,7 +155,7 @@ module _ {S H : Type 0} (handler : Ghosts H) (signature_for : S → Signer) wher
   -- ---- isolation
 
   module _ (same : (bytes : List ℕ) (m n : Message) → Reads bytes m → Reads bytes n → m ≡ n) (no_fault : (bytes : List ℕ) (m : Message) (e : DecodeError) → Reads bytes m → Fault bytes e → ⊥)
-      (served : ServedAlone handler signature_for) (others : OthersStay handler signature_for) (apexes : ApexesStay handler signature_for) (one_chain : OneChain H) (decided : OfZoneIsDecided H) where
+      (served : ServedAlone handler signature_for) (others : OthersStay handler signature_for) (apexes : ApexesStay handler signature_for) (one_chain : OneChain H) (decided : OfZoneIsDecided H) (transfers : TransferredAlone handler signature_for) where
     pub alone : ServedAloneBy handler signature_for
     alone rules catalog message answer after apex chain sorted to (by_rules.denied refuses _ _) = absurd (refuses to.allowed)
     alone rules catalog message answer after apex chain sorted to (short allowed less is kept) =
@@ -166,6 +172,10 @@ module _ {S H : Type 0} (handler : Ghosts H) (signature_for : S → Signer) wher
           → (chain' : List H) × ServedBy rules (record (server_of handler signature_for catalog) { zones = (apex, chain) ∷ [] }) message answer ((apex, chain') ∷ []) × Contains after (apex, chain')
       by (refused ruling made one kept) = (chain, request allowed whole no_response is (refused ruling made one refl) are answer_is, kept_in kept)
       by (truncated ruling made one kept) = (chain, request allowed whole no_response is (truncated ruling made one refl) are answer_is, kept_in kept)
+      by (transferred {replies = replies} ruling replied made kept) =
+          let of_zone = of_zone_too handler signature_for rules.access catalog apex same no_fault served others apexes one_chain decided catalog.zones message r chain is to in
+          let there = transfers catalog r (reply_edns catalog.nsid r.message.edns) message.now replies (apex, chain) sorted of_zone replied in
+          (chain, request allowed whole no_response is (transferred ruling there made refl) are answer_is, kept_in kept)
       by (passed {replies = replies} ruling answered made) =
           let of_zone = of_zone_too handler signature_for rules.access catalog apex same no_fault served others apexes one_chain decided catalog.zones message r chain is to in
           let there = served catalog r message.now replies after (apex, chain) sorted of_zone answered in
@@ -180,5 +190,6 @@ module _ {S H : Type 0} (handler : Ghosts H) (signature_for : S → Signer) wher
       by : RequestServed rules (server_of handler signature_for catalog) r message.now encoded after → Contains after (apex, chain)
       by (refused _ _ _ kept) = subst (λ (zs : List (DomainName × List H)). Contains zs (apex, chain)) (sym kept) among
       by (truncated _ _ _ kept) = subst (λ (zs : List (DomainName × List H)). Contains zs (apex, chain)) (sym kept) among
+      by (transferred _ _ _ kept) = subst (λ (zs : List (DomainName × List H)). Contains zs (apex, chain)) (sym kept) among
       by (passed {replies = replies} _ answered _) =
           others catalog r message.now replies after (apex, chain) among (λ of_zone. other (record { allowed = allowed; request = r; is_request = is; of_zone = of_zone })) answered

@@ -15,7 +15,7 @@ use Rattle.hickory_catalog.specs.ReplyEdns.{reply_edns}
 use Rattle.hickory_catalog.specs.Server.{Server}
 use Rattle.hickory_server.specs.declared.server.rules.Rules.{Rules}
 use Rattle.hickory_server.specs.declared.server.rules.Ruling.{Ruling}
-use Rattle.hickory_server.specs.declared.server.rules.Ruling.TheVariants.{Pass, Refuse, Truncate}
+use Rattle.hickory_server.specs.declared.server.rules.Ruling.TheVariants.{Pass, Refuse, Transfer, Truncate}
 
 -- The message is itself a response: QR is set, the highest bit of its third byte (RFC 1035 section 4.1.1).
 abbrev pub IsResponse : List ℕ → Type 0
@@ -40,17 +40,23 @@ IsOfServedClass query = (query.query_class ≡ 1) ⊎ (query.query_class ≡ 255
 abbrev pub IsTransfer : Query → Type 0
 IsTransfer query = (query.query_type ≡ 252) ⊎ (query.query_type ≡ 251)
 
+-- It asks for what changed in a zone.
+abbrev pub IsIncremental : Query → Type 0
+IsIncremental query = query.query_type ≡ 251
+
 -- Transfers may go to the address that the request came from.
 abbrev pub MayTransfer : Rules → ReceivedRequest → Type 0
 MayTransfer rules request = IsAllowed rules.transfers.deny rules.transfers.allow (socket_ip request.source)
 
 -- What the rules make of a request. A query of a class that is not served, and a transfer to an address that may have none, is refused; any other
--- transfer over UDP is truncated, as it is for TCP (RFC 5936 section 4.2); all else passes.
+-- transfer over UDP is truncated, as it is for TCP (RFC 5936 section 4.2); over a stream a query for what changed in a zone is answered by the whole zone,
+-- since no increments are kept (RFC 1995 section 4); all else passes.
 abbrev pub IsRuling : Rules → ReceivedRequest → Ruling → Type 0
 IsRuling rules request Refuse = (query : Query) × IsQuery request.message query × (¬ (IsOfServedClass query) ⊎ (IsTransfer query × ¬ (MayTransfer rules request)))
-IsRuling rules request Truncate = (query : Query) × IsQuery request.message query × IsTransfer query × MayTransfer rules request × (request.protocol ≡ Udp)
+IsRuling rules request Truncate = (query : Query) × IsQuery request.message query × IsOfServedClass query × IsTransfer query × MayTransfer rules request × (request.protocol ≡ Udp)
+IsRuling rules request Transfer = (query : Query) × IsQuery request.message query × IsOfServedClass query × IsIncremental query × MayTransfer rules request × (request.protocol ≢ Udp)
 IsRuling rules request Pass = (query : Query) → IsQuery request.message query
-    → IsOfServedClass query × (IsTransfer query → MayTransfer rules request × (request.protocol ≢ Udp))
+    → IsOfServedClass query × ¬ (IsIncremental query) × (IsTransfer query → MayTransfer rules request × (request.protocol ≢ Udp))
 
 -- the reply to what is refused: Refused, which is 5, and no records
 abbrev pub refusal : {H : Type 0} → Server H → ReceivedRequest → Reply

@@ -12,14 +12,16 @@ use Rattle.access_control.specs.Access.{IsAllowed}
 use Rattle.hickory_base.specs.requests.RequestReading.{IsFaultOf}
 use Rattle.hickory_base.specs.requests.Requests.{ReceivedRequest}
 use Rattle.hickory_base.specs.responses.EncodingSinks.{IsEncodingOf}
+use Rattle.hickory_catalog.specs.ReplyEdns.{reply_edns}
 use Rattle.hickory_catalog.specs.Requests.{RequestAnswered}
 use Rattle.hickory_catalog.specs.Server.{Server}
+use Rattle.hickory_catalog.specs.WholeTransfers.{TransferReplies}
 use Rattle.hickory_server.specs.Ruling.{IsResponse, IsRuling, refusal, truncation, udp_limit}
 use Rattle.hickory_server.specs.Serving.{IsRequestOf, LeavesUnserved}
 use Rattle.hickory_server.specs.declared.server.answer.Answer.{Answer}
 use Rattle.hickory_server.specs.declared.server.answer.Answer.TheVariants.{Denied, Replies, Response, Unreadable}
 use Rattle.hickory_server.specs.declared.server.rules.Rules.{Rules}
-use Rattle.hickory_server.specs.declared.server.rules.Ruling.TheVariants.{Pass, Refuse, Truncate}
+use Rattle.hickory_server.specs.declared.server.rules.Ruling.TheVariants.{Pass, Refuse, Transfer, Truncate}
 use Rattle.hickory_server.specs.declared.server.serve.Incoming.{Incoming}
 use Rattle.hickory_server.specs.declared.server.serve.ServeError.{ServeError}
 
@@ -38,6 +40,9 @@ pub data RequestServed {H : Type 0} (rules : Rules) (server : Server H) (request
       → encoded ≡ bytes ∷ [] → zones ≡ server.zones → RequestServed rules server request now encoded zones
   truncated : {bytes : List ℕ} → IsRuling rules request Truncate → IsEncodingOf request.protocol (truncation request) bytes
       → encoded ≡ bytes ∷ [] → zones ≡ server.zones → RequestServed rules server request now encoded zones
+  transferred : {replies : List Reply} → IsRuling rules request Transfer
+      → TransferReplies server request (reply_edns server.identifier request.message.edns) now replies
+      → AllZip (IsEncodingOf request.protocol) replies encoded → zones ≡ server.zones → RequestServed rules server request now encoded zones
   passed : {replies : List Reply} → IsRuling rules request Pass → RequestAnswered server request now replies zones
       → AllZip (IsEncodingOf request.protocol) replies encoded → RequestServed rules server request now encoded zones
 

@@ -2,6 +2,7 @@ pub mod Adding
 pub mod FirstBytes
 pub mod Shortening
 pub mod Kept
+pub mod ListReports
 pub mod Listing
 pub mod NamedSets
 pub mod NamesApart

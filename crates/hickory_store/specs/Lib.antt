@@ -9,6 +9,7 @@ pub mod FirstRecords
 pub mod Identity
 pub mod LendingZone
 pub mod ListLines
+pub mod ListReports
 pub mod NameUpdates
 pub mod Permission
 pub mod Prerequisites

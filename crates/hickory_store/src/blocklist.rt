@@ -7,8 +7,11 @@ mod entries;
 mod handler;
 mod lines;
 mod reader;
+mod report;
 
 pub use config::{BlocklistConfig, BlocklistConsultAction};
 pub use config_sameness::{action_comparisons, config_comparisons};
 pub use handler::{AddError, BlocklistZoneHandler};
+pub use lines::ListLine;
 pub use reader::{CountedReader, ListReader};
+pub use report::ListReport;

@@ -43,8 +43,8 @@ fn is_soa(origin: &LowerName, name: &LowerName, record_type: RecordType) -> bool
     origin == name && record_type.value() == RecordType::SOA.value()
 }
 
-/// Whether a question names the zone of this origin.
-fn names_zone(origin: &LowerName, query: &LowerQuery) -> bool
+/// Whether a question names the zone of this origin, by its apex and its class.
+pub fn names_zone(origin: &LowerName, query: &LowerQuery) -> bool
     ensures { (zone : Zone) → zone.origin ≡ origin.now → result ≡ names_zone zone query.now }
 {
     is_class(query.query_class()) && origin == query.name()

@@ -1,9 +1,9 @@
 //! What is printed of messages and records.
 
 use crate::output::Output;
-use hickory_wire::{DecodeError, HeaderCounts, Message, MessageType, Metadata, Record};
+use hickory_wire::{DecodeError, HeaderCounts, Message, Metadata, Record};
 use std::alloc::Global;
-use zone_text::MessageText;
+use zone_text::{FlagsText, MessageText};
 
 /// How replies are printed.
 #[derive(Clone, Copy, PartialEq, Eq)]
@@ -73,24 +73,6 @@ pub fn print_records(out: &mut Output, records: &[Record]) {
     }
 }
 
-/// Puts a word behind a text, if it is so.
-fn put_if(is_so: bool, word: &str, out: &mut Output) {
-    if is_so {
-        out.put(word);
-    }
-}
-
-/// Puts the flags of a header behind a text, each behind a space.
-fn put_flags(metadata: &Metadata, out: &mut Output) {
-    put_if(metadata.message_type == MessageType::Response, " qr", out);
-    put_if(metadata.authoritative, " aa", out);
-    put_if(metadata.truncation, " tc", out);
-    put_if(metadata.recursion_desired, " rd", out);
-    put_if(metadata.recursion_available, " ra", out);
-    put_if(metadata.authentic_data, " ad", out);
-    put_if(metadata.checking_disabled, " cd", out);
-}
-
 /// Puts a header without its counts behind a text.
 pub fn put_metadata(metadata: &Metadata, out: &mut Output) {
     out.put("opcode ");
@@ -100,7 +82,7 @@ pub fn put_metadata(metadata: &Metadata, out: &mut Output) {
     out.put(", id ");
     out.put_value(&metadata.id);
     out.put(", flags");
-    put_flags(metadata, out);
+    out.put_value(&FlagsText { metadata });
     out.put("\n");
 }
 

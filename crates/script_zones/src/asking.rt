@@ -1,20 +1,30 @@
 //! What is asked of the server.
 
+use crate::handler::Handler;
+use crate::sink::ScriptedSink;
 use crate::state::Zones;
 use crate::zones::type_word;
 use hickory_base::errors::CatalogError;
 use hickory_base::server::{Request, RequestHandler, ResponseInfo};
 use hickory_base::zone_store::ZoneHandler;
 use hickory_wire::{Edns, LowerName};
-use script_handlers::handler::Handler;
-use script_handlers::sink::ScriptedSink;
-use script_messages::question::{REPLY_DNSSEC_OK, message};
-use script_messages::requests::received;
 use script_values::fault::Fault;
 use script_values::output::Output;
 use script_values::printing::{print_reply, put_header};
+use script_values::question::{REPLY_DNSSEC_OK, message};
+use script_values::requests::received;
 use script_values::text::lower_name;
 use std::alloc::Global;
+
+/// How `ask` is written.
+pub const ASK_USAGE: &str =
+    "ask HEX, ask NAME TYPE [CLASS] [rd] [cd] [ad] [aa] [ra] [tc] [qr] [do] [edns[=SIZE]] [nsid] [version=N] [id=N] [opcode=N]";
+
+/// How `lookup` is written.
+pub const LOOKUP_USAGE: &str = "lookup HEX, lookup NAME TYPE [.. reply-do]";
+
+/// How `modify` is written.
+pub const MODIFY_USAGE: &str = "modify HEX, modify NAME TYPE [..]";
 
 /// How `find` is written.
 pub const FIND_USAGE: &str = "find NAME";
@@ -99,6 +109,17 @@ enum Asked {
     Update,
 }
 
+impl Asked {
+    /// How the command is written that asks so.
+    fn usage(self) -> &'static str {
+        match self {
+            Asked::Server => ASK_USAGE,
+            Asked::Lookup | Asked::LookupWithDo => LOOKUP_USAGE,
+            Asked::Update => MODIFY_USAGE,
+        }
+    }
+}
+
 /// Hands a request to the lookup of the server, with EDNS that has DO for the reply.
 fn look_up_with_do(
     zones: &Zones,
@@ -146,7 +167,7 @@ fn ask(
     words: &[&str],
     out: &mut Output,
 ) -> Result<(), Fault> {
-    let bytes = message(alloc, words)?;
+    let bytes = message(alloc, words, asked.usage())?;
     let request = received(&zones.messages.settings, alloc, bytes)?;
     answer(zones, alloc, asked, &request, out);
     drop(request);

@@ -1,8 +1,8 @@
 //! The handlers that a command is about.
 
+use crate::handler::Handler;
 use crate::state::Zones;
 use hickory_wire::LowerName;
-use script_handlers::handler::Handler;
 use script_values::fault::Fault;
 use script_values::text::lower_name;
 use std::alloc::Global;

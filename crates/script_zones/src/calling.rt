@@ -2,6 +2,7 @@
 
 use crate::asking::print_calls;
 use crate::begun::last_begun;
+use crate::handler::Handler;
 use crate::state::Zones;
 use hickory_base::errors::{DnsError, LookupError};
 use hickory_base::server::Request;
@@ -10,12 +11,11 @@ use hickory_base::zone_store::{
     ZoneHandler, ZoneTransfer,
 };
 use hickory_wire::{LowerName, RecordType, TSigResponseContext};
-use script_handlers::handler::Handler;
-use script_messages::question::message;
-use script_messages::requests::received;
 use script_values::fault::Fault;
 use script_values::output::Output;
 use script_values::printing::print_records;
+use script_values::question::message;
+use script_values::requests::received;
 use script_values::text::lower_name;
 use script_values::words::octets;
 use std::alloc::Global;
@@ -324,7 +324,7 @@ fn make_typed_call(
 /// The bytes of the request for a transfer that words tell: by the name of its zone, or in hex digits, which may be signed.
 fn transfer_bytes(alloc: Global, words: &[&str]) -> Result<Vec<u8>, Fault> {
     match words {
-        [name] => message(alloc, &[name, "AXFR"]),
+        [name] => message(alloc, &[name, "AXFR"], CALL_USAGE),
         ["request", digits @ ..] => octets(alloc, digits),
         _ => Err(Fault::Usage(CALL_USAGE)),
     }
@@ -333,8 +333,8 @@ fn transfer_bytes(alloc: Global, words: &[&str]) -> Result<Vec<u8>, Fault> {
 /// The call with a request that words tell, and the bytes of the request.
 fn request_call(alloc: Global, words: &[&str]) -> Result<Option<(RequestCall, Vec<u8>)>, Fault> {
     Ok(Some(match words {
-        ["search", words @ ..] => (RequestCall::Search, message(alloc, words)?),
-        ["stored", words @ ..] => (RequestCall::Stored, message(alloc, words)?),
+        ["search", words @ ..] => (RequestCall::Search, message(alloc, words, CALL_USAGE)?),
+        ["stored", words @ ..] => (RequestCall::Stored, message(alloc, words, CALL_USAGE)?),
         ["transfer", words @ ..] => (RequestCall::Transfer, transfer_bytes(alloc, words)?),
         _ => return Ok(None),
     }))

@@ -1,16 +1,16 @@
 //! Chains of handlers, and scripted ones.
 
+use crate::handler::{Handler, Source};
+use crate::part::{Answer, Call, Flow, Outcome, Part};
 use crate::state::Zones;
 use crate::zones::{close, zone_type};
 use hickory_base::errors::UpdateFault;
 use hickory_base::zone_store::{AxfrPolicy, NxProofKind, ZoneType};
 use hickory_wire::{CodeTextError, LowerName, Octets, Proof, Record, ResponseCode};
-use script_handlers::handler::{Handler, Source};
-use script_handlers::part::{Answer, Call, Flow, Outcome, Part};
-use script_messages::state::Place;
 use script_values::fault::Fault;
 use script_values::output::Output;
 use script_values::sections::Section;
+use script_values::state::Place;
 use script_values::text::{lower_name, zone_name};
 use script_values::words::setting;
 use std::alloc::Global;

@@ -1,21 +1,22 @@
 //! Lists of blocked names.
 
+use crate::handler::{Handler, Source};
+use crate::pieces::Pieces;
 use crate::state::Zones;
 use crate::zones::close;
 use hickory_base::zone_store::{LookupControlFlow, LookupOptions, ZoneHandler};
 use hickory_store::blocklist::{
     AddError, BlocklistConfig, BlocklistConsultAction, BlocklistZoneHandler, CountedReader,
-    ListReader,
+    ListReader, ListReport,
 };
 use hickory_wire::{Items, LowerName, Octets, RData, RecordType};
-use script_handlers::handler::{Handler, Source};
-use script_handlers::pieces::Pieces;
-use script_messages::state::Place;
 use script_values::fault::Fault;
 use script_values::output::Output;
+use script_values::state::Place;
 use script_values::text::{lower_name, name, require_final_dot};
 use std::alloc::{AllocError, Global};
 use std::net::{Ipv4Addr, Ipv6Addr};
+use std::str;
 use zone_text::read_data;
 
 /// How `blocklist` is written.
@@ -184,10 +185,33 @@ fn add<R: ListReader>(zones: &mut Zones, reader: &mut R) -> Result<(), Fault> {
     list.add(reader).map_err(list_fault)
 }
 
-/// Adds a text to the list that stands last in the chain.
-fn block(zones: &mut Zones, alloc: Global, text: &str) -> Result<(), Fault> {
+/// Tells how many lines of a list were taken, and which were skipped.
+fn tell_lines(alloc: Global, text: &str, out: &mut Output) -> Result<(), Fault> {
+    let report = ListReport::of_text(alloc, text)?;
+    out.put_value(&report);
+    out.put("\n");
+    drop(report);
+    Ok(())
+}
+
+/// Adds bytes to the list that stands last in the chain, and tells what their lines came to.
+fn block_bytes(
+    zones: &mut Zones,
+    alloc: Global,
+    bytes: &[u8],
+    out: &mut Output,
+) -> Result<(), Fault> {
+    add(zones, &mut CountedReader::new(bytes))?;
+    match str::from_utf8(bytes) {
+        Ok(text) => tell_lines(alloc, text, out),
+        Err(_) => Err(Fault::ListNotText),
+    }
+}
+
+/// Adds a text to the list that stands last in the chain, and tells what its lines came to.
+fn block(zones: &mut Zones, alloc: Global, text: &str, out: &mut Output) -> Result<(), Fault> {
     let bytes = text_bytes(alloc, text)?;
-    add(zones, &mut CountedReader::new(bytes.as_slice()))
+    block_bytes(zones, alloc, bytes.as_slice(), out)
 }
 
 /// The text of the pieces before a last word `fails`, if there is one.
@@ -311,7 +335,7 @@ pub fn obey(
         ["block", "pieces", _, ..] => {
             block_pieces(zones, alloc, behind(behind(line, "block"), "pieces"))
         }
-        ["block", ..] => block(zones, alloc, behind(line, "block")),
+        ["block", ..] => block(zones, alloc, behind(line, "block"), out),
         ["entries"] => print_entries(zones, out),
         ["blocked", words @ ..] => print_blocked(zones, alloc, words, out),
         _ => return None,

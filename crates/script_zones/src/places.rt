@@ -1,9 +1,9 @@
 //! The sections that the records that follow are part of.
 
 use crate::state::Zones;
-use script_messages::state::Place;
 use script_values::fault::Fault;
 use script_values::sections::Section;
+use script_values::state::Place;
 
 /// How a section is named.
 pub const SECTION_USAGE: &str = "answers|authorities|soa|additionals";

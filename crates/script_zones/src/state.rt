@@ -1,15 +1,15 @@
 //! What a script has said of zones and of the server so far.
 
+use crate::calls::CallLog;
+use crate::handler::Handler;
+use crate::open_zone::OpenZone;
+use crate::signer::{ScriptedSigner, Signing};
+use crate::sink::Sinking;
 use access_control::AccessControl;
 use hickory_catalog::catalog::Catalog;
 use hickory_wire::LowerName;
-use script_handlers::calls::CallLog;
-use script_handlers::handler::Handler;
-use script_handlers::open_zone::OpenZone;
-use script_handlers::signer::{ScriptedSigner, Signing};
-use script_handlers::sink::Sinking;
-use script_messages::state::Messages;
-use script_messages::updates::Updates;
+use script_values::state::Messages;
+use script_values::updates::Updates;
 use std::alloc::{AllocError, Global};
 use std::collections::BTreeSet;
 

@@ -1,18 +1,18 @@
 //! Zones in memory.
 
 use crate::begun::{chain_of, last_begun};
+use crate::handler::{Handler, Source};
+use crate::open_zone::{OpenZone, accepted};
 use crate::state::Zones;
 use hickory_base::zone_store::{AxfrPolicy, InMemoryZoneHandler, ZoneHandler, ZoneType};
 use hickory_wire::{
     LowerName, Message, MessageType, Metadata, OpCode, Record, RecordType, ReplyParts, RrKey,
     encode_message_parts,
 };
-use script_handlers::handler::{Handler, Source};
-use script_handlers::open_zone::{OpenZone, accepted};
-use script_messages::state::Place;
 use script_values::fault::Fault;
 use script_values::output::Output;
 use script_values::printing::{print_hex, print_records};
+use script_values::state::Place;
 use script_values::text::{lower_name, zone_name};
 use script_values::words::octets;
 use std::alloc::{AllocError, Global};

@@ -1,20 +1,11 @@
 //! Messages from lines.
 
 use crate::fault::Fault;
-use hex::FromHexError;
+use hex_lines::bytes_of;
 use hickory_server::proto::Protocol;
 use hickory_server::server::serve::Incoming;
 use std::alloc::Global;
 use std::net::{IpAddr, SocketAddr};
-
-/// The bytes that hex digits stand for.
-fn bytes(alloc: Global, digits: &str) -> Result<Vec<u8>, Fault> {
-    match hex::decode(alloc, digits.as_bytes()) {
-        Ok(bytes) => Ok(bytes),
-        Err(FromHexError::OutOfMemory) => Err(Fault::Memory),
-        Err(_) => Err(Fault::Line),
-    }
-}
 
 /// The message of a line: the address that it came from, and its bytes in hex digits.
 fn message(alloc: Global, line: &str) -> Result<Incoming, Fault> {
@@ -25,7 +16,7 @@ fn message(alloc: Global, line: &str) -> Result<Incoming, Fault> {
         return Err(Fault::Line);
     };
     Ok(Incoming {
-        bytes: bytes(alloc, digits)?,
+        bytes: bytes_of(alloc, digits.as_bytes())?.ok_or(Fault::Line)?,
         src: SocketAddr::new(address, 53),
         protocol: Protocol::Udp,
         now: 0,

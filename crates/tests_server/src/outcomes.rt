@@ -1,5 +1,6 @@
 //! What became of messages, as lines.
 
+use hex_lines::line_of;
 use hickory_server::proto::Octets;
 use hickory_server::server::serve::Outcome;
 use std::alloc::{AllocError, Global};
@@ -7,9 +8,7 @@ use std::alloc::{AllocError, Global};
 /// Puts a line for each reply behind a text, each whole or not at all.
 fn put_replies(alloc: Global, replies: &[Octets], text: &mut String) -> Result<(), AllocError> {
     for reply in replies {
-        let mut line = hex::encode(alloc, reply.as_slice())?;
-        line.push('\n')?;
-        text.push_str(&line)?;
+        text.push_str(&line_of(alloc, reply.as_slice())?)?;
     }
     Ok(())
 }

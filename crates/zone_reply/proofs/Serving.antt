@@ -16,7 +16,8 @@ use Rattle.hickory_server.specs.declared.server.serve.Outcome.{Outcome}
 use Rattle.hickory_server.specs.declared.server.serve.Outcome.TheVariants.{Replies}
 use Rattle.hickory_server.specs.declared.server.serve.ServeError.{ServeError}
 use Rattle.hickory_server.specs.declared.server.serve.ServeError.TheVariants as serve_error
-use Rattle.zone_reply.specs.Answers.{Becomes, Fails, IsIncoming, IsOpen, IsRefusedMessage, hex_lines}
+use Rattle.hex_lines.specs.Lines.{hex_lines}
+use Rattle.zone_reply.specs.Answers.{Becomes, Fails, IsIncoming, IsOpen, IsRefusedMessage}
 use Rattle.zone_reply.specs.declared.command.Refusal.{Refusal}
 use Rattle.zone_reply.specs.declared.command.Refusal.TheVariants.{Memory, Unreadable}
 

@@ -5,7 +5,8 @@ use Rattle.std.specs.List.{flat_map}
 use Rattle.std.specs.Io.BufRead.{first_line}
 use Rattle.std.specs.declared.net.SocketAddr.{SocketAddr}
 use Rattle.std.specs.declared.net.SocketAddr.TheVariants.{V4}
-use Rattle.hex.specs.Hex.{decode_of, encode_lower}
+use Rattle.hex.specs.Hex.{decode_of}
+use Rattle.hex_lines.specs.Lines.{hex_lines}
 use Rattle.wire_names.specs.rr.domain.DomainName.{DomainName}
 use Rattle.wire_names.specs.declared.error.ProtoError.{ProtoError}
 use Rattle.wire_messages.specs.declared.protocol.Protocol.{Protocol}
@@ -82,14 +83,6 @@ IsRefusedInput NotHex = Unit {0}
 IsRefusedInput Memory = Unit {0}
 IsRefusedInput Usage = ⊥
 IsRefusedInput Unreadable = ⊥
-
--- a line of lower-case hex digits, with its newline
-abbrev pub hex_line : List ℕ → List ℕ
-hex_line bytes = encode_lower bytes ++ 10 ∷ []
-
--- a line for each of some texts
-abbrev pub hex_lines : List (List ℕ) → List ℕ
-hex_lines texts = flat_map hex_line texts
 
 -- The lines are those of the replies that become of the message of the input, over the transport that the arguments name.
 pub record AreReplyLines {H : Type 0} (server : Server H) (arguments : List (List ℕ)) (input : Option (List ℕ)) (lines : List ℕ) (zones : List (DomainName × List H)) : Type 0 where

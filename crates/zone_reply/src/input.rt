@@ -6,7 +6,7 @@ ghost use Rattle.hex.specs.Hex.{decode_of};
 ghost use Rattle.zone_reply.specs.Answers.{IsFirstMessage, IsRefusedInput};
 
 use crate::command::Refusal;
-use hex::FromHexError;
+use hex_lines::bytes_of;
 use std::alloc::Global;
 use std::io::{self, BufRead, BufReader, Read};
 
@@ -49,11 +49,7 @@ fn decode(alloc: Global, line: &[u8]) -> Result<Vec<u8>, Refusal>
     ensures ok { IfOk result (λ bytes. decode_of line.now ≡ Ok bytes.items) }
     ensures err { IfErr result (λ e. IsRefusedInput e) }
 {
-    match hex::decode(alloc, line) {
-        Ok(bytes) => Ok(bytes),
-        Err(FromHexError::OutOfMemory) => Err(Refusal::Memory),
-        Err(_) => Err(Refusal::NotHex),
-    }
+    bytes_of(alloc, line)?.ok_or(Refusal::NotHex)
 }
 
 /// The message that the first line of the input spells in hex digits.

@@ -1,21 +1,23 @@
 //! From arguments and an input to a line of output and a status.
 
-ghost use Rattle.std.specs.Prelude.{◌≡◌, ◌++◌, ◌∷◌, ◌⊎◌, [], ℕ, List, Result, IfOk, IfErr, OnOk, map, string_bytes};
+ghost use Rattle.std.specs.Prelude.{◌≡◌, ◌∷◌, ◌⊎◌, [], ℕ, List, Result, IfOk, IfErr, map, string_bytes};
+ghost use Rattle.hex_lines.specs.Lines.{hex_lines};
 ghost use Rattle.hickory_catalog.specs.Server.{server_of};
 ghost use Rattle.hickory_server.specs.declared.server.serve.Outcome.{Outcome};
 ghost use Rattle.hickory_server.specs.declared.server.serve.Outcome.TheVariants.{Replies};
-ghost use Rattle.zone_reply.specs.Answers.{Becomes, InputLeft, IsAnswer, IsIncoming, IsRefusedMessage, MessageLeft, answer_line, answer_status, hex_line, hex_lines, line_items};
+ghost use Rattle.zone_reply.specs.Answers.{Becomes, InputLeft, IsAnswer, IsIncoming, IsRefusedMessage, MessageLeft, answer_line, answer_status, line_items};
 ghost use Rattle.zone_reply.specs.Command.{IsPrinted};
 ghost use Rattle.zone_reply.specs.declared.command.Refusal.{Refusal};
 ghost use Rattle.zone_reply.specs.declared.command.Refusal.TheVariants.{Memory, Unreadable};
 
 use crate::command::{Command, Refusal, command_of, help_lines, print, version_line};
 use crate::input::message;
+use hex_lines::lines_of;
 use hickory_server::access::AccessControl;
-use hickory_server::proto::{Octets, Protocol};
+use hickory_server::proto::Protocol;
 use hickory_server::server::serve::{Incoming, Outcome, serve_all};
 use hickory_server::zone_handler::{Catalog, ReplySigner, ZoneHandler};
-use std::alloc::{AllocError, Global};
+use std::alloc::Global;
 use std::io::{Read, Write};
 use std::net::{IpAddr, Ipv4Addr, SocketAddr};
 
@@ -29,26 +31,6 @@ fn incoming(protocol: Protocol, bytes: Vec<u8>) -> Incoming
         protocol,
         now: 0,
     }
-}
-
-/// Puts a line of hex digits for some bytes behind others.
-fn put_line(alloc: Global, lines: &mut Vec<u8>, bytes: &[u8]) -> Result<(), AllocError>
-    ensures { OnOk result (lines.new.items ≡ lines.old.items ++ hex_line bytes.now) }
-{
-    lines.extend_from_slice(hex::encode(alloc, bytes)?.as_bytes())?;
-    lines.push(b'\n')?;
-    Ok(())
-}
-
-/// A line of hex digits for each of some texts.
-fn hex_lines(alloc: Global, texts: &[Octets]) -> Result<Vec<u8>, AllocError>
-    ensures { IfOk result (λ lines. lines.items ≡ hex_lines texts.now) }
-{
-    let mut lines = Vec::new(alloc);
-    for bytes in texts {
-        put_line(alloc, &mut lines, bytes.as_slice())?;
-    }
-    Ok(lines)
 }
 
 /// What becomes of the message of these bytes, which comes alone: one outcome. Each address may use the server.
@@ -78,7 +60,7 @@ fn outcome_lines(alloc: Global, outcomes: &[Outcome]) -> Result<Vec<u8>, Refusal
     ensures err { IfErr result (λ e. (e ≡ Memory) ⊎ ((e ≡ Unreadable) × ((encoded : List (List ℕ)) → ¬ (outcomes.now ≡ Replies encoded ∷ [])))) }
 {
     match outcomes {
-        [Outcome::Replies(replies)] => Ok(hex_lines(alloc, replies.as_slice())?),
+        [Outcome::Replies(replies)] => Ok(lines_of(alloc, replies.as_slice())?),
         _ => Err(Refusal::Unreadable),
     }
 }

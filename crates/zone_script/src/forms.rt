@@ -1,21 +1,11 @@
 //! How the commands are written.
 
-use script_messages::encoding::{
-    EDNS_USAGE, EMIT_USAGE, ENCODE_USAGE, OPTION_USAGE, QUESTION_USAGE, REPLY_USAGE, REWRITE_USAGE,
-    SIGNATURE_USAGE, TIMES_USAGE,
-};
-use script_messages::requests::{
-    QUESTIONS_USAGE, REBUILD_USAGE, REFUSE_USAGE, REQUEST_USAGE, RESPOND_USAGE,
-};
-use script_updates::sections::{
-    PREREQUISITE_USAGE, PREREQUISITES_USAGE, PRESCAN_USAGE, UPDATE_USAGE,
-};
-use script_updates::updatable::{
-    EMPTY_USAGE, TRANSFERS_USAGE, UPDATABLE_USAGE, UPDATES_USAGE, VERIFIER_USAGE,
-};
-use script_updates::updating::{APPLY_USAGE, AUTHORIZE_USAGE, SEND_USAGE, UNSIGNED_USAGE};
 use script_values::codes::{
     CLASS_USAGE, FAILURE_USAGE, NSID_USAGE, OPCODE_USAGE, STATUS_USAGE, TYPE_USAGE,
+};
+use script_values::encoding::{
+    EDNS_USAGE, EMIT_USAGE, ENCODE_USAGE, OPTION_USAGE, QUESTION_USAGE, REPLY_USAGE, REWRITE_USAGE,
+    SIGNATURE_USAGE, TIMES_USAGE,
 };
 use script_values::messages::DECODE_USAGE;
 use script_values::names::{
@@ -26,31 +16,31 @@ use script_values::networks::{
 };
 use script_values::output::Output;
 use script_values::records::{RECORD_USAGE, SAME_USAGE};
-use script_zones::asking::FIND_USAGE;
+use script_values::requests::{
+    QUESTIONS_USAGE, REBUILD_USAGE, REFUSE_USAGE, REQUEST_USAGE, RESPOND_USAGE,
+};
+use script_zones::asking::{ASK_USAGE, FIND_USAGE, LOOKUP_USAGE, MODIFY_USAGE};
 use script_zones::calling::CALL_USAGE;
 use script_zones::chains::{ANSWER_USAGE, PART_USAGE, REMOVE_USAGE, SERVE_USAGE, ZONES_USAGE};
 use script_zones::lists::{BLOCK_USAGE, BLOCKED_USAGE, BLOCKLIST_USAGE, ENTRIES_USAGE};
 use script_zones::places::SECTION_USAGE;
+use script_zones::sections::{
+    PREREQUISITE_USAGE, PREREQUISITES_USAGE, PRESCAN_USAGE, UPDATE_USAGE,
+};
 use script_zones::setting::{
     IDENTIFIER_USAGE, NOW_USAGE, PRINTED_USAGE, SINK_USAGE, SOURCE_USAGE, TRANSPORT_USAGE,
 };
 use script_zones::signing::SIGNER_USAGE;
+use script_zones::updatable::{
+    EMPTY_USAGE, TRANSFERS_USAGE, UPDATABLE_USAGE, UPDATES_USAGE, VERIFIER_USAGE,
+};
+use script_zones::updating::{APPLY_USAGE, AUTHORIZE_USAGE, SEND_USAGE, UNSIGNED_USAGE};
 use script_zones::zones::{
     ACCEPTS_USAGE, FILE_USAGE, LOAD_USAGE, MESSAGE_USAGE, SERIAL_USAGE, SHOW_USAGE, ZONE_USAGE,
 };
 
 /// How `help` is written.
 const HELP_USAGE: &str = "help";
-
-/// How `ask` is written.
-const ASK_USAGE: &str =
-    "ask HEX, ask NAME TYPE [CLASS] [rd] [cd] [ad] [aa] [ra] [tc] [qr] [do] [edns[=SIZE]] [nsid] [version=N] [id=N] [opcode=N]";
-
-/// How `lookup` is written.
-const LOOKUP_USAGE: &str = "lookup HEX, lookup NAME TYPE [.. reply-do]";
-
-/// How `modify` is written.
-const MODIFY_USAGE: &str = "modify HEX, modify NAME TYPE [..]";
 
 /// Settings.
 const SETTINGS: &[&str] = &[

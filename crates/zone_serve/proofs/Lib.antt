@@ -1,9 +1,7 @@
-mod Catalogs
-mod Networks
 mod Results
 mod Said
-mod Sent
 mod ServedLines
+mod Servers
 mod Streams
 mod Words
 mod Written

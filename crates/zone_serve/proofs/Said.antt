@@ -53,6 +53,8 @@ pub record Gives (option text : Text) (old new : Settings) : Type 0 where
   pub files : files_of new ≡ files_of old ++ given (codes "--blocklist") option text
   pub allowed : length new.allowed.items ≡ length old.allowed.items + length (given (codes "--allow") option text)
   pub denied : length new.denied.items ≡ length old.denied.items + length (given (codes "--deny") option text)
+  pub transfers_allowed : length new.transfers_allowed.items ≡ length old.transfers_allowed.items + length (given (codes "--allow-transfer") option text)
+  pub transfers_denied : length new.transfers_denied.items ≡ length old.transfers_denied.items + length (given (codes "--deny-transfer") option text)
   pub identifiers : identifiers_of new ≡ identifiers_of old ++ given (codes "--nsid") option text
   pub more_bounds : List ℕ
   pub bounds_are : bounds_of new ≡ bounds_of old ++ more_bounds
@@ -81,9 +83,9 @@ first_bound (Some x) now none = absurd cc
 
 -- What each option gives: one thing more, where nothing else changes.
 module _ (text : Text) (old new : Settings) where
-  pub zone_gives : (zone : ZoneArgument) → IsZoneText text zone → new.zones.items ≡ old.zones.items ++ zone ∷ [] → files_of new ≡ files_of old → new.allowed.items ≡ old.allowed.items
-      → new.denied.items ≡ old.denied.items → identifiers_of new ≡ identifiers_of old → bounds_of new ≡ bounds_of old → Gives (codes "--zone") text old new
-  zone_gives zone spelled is f a d i b = record {
+  pub zone_gives : (zone : ZoneArgument) → IsZoneText text zone → new.zones.items ≡ old.zones.items ++ zone ∷ [] → files_of new ≡ files_of old → new.allowed.items ≡ old.allowed.items → new.denied.items ≡ old.denied.items
+      → new.transfers_allowed.items ≡ old.transfers_allowed.items → new.transfers_denied.items ≡ old.transfers_denied.items → identifiers_of new ≡ identifiers_of old → bounds_of new ≡ bounds_of old → Gives (codes "--zone") text old new
+  zone_gives zone spelled is f a d t u i b = record {
     known = (0, omega arith, refl);
     more_zones = zone ∷ [];
     zones_are = is;
@@ -91,15 +93,17 @@ module _ (text : Text) (old new : Settings) where
     files = kept _ _ f;
     allowed = none_more _ _ a;
     denied = none_more _ _ d;
+    transfers_allowed = none_more _ _ t;
+    transfers_denied = none_more _ _ u;
     identifiers = kept _ _ i;
     more_bounds = [];
     bounds_are = kept _ _ b;
     bounds = tt;
   }
 
-  pub blocklist_gives : files_of new ≡ files_of old ++ text ∷ [] → new.zones.items ≡ old.zones.items → new.allowed.items ≡ old.allowed.items
-      → new.denied.items ≡ old.denied.items → identifiers_of new ≡ identifiers_of old → bounds_of new ≡ bounds_of old → Gives (codes "--blocklist") text old new
-  blocklist_gives is z a d i b = record {
+  pub blocklist_gives : files_of new ≡ files_of old ++ text ∷ [] → new.zones.items ≡ old.zones.items → new.allowed.items ≡ old.allowed.items → new.denied.items ≡ old.denied.items
+      → new.transfers_allowed.items ≡ old.transfers_allowed.items → new.transfers_denied.items ≡ old.transfers_denied.items → identifiers_of new ≡ identifiers_of old → bounds_of new ≡ bounds_of old → Gives (codes "--blocklist") text old new
+  blocklist_gives is z a d t u i b = record {
     known = (1, omega arith, refl);
     more_zones = [];
     zones_are = kept _ _ z;
@@ -107,15 +111,17 @@ module _ (text : Text) (old new : Settings) where
     files = is;
     allowed = none_more _ _ a;
     denied = none_more _ _ d;
+    transfers_allowed = none_more _ _ t;
+    transfers_denied = none_more _ _ u;
     identifiers = kept _ _ i;
     more_bounds = [];
     bounds_are = kept _ _ b;
     bounds = tt;
   }
 
-  pub allow_gives : (network : Network) → new.allowed.items ≡ old.allowed.items ++ network ∷ [] → new.zones.items ≡ old.zones.items → files_of new ≡ files_of old
-      → new.denied.items ≡ old.denied.items → identifiers_of new ≡ identifiers_of old → bounds_of new ≡ bounds_of old → Gives (codes "--allow") text old new
-  allow_gives network is z f d i b = record {
+  pub allow_gives : (network : Network) → new.allowed.items ≡ old.allowed.items ++ network ∷ [] → new.zones.items ≡ old.zones.items → files_of new ≡ files_of old → new.denied.items ≡ old.denied.items
+      → new.transfers_allowed.items ≡ old.transfers_allowed.items → new.transfers_denied.items ≡ old.transfers_denied.items → identifiers_of new ≡ identifiers_of old → bounds_of new ≡ bounds_of old → Gives (codes "--allow") text old new
+  allow_gives network is z f d t u i b = record {
     known = (2, omega arith, refl);
     more_zones = [];
     zones_are = kept _ _ z;
@@ -123,15 +129,17 @@ module _ (text : Text) (old new : Settings) where
     files = kept _ _ f;
     allowed = one_more _ _ network is;
     denied = none_more _ _ d;
+    transfers_allowed = none_more _ _ t;
+    transfers_denied = none_more _ _ u;
     identifiers = kept _ _ i;
     more_bounds = [];
     bounds_are = kept _ _ b;
     bounds = tt;
   }
 
-  pub deny_gives : (network : Network) → new.denied.items ≡ old.denied.items ++ network ∷ [] → new.zones.items ≡ old.zones.items → files_of new ≡ files_of old
-      → new.allowed.items ≡ old.allowed.items → identifiers_of new ≡ identifiers_of old → bounds_of new ≡ bounds_of old → Gives (codes "--deny") text old new
-  deny_gives network is z f a i b = record {
+  pub deny_gives : (network : Network) → new.denied.items ≡ old.denied.items ++ network ∷ [] → new.zones.items ≡ old.zones.items → files_of new ≡ files_of old → new.allowed.items ≡ old.allowed.items
+      → new.transfers_allowed.items ≡ old.transfers_allowed.items → new.transfers_denied.items ≡ old.transfers_denied.items → identifiers_of new ≡ identifiers_of old → bounds_of new ≡ bounds_of old → Gives (codes "--deny") text old new
+  deny_gives network is z f a t u i b = record {
     known = (3, omega arith, refl);
     more_zones = [];
     zones_are = kept _ _ z;
@@ -139,15 +147,17 @@ module _ (text : Text) (old new : Settings) where
     files = kept _ _ f;
     allowed = none_more _ _ a;
     denied = one_more _ _ network is;
+    transfers_allowed = none_more _ _ t;
+    transfers_denied = none_more _ _ u;
     identifiers = kept _ _ i;
     more_bounds = [];
     bounds_are = kept _ _ b;
     bounds = tt;
   }
 
-  pub nsid_gives : identifiers_of new ≡ identifiers_of old ++ text ∷ [] → new.zones.items ≡ old.zones.items → files_of new ≡ files_of old
-      → new.allowed.items ≡ old.allowed.items → new.denied.items ≡ old.denied.items → bounds_of new ≡ bounds_of old → Gives (codes "--nsid") text old new
-  nsid_gives is z f a d b = record {
+  pub allow_transfer_gives : (network : Network) → new.transfers_allowed.items ≡ old.transfers_allowed.items ++ network ∷ [] → new.zones.items ≡ old.zones.items → files_of new ≡ files_of old → new.allowed.items ≡ old.allowed.items
+      → new.denied.items ≡ old.denied.items → new.transfers_denied.items ≡ old.transfers_denied.items → identifiers_of new ≡ identifiers_of old → bounds_of new ≡ bounds_of old → Gives (codes "--allow-transfer") text old new
+  allow_transfer_gives network is z f a d u i b = record {
     known = (4, omega arith, refl);
     more_zones = [];
     zones_are = kept _ _ z;
@@ -155,15 +165,17 @@ module _ (text : Text) (old new : Settings) where
     files = kept _ _ f;
     allowed = none_more _ _ a;
     denied = none_more _ _ d;
-    identifiers = is;
+    transfers_allowed = one_more _ _ network is;
+    transfers_denied = none_more _ _ u;
+    identifiers = kept _ _ i;
     more_bounds = [];
     bounds_are = kept _ _ b;
     bounds = tt;
   }
 
-  pub max_udp_gives : (bound : ℕ) → IsBound text bound → bounds_of new ≡ bounds_of old ++ bound ∷ [] → new.zones.items ≡ old.zones.items → files_of new ≡ files_of old
-      → new.allowed.items ≡ old.allowed.items → new.denied.items ≡ old.denied.items → identifiers_of new ≡ identifiers_of old → Gives (codes "--max-udp") text old new
-  max_udp_gives bound spelled is z f a d i = record {
+  pub deny_transfer_gives : (network : Network) → new.transfers_denied.items ≡ old.transfers_denied.items ++ network ∷ [] → new.zones.items ≡ old.zones.items → files_of new ≡ files_of old → new.allowed.items ≡ old.allowed.items
+      → new.denied.items ≡ old.denied.items → new.transfers_allowed.items ≡ old.transfers_allowed.items → identifiers_of new ≡ identifiers_of old → bounds_of new ≡ bounds_of old → Gives (codes "--deny-transfer") text old new
+  deny_transfer_gives network is z f a d t i b = record {
     known = (5, omega arith, refl);
     more_zones = [];
     zones_are = kept _ _ z;
@@ -171,6 +183,44 @@ module _ (text : Text) (old new : Settings) where
     files = kept _ _ f;
     allowed = none_more _ _ a;
     denied = none_more _ _ d;
+    transfers_allowed = none_more _ _ t;
+    transfers_denied = one_more _ _ network is;
+    identifiers = kept _ _ i;
+    more_bounds = [];
+    bounds_are = kept _ _ b;
+    bounds = tt;
+  }
+
+  pub nsid_gives : identifiers_of new ≡ identifiers_of old ++ text ∷ [] → new.zones.items ≡ old.zones.items → files_of new ≡ files_of old → new.allowed.items ≡ old.allowed.items
+      → new.denied.items ≡ old.denied.items → new.transfers_allowed.items ≡ old.transfers_allowed.items → new.transfers_denied.items ≡ old.transfers_denied.items → bounds_of new ≡ bounds_of old → Gives (codes "--nsid") text old new
+  nsid_gives is z f a d t u b = record {
+    known = (6, omega arith, refl);
+    more_zones = [];
+    zones_are = kept _ _ z;
+    zones = tt;
+    files = kept _ _ f;
+    allowed = none_more _ _ a;
+    denied = none_more _ _ d;
+    transfers_allowed = none_more _ _ t;
+    transfers_denied = none_more _ _ u;
+    identifiers = is;
+    more_bounds = [];
+    bounds_are = kept _ _ b;
+    bounds = tt;
+  }
+
+  pub max_udp_gives : (bound : ℕ) → IsBound text bound → bounds_of new ≡ bounds_of old ++ bound ∷ [] → new.zones.items ≡ old.zones.items → files_of new ≡ files_of old → new.allowed.items ≡ old.allowed.items
+      → new.denied.items ≡ old.denied.items → new.transfers_allowed.items ≡ old.transfers_allowed.items → new.transfers_denied.items ≡ old.transfers_denied.items → identifiers_of new ≡ identifiers_of old → Gives (codes "--max-udp") text old new
+  max_udp_gives bound spelled is z f a d t u i = record {
+    known = (7, omega arith, refl);
+    more_zones = [];
+    zones_are = kept _ _ z;
+    zones = tt;
+    files = kept _ _ f;
+    allowed = none_more _ _ a;
+    denied = none_more _ _ d;
+    transfers_allowed = none_more _ _ t;
+    transfers_denied = none_more _ _ u;
     identifiers = kept _ _ i;
     more_bounds = bound ∷ [];
     bounds_are = is;
@@ -198,6 +248,8 @@ module _ (options : Options) (option text : Text) (old new : Settings) (say : Op
     blocklists = listed (codes "--blocklist") _ _ say.blocklists gives.files;
     allowed = counted (codes "--allow") _ _ say.allowed gives.allowed;
     denied = counted (codes "--deny") _ _ say.denied gives.denied;
+    transfers_allowed = counted (codes "--allow-transfer") _ _ say.transfers_allowed gives.transfers_allowed;
+    transfers_denied = counted (codes "--deny-transfer") _ _ say.transfers_denied gives.transfers_denied;
     identifier = listed (codes "--nsid") _ _ say.identifier gives.identifiers;
     max_udp = zipped IsBound (codes "--max-udp") (bounds_of old) gives.more_bounds (bounds_of new) gives.bounds_are say.max_udp gives.bounds;
   }

@@ -9,7 +9,9 @@ use Rattle.hickory_catalog.specs.Signing.{Signer}
 use Rattle.hickory_catalog.specs.Server.{Server, server_of}
 use Rattle.hickory_base.specs.declared.zone_store.handler.ZoneHandler.{Ghosts}
 use Rattle.zone_serve.specs.Served.{AreLines, LineServed, LinesServed, NextLine, more, none}
-use Rattle.zone_serve.specs.declared.server.Rules.{Rules}
+use Rattle.hickory_server.specs.declared.server.rules.Rules.{Rules}
+use Rattle.hickory_server.specs.declared.server.service.Server as service
+use Rattle.zone_serve.proofs.Servers.{Stays}
 
 -- What was read of a known input is its next line.
 pub next_known : (old new : Option (List ℕ)) (line : List ℕ) (count : ℕ) → ¬ (count ≡ 0) → length line ≡ count → IfSome old (λ xs. line ≡ take_through 10 xs) → DropsThrough old new 10
@@ -33,15 +35,15 @@ pub so_far_none : {H : Type 0} (rules : Rules) (server : Server H) (old held : O
 so_far_none rules server None held = tt
 so_far_none rules server (Some input) held = ([], [], input, refl, refl, none, Appends-nil held)
 
-module _ {S H : Type 0} (handler : Ghosts H) (signature_for : S → Signer) (rules : Rules) (first middle last : Catalog S H)
-    (same : middle ≡ record first { zones = middle.zones }) (old between new held kept after : Option (List ℕ)) where
+module _ {S H : Type 0} (handler : Ghosts H) (signature_for : S → Signer) (first middle last : service.Server S H) (stays : Stays first middle)
+    (old between new held kept after : Option (List ℕ)) where
   -- One more line is served, over the zones as those before it left them.
-  pub so_far_more : (line back : List ℕ) (tells : Bool) → LinesSoFar rules (server_of handler signature_for first) old between held kept middle.zones
-      → IfSome between (λ input. NextLine input (Some line) new) → LineServed rules (server_of handler signature_for middle) line back last.zones tells → Appends kept after back
-      → LinesSoFar rules (server_of handler signature_for first) old new held after last.zones
+  pub so_far_more : (line back : List ℕ) (tells : Bool) → LinesSoFar first.rules (server_of handler signature_for first.catalog) old between held kept middle.catalog.zones
+      → IfSome between (λ input. NextLine input (Some line) new) → LineServed middle.rules (server_of handler signature_for middle.catalog) line back last.catalog.zones tells → Appends kept after back
+      → LinesSoFar first.rules (server_of handler signature_for first.catalog) old new held after last.catalog.zones
   so_far_more line back tells so_far next served appends = by_input old so_far where
-    by_input : (old : Option (List ℕ)) → LinesSoFar rules (server_of handler signature_for first) old between held kept middle.zones
-        → LinesSoFar rules (server_of handler signature_for first) old new held after last.zones
+    by_input : (old : Option (List ℕ)) → LinesSoFar first.rules (server_of handler signature_for first.catalog) old between held kept middle.catalog.zones
+        → LinesSoFar first.rules (server_of handler signature_for first.catalog) old new held after last.catalog.zones
     by_input None before = tt
     by_input (Some input) (lines, written, rest, is, are, before, holds) =
         let (within, line_is, left) = rw is at next in (
@@ -50,16 +52,16 @@ module _ {S H : Type 0} (handler : Ghosts H) (signature_for : S → Signer) (rul
           drop_through 10 rest,
           left,
           lines_more input lines rest line are within line_is,
-          more lines written line back tells before (subst (λ (m : Catalog S H). LineServed rules (server_of handler signature_for m) line back last.zones tells) same served),
+          more lines written line back tells before (subst (λ (m : Catalog S H). LineServed first.rules (server_of handler signature_for m) line back last.catalog.zones tells) stays.others (rw stays.rules at served)),
           Appends-trans held kept after written back holds appends,
         )
 
   -- At the end of the input there is no more.
-  pub so_far_all : LinesSoFar rules (server_of handler signature_for first) old between held kept middle.zones → IfSome between (λ input. NextLine input None new)
-      → IfSome old (λ input. (lines : List (List ℕ)) × (written : List ℕ) × AreLines input lines [] × LinesServed rules (server_of handler signature_for first) lines written middle.zones × Appends held kept written)
+  pub so_far_all : LinesSoFar first.rules (server_of handler signature_for first.catalog) old between held kept middle.catalog.zones → IfSome between (λ input. NextLine input None new)
+      → IfSome old (λ input. (lines : List (List ℕ)) × (written : List ℕ) × AreLines input lines [] × LinesServed first.rules (server_of handler signature_for first.catalog) lines written middle.catalog.zones × Appends held kept written)
   so_far_all so_far next = by_input old so_far where
-    by_input : (old : Option (List ℕ)) → LinesSoFar rules (server_of handler signature_for first) old between held kept middle.zones
-        → IfSome old (λ input. (lines : List (List ℕ)) × (written : List ℕ) × AreLines input lines [] × LinesServed rules (server_of handler signature_for first) lines written middle.zones × Appends held kept written)
+    by_input : (old : Option (List ℕ)) → LinesSoFar first.rules (server_of handler signature_for first.catalog) old between held kept middle.catalog.zones
+        → IfSome old (λ input. (lines : List (List ℕ)) × (written : List ℕ) × AreLines input lines [] × LinesServed first.rules (server_of handler signature_for first.catalog) lines written middle.catalog.zones × Appends held kept written)
     by_input None before = tt
     by_input (Some input) (lines, written, rest, is, are, before, holds) =
         let ended = rw is at next in

@@ -23,7 +23,7 @@ behind name options = map (λ option. option.1) (filter (λ option. pointwise na
 
 -- the names that an option may have
 abbrev pub option_names : List (List ℕ)
-option_names = codes "--zone" ∷ codes "--blocklist" ∷ codes "--allow" ∷ codes "--deny" ∷ codes "--nsid" ∷ codes "--max-udp" ∷ []
+option_names = codes "--zone" ∷ codes "--blocklist" ∷ codes "--allow" ∷ codes "--deny" ∷ codes "--allow-transfer" ∷ codes "--deny-transfer" ∷ codes "--nsid" ∷ codes "--max-udp" ∷ []
 
 -- NAME=FILE: the name stands before the first `=`, 61, and the file behind it.
 pub record IsZoneText (text : List ℕ) (zone : ZoneArgument) : Type 0 where
@@ -60,6 +60,8 @@ pub record OptionsSay (options : Options) (settings : Settings) : Type 0 where
   pub blocklists : files_of settings ≡ behind (codes "--blocklist") options
   pub allowed : length settings.allowed.items ≡ length (behind (codes "--allow") options)
   pub denied : length settings.denied.items ≡ length (behind (codes "--deny") options)
+  pub transfers_allowed : length settings.transfers_allowed.items ≡ length (behind (codes "--allow-transfer") options)
+  pub transfers_denied : length settings.transfers_denied.items ≡ length (behind (codes "--deny-transfer") options)
   pub identifier : identifiers_of settings ≡ behind (codes "--nsid") options
   pub max_udp : AllZip IsBound (behind (codes "--max-udp") options) (bounds_of settings)
 

@@ -9,13 +9,13 @@ use Rattle.wire_messages.specs.declared.protocol.Protocol.TheVariants.{Tcp, Udp}
 use Rattle.wire_names.specs.rr.domain.DomainName.{DomainName}
 use Rattle.hickory_catalog.specs.Server.{Server}
 use Rattle.hickory_server.specs.declared.server.serve.Incoming.{Incoming}
-use Rattle.zone_serve.specs.Answers.{Answered}
+use Rattle.hickory_server.specs.ServedBy.{ServedBy}
 use Rattle.zone_serve.specs.Frames.{AreFrames, IsFrame}
 use Rattle.zone_serve.specs.Lines.{IsLineOf, answer_lines}
-use Rattle.zone_serve.specs.declared.answer.Answer.{Answer}
-use Rattle.zone_serve.specs.declared.answer.Answer.TheVariants.{Replies}
+use Rattle.hickory_server.specs.declared.server.answer.Answer.{Answer}
+use Rattle.hickory_server.specs.declared.server.answer.Answer.TheVariants.{Replies}
 use Rattle.zone_serve.specs.declared.lines.LineMessage.{LineMessage}
-use Rattle.zone_serve.specs.declared.server.Rules.{Rules}
+use Rattle.hickory_server.specs.declared.server.rules.Rules.{Rules}
 
 -- The message came over this transport, from this address, with these bytes, at some moment.
 pub record IsFrom (protocol : Protocol) (address : IpAddr) (bytes : List ℕ) (message : Incoming) : Type 0 where
@@ -28,7 +28,7 @@ pub record DatagramServed {H : Type 0} (rules : Rules) (server : Server H) (addr
   pub message : Incoming
   pub came : IsFrom Udp address datagram message
   pub replies : List (List ℕ)
-  pub answered : Answered rules server message (Replies replies) zones
+  pub answered : ServedBy rules server message (Replies replies) zones
   pub written_is : written ≡ concat replies
 
 -- What becomes of the messages of a stream: each is read behind its length, after those before it, and answered over the zones as they left them;
@@ -38,20 +38,20 @@ pub data StreamServed {H : Type 0} (rules : Rules) (server : Server H) (address 
   more : (read written frame frames : List ℕ) {bytes : List ℕ} {replies : List (List ℕ)} {message : Incoming} {between zones : List (DomainName × List H)}
       → StreamServed rules server address read written between
       → IsFrame frame bytes → IsFrom Tcp address bytes message
-      → Answered rules (record server { zones = between }) message (Replies replies) zones
+      → ServedBy rules (record server { zones = between }) message (Replies replies) zones
       → AreFrames frames replies
       → StreamServed rules server address (read ++ frame) (written ++ frames) zones
 
 -- What becomes of what comes next on a stream: a message, or nothing, at its end.
 abbrev pub NextServed : {H : Type 0} → Rules → Server H → IpAddr → List ℕ → List ℕ → List (DomainName × List H) → Bool → Type 0
 NextServed rules server address read written zones true = (bytes : List ℕ) × IsFrame read bytes × (message : Incoming) × IsFrom Tcp address bytes message
-    × (replies : List (List ℕ)) × Answered rules server message (Replies replies) zones × AreFrames written replies
+    × (replies : List (List ℕ)) × ServedBy rules server message (Replies replies) zones × AreFrames written replies
 NextServed rules server address read written zones false = (read ≡ []) × (written ≡ []) × (zones ≡ server.zones)
 
 -- What becomes of a line: what becomes of the message that it tells is written as lines, or `bad line`, where it tells none.
 abbrev pub LineServed : {H : Type 0} → Rules → Server H → List ℕ → List ℕ → List (DomainName × List H) → Bool → Type 0
 LineServed rules server line written zones true = (told : LineMessage) × IsLineOf line told × (message : Incoming) × IsFrom told.protocol told.address told.bytes.items message
-    × (answer : Answer) × Answered rules server message answer zones × (written ≡ answer_lines answer)
+    × (answer : Answer) × ServedBy rules server message answer zones × (written ≡ answer_lines answer)
 LineServed rules server line written zones false = (written ≡ codes "bad line\n") × (zones ≡ server.zones)
 
 -- What becomes of lines, one after the other, each over the zones as those before it left them.

@@ -98,7 +98,7 @@ pub enum ArgumentFault<'a> {
         /// Which argument it is.
         place: usize,
     },
-    /// A network is wanted behind `--allow` and `--deny`.
+    /// A network is wanted behind `--allow`, `--deny`, `--allow-transfer` and `--deny-transfer`.
     #[error("argument {place}: {fault}")]
     Network {
         /// Which argument it is.
@@ -151,6 +151,10 @@ pub struct Settings<'a> {
     pub allowed: Vec<IpNet>,
     /// The networks that may not.
     pub denied: Vec<IpNet>,
+    /// The networks that may have transfers.
+    pub transfers_allowed: Vec<IpNet>,
+    /// The networks that may not.
+    pub transfers_denied: Vec<IpNet>,
     /// What identifies the server (RFC 5001), with its argument.
     pub identifier: Option<(&'a str, usize)>,
     /// How many bytes a reply over UDP has at most.
@@ -176,7 +180,7 @@ fn wanted_behind(option: &str) -> Option<Wanted> {
     match option {
         "--zone" => Some(Wanted::Zone),
         "--blocklist" => Some(Wanted::File),
-        "--allow" | "--deny" => Some(Wanted::Network),
+        "--allow" | "--deny" | "--allow-transfer" | "--deny-transfer" => Some(Wanted::Network),
         "--nsid" => Some(Wanted::Text),
         "--max-udp" => Some(Wanted::Number),
         _ => None,
@@ -243,6 +247,8 @@ impl<'a> Settings<'a> {
             blocklists: Vec::new(alloc),
             allowed: Vec::new(alloc),
             denied: Vec::new(alloc),
+            transfers_allowed: Vec::new(alloc),
+            transfers_denied: Vec::new(alloc),
             identifier: None,
             max_udp: None,
             mode: Mode::Lines,
@@ -259,6 +265,8 @@ impl<'a> Settings<'a> {
             "--blocklist" => self.blocklists.push(text)?,
             "--allow" => self.allowed.push(network(text, behind)?)?,
             "--deny" => self.denied.push(network(text, behind)?)?,
+            "--allow-transfer" => self.transfers_allowed.push(network(text, behind)?)?,
+            "--deny-transfer" => self.transfers_denied.push(network(text, behind)?)?,
             "--nsid" if self.identifier.is_none() => self.identifier = Some((text, behind)),
             "--max-udp" if self.max_udp.is_none() => self.max_udp = Some(max_udp(text, behind)?),
             "--nsid" | "--max-udp" => return Err(ArgumentFault::Twice { place, option }),

@@ -2,8 +2,7 @@
 
 use crate::frames::StreamFault;
 use crate::lists::ListFault;
-use crate::zones::ZoneFault;
-use hickory_server::server::serve::ServeError;
+use crate::zones::ZoneFileFault;
 use std::alloc::{AllocError, AllocFailed};
 use std::io;
 use thiserror::Error;
@@ -41,7 +40,7 @@ pub enum Fault {
         /// Which file of a zone it is.
         place: usize,
         /// What is wrong with it.
-        fault: ZoneFault,
+        fault: ZoneFileFault,
     },
     /// A list of blocked names is not taken.
     #[error("{fault}")]
@@ -115,13 +114,6 @@ impl From<AllocError> for Fault {
 
 impl<T: Drop> From<AllocFailed<T>> for Fault {
     fn from(_e: AllocFailed<T>) -> Fault {
-        Fault::Memory
-    }
-}
-
-// Nothing is served any more after either.
-impl From<ServeError> for Fault {
-    fn from(_e: ServeError) -> Fault {
         Fault::Memory
     }
 }

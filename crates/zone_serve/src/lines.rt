@@ -4,10 +4,10 @@ ghost use Rattle.std.specs.Prelude.{◌≡◌, ◌++◌, ◌∷◌, [], IfOk, If
 ghost use Rattle.hex.specs.Hex.{decode_of};
 ghost use Rattle.zone_serve.specs.Lines.{AreWords, IsLineOf, IsTransport, hex_line, hex_lines, answer_lines};
 
-use crate::answer::Answer;
 use crate::peer;
 use hex::FromHexError;
 use hickory_server::proto::{Octets, Protocol};
+use hickory_server::server::Answer;
 use std::alloc::{AllocError, Global};
 use std::net::IpAddr;
 use std::str;

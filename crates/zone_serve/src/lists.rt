@@ -1,12 +1,14 @@
 //! The list of blocked names, from its files.
 
+ghost use Rattle.std.specs.Prelude.{◌≡◌, ◌<◌, IfOk};
+ghost use Rattle.name_lists.specs.Adding.{AddsList};
+
 use crate::fault::Fault;
 use crate::files::{FileFault, bytes_of};
-use hickory_server::proto::Name;
-use hickory_server::store::blocklist::{
-    AddError, BlocklistConfig, BlocklistConsultAction, BlocklistZoneHandler, CountedReader,
-};
-use std::alloc::Global;
+use hickory_server::store::blocklist::BlocklistZoneHandler;
+use name_lists::ListReport;
+use served_zones::lists;
+use std::alloc::{AllocError, Global};
 use std::rc::Rc;
 use std::rt::Files;
 use thiserror::Error;
@@ -17,9 +19,9 @@ pub enum ListFault {
     /// Its file cannot be read.
     #[error("{0}")]
     File(FileFault),
-    /// It is no list.
-    #[error("{0}")]
-    List(AddError),
+    /// It blocks nothing: it is empty, or another kind of file.
+    #[error("no line of the list gives a name")]
+    NoNames,
     /// Memory was refused.
     #[error("no memory")]
     Memory,
@@ -34,12 +36,26 @@ impl From<FileFault> for ListFault {
     }
 }
 
-impl From<AddError> for ListFault {
-    fn from(e: AddError) -> ListFault {
-        match e {
-            AddError::Memory => ListFault::Memory,
-            other => ListFault::List(other),
-        }
+impl From<AllocError> for ListFault {
+    fn from(_e: AllocError) -> ListFault {
+        ListFault::Memory
+    }
+}
+
+/// Adds the names that the lines of a text give to those that are blocked, where one gives a name, and tells what became of the lines.
+fn add_text(
+    alloc: Global,
+    list: &mut BlocklistZoneHandler,
+    bytes: &[u8],
+) -> Result<ListReport, ListFault>
+    ensures ok { IfOk result (λ report. AddsList bytes.now list.old.entries list.new.entries report) }
+    ensures some { IfOk result (λ report. 0 < report.taken) }
+{
+    let report = lists::add_names(alloc, list, bytes)?;
+    if report.taken() > 0 {
+        Ok(report)
+    } else {
+        Err(ListFault::NoNames)
     }
 }
 
@@ -48,31 +64,40 @@ fn add_list<R: Files + Alloc<A = Global>>(
     rt: &R,
     list: &mut BlocklistZoneHandler,
     file: &str,
-) -> Result<(), ListFault> {
+) -> Result<ListReport, ListFault> {
     let bytes = bytes_of(rt, file)?;
-    list.add(&mut CountedReader::new(bytes.as_slice()))?;
-    Ok(())
+    add_text(rt.alloc(), list, bytes.as_slice())
 }
 
-/// What is done with blocked names: their addresses are 0.0.0.0 and `::`, whatever their zone has.
-fn blocking() -> BlocklistConfig {
-    let mut config = BlocklistConfig::default();
-    config.consult_action = BlocklistConsultAction::Enforce;
-    config
+/// Tells on the standard error how many lines of a list were skipped, if any were, and the numbers of the first three.
+fn tell_of_skipped<R: Eprint>(rt: &R, file: &str, report: &ListReport) {
+    let skipped = report.skipped();
+    match report.first_skipped() {
+        [] => {}
+        [a] => {
+            let _ = eprintln!(rt; "zone_serve: {file}: 1 line skipped, which gives no name: {a}");
+        }
+        [a, b] => {
+            let _ = eprintln!(rt; "zone_serve: {file}: 2 lines skipped, which give no name: {a}, {b}");
+        }
+        [a, b, c, ..] => {
+            let _ = eprintln!(rt; "zone_serve: {file}: {skipped} lines skipped, which give no name, the first: {a}, {b}, {c}");
+        }
+    }
 }
 
-/// The list with the names of these files, if there are files.
-pub fn blocklist<R: Files + Alloc<A = Global>>(
+/// The list with the names of these files, if there are files. What of them is skipped is told on the standard error.
+pub fn blocklist<R: Files + Eprint + Alloc<A = Global>>(
     rt: &R,
     files: &[&str],
 ) -> Result<Option<Rc<BlocklistZoneHandler>>, Fault> {
     if files.is_empty() {
         return Ok(None);
     }
-    let mut list = BlocklistZoneHandler::new(rt.alloc(), Name::root(), blocking())?;
+    let mut list = lists::blocklist(rt.alloc())?;
     for place in 0..files.len() {
         match add_list(rt, &mut list, files[place]) {
-            Ok(()) => {}
+            Ok(report) => tell_of_skipped(rt, files[place], &report),
             Err(ListFault::Memory) => return Err(Fault::Memory),
             Err(fault) => return Err(Fault::List { place, fault }),
         }

@@ -1,6 +1,6 @@
-//! A server of zones for whoever owns the sockets: `zone_serve [--zone NAME=FILE].. [--blocklist FILE].. [--allow NET].. [--deny NET]..
-//! [--nsid TEXT] [--max-udp N] udp|tcp|lines` answers what the standard input brings on the standard output, and tells on the standard error what
-//! of it was not answered. `zone_serve --version` prints its name and version, and `zone_serve --help` how it is started.
+//! A server of zones for whoever owns the sockets: `zone_serve [--zone NAME=FILE].. [OPTION].. udp|tcp|lines` answers what the standard
+//! input brings on the standard output, and tells on the standard error what of it was not answered. `zone_serve --version` prints its
+//! name and version, and `zone_serve --help` how it is started.
 //!
 //! `udp`: the input is one datagram. `tcp`: it is messages behind their lengths (RFC 1035 section 4.2.2), and each is answered as soon
 //! as it is whole. `lines`: it is lines `udp|tcp ADDRESS HEX`. The status is 0 where all of the input was answered, 1 where some of it
@@ -8,18 +8,14 @@
 //! file is not taken.
 #![tactic(auto)]
 
-ghost use Rattle.std.specs.Prelude.{◌≡◌, IfOk, OnOk, option_map};
-ghost use Rattle.either.specs.declared.Either.TheVariants.{Left};
+ghost use Rattle.std.specs.Prelude.{IfOk, None, OnOk, option_map};
 ghost use Rattle.hickory_base.specs.zone_store.ZoneAnswers.{MemoryZone};
-ghost use Rattle.zone_serve.specs.ServedZones.{IsLoaded, IsServedZone};
+ghost use Rattle.served_zones.specs.ServedZones.{IsLoaded, IsPlaced, IsServedZone};
 
-mod answer;
 mod arguments;
-mod datagrams;
 mod fault;
 mod files;
 mod frames;
-mod handler;
 mod lines;
 mod lists;
 mod peer;
@@ -30,17 +26,19 @@ mod zones;
 use crate::arguments::{ArgumentFault, Mode, Settings, ZoneArgument};
 use crate::fault::Fault;
 use crate::files::bytes_of;
-use crate::handler::Handler;
 use crate::lists::blocklist;
-use crate::server::{Zones, apex, chain, identifier, put_chain, rules_of};
+use crate::server::{apex_of, identifier_of, rules_of};
 use crate::serving::{serve_datagram, serve_lines, serve_stream};
-use crate::zones::{ZoneFault, zone_of_file};
+use crate::zones::ZoneFileFault;
 use hickory_server::VERSION;
 use hickory_server::proto::Name;
-use hickory_server::server::NoKeys;
+use hickory_server::server::{NoKeys, Server};
 use hickory_server::store::blocklist::BlocklistZoneHandler;
 use hickory_server::zone_handler::Catalog;
-use hickory_server::zone_store::Either;
+use served_zones::chains::{chain, put_chain};
+use served_zones::handler::{Handler, Zones};
+use served_zones::parents::{alone, join_parent};
+use served_zones::zones::zone_of_file;
 use std::alloc::Global;
 use std::env::VarError;
 use std::net::{IpAddr, Ipv4Addr};
@@ -89,11 +87,12 @@ fn load_zone<R: Files + Alloc<A = Global>>(
     rt: &R,
     apex: &Name,
     file: &str,
-) -> Result<Handler, ZoneFault>
-    ensures { IfOk result (λ handler. (zone : MemoryZone) × (handler ≡ Left zone) × IsServedZone apex.now zone) }
+) -> Result<Handler, ZoneFileFault>
+    ensures { IfOk result (λ handler. (zone : MemoryZone) × IsPlaced zone None handler × IsServedZone apex.now zone) }
 {
     let bytes = bytes_of(rt, file)?;
-    Ok(Either::Left(zone_of_file(rt.alloc(), apex, &bytes)?))
+    let zone = zone_of_file(rt.alloc(), apex, &bytes)?;
+    Ok(alone(rt.alloc(), zone)?)
 }
 
 /// Puts the zone of an argument into the catalog, the one at this place among the zones, with the list of blocked names behind it.
@@ -106,10 +105,10 @@ fn load<R: Files + Alloc<A = Global>>(
 ) -> Result<(), Fault>
     ensures { OnOk result (IsLoaded (option_map (λ it. it.now.value) list.entry) catalog.old.zones catalog.new.zones) }
 {
-    let apex = apex(rt.alloc(), argument.name, argument.place)?;
+    let apex = apex_of(rt.alloc(), argument.name, argument.place)?;
     let zone = match load_zone(rt, &apex, argument.file) {
         Ok(zone) => zone,
-        Err(ZoneFault::Memory) => return Err(Fault::Memory),
+        Err(ZoneFileFault::Memory) => return Err(Fault::Memory),
         Err(fault) => return Err(Fault::Zone { place, fault }),
     };
     let chain = chain(rt.alloc(), zone, list)?;
@@ -120,7 +119,22 @@ fn load<R: Files + Alloc<A = Global>>(
     }
 }
 
-/// Puts the zones of the arguments into the catalog, each with the list of blocked names behind it.
+/// Puts each zone of the arguments beside the zone above it, if there is one.
+fn join_parents(
+    alloc: Global,
+    catalog: &mut Zones,
+    settings: &Settings<'_>,
+    list: Option<&Rc<BlocklistZoneHandler>>,
+) -> Result<(), Fault> {
+    for place in 0..settings.zones.len() {
+        let argument = settings.zones[place];
+        let apex = apex_of(alloc, argument.name, argument.place)?;
+        join_parent(alloc, catalog, &apex, list)?;
+    }
+    Ok(())
+}
+
+/// Puts the zones of the arguments into the catalog, each beside the zone above it, with the list of blocked names behind them.
 fn load_zones<R: Files + Alloc<A = Global>>(
     rt: &R,
     catalog: &mut Zones,
@@ -130,35 +144,37 @@ fn load_zones<R: Files + Alloc<A = Global>>(
     for place in 0..settings.zones.len() {
         load(rt, catalog, settings.zones[place], place, list)?;
     }
-    Ok(())
+    join_parents(rt.alloc(), catalog, settings, list)
 }
 
 /// The catalog that the arguments ask for.
-fn catalog<R: Files + Alloc<A = Global>>(rt: &R, settings: &Settings<'_>) -> Result<Zones, Fault> {
+fn catalog<R: Files + Eprint + Alloc<A = Global>>(
+    rt: &R,
+    settings: &Settings<'_>,
+) -> Result<Zones, Fault> {
     let alloc = rt.alloc();
     let list = blocklist(rt, &settings.blocklists)?;
     let mut catalog = Catalog::new(alloc, NoKeys);
-    catalog.set_nsid(identifier(alloc, settings)?);
+    catalog.set_nsid(identifier_of(alloc, settings)?);
     load_zones(rt, &mut catalog, settings, list.as_ref())?;
     Ok(catalog)
 }
 
 /// Serves the standard input as the arguments say.
-fn serve<R: Files + Env + Clock + Input + Print + Alloc<A = Global>>(
+fn serve<R: Files + Env + Clock + Input + Print + Eprint + Alloc<A = Global>>(
     rt: &R,
     settings: &Settings<'_>,
     address: IpAddr,
 ) -> Result<(), Fault> {
     let alloc = rt.alloc();
     let rules = rules_of(alloc, settings)?;
-    let mut catalog = catalog(rt, settings)?;
-    let zones = &mut catalog;
+    let mut server = Server::new(alloc, rules, catalog(rt, settings)?)?;
     let mut reader = rt.reader();
     let mut writer = io::writer(rt);
     match settings.mode {
-        Mode::Udp => { serve_datagram(alloc, rt, &rules, zones, address, &mut reader, &mut writer) }
-        Mode::Tcp => serve_stream(alloc, rt, &rules, zones, address, &mut reader, &mut writer),
-        Mode::Lines => match serve_lines(alloc, rt, &rules, zones, &mut reader, &mut writer)? {
+        Mode::Udp => { serve_datagram(alloc, rt, &mut server, address, &mut reader, &mut writer) }
+        Mode::Tcp => serve_stream(alloc, rt, &mut server, address, &mut reader, &mut writer),
+        Mode::Lines => match serve_lines(alloc, rt, &mut server, &mut reader, &mut writer)? {
             Some(number) => Err(Fault::Line { number }),
             None => Ok(()),
         },
@@ -226,10 +242,12 @@ fn tell_of_arguments<R: Eprint>(rt: &R, fault: ArgumentFault<'_>) -> u8 {
 
 /// How the program is started.
 const HELP: &str = "\
-zone_serve [--zone NAME=FILE].. [--blocklist FILE].. [--allow NET].. [--deny NET].. [--nsid TEXT] [--max-udp N] udp|tcp|lines
+zone_serve [--zone NAME=FILE].. [OPTION].. udp|tcp|lines
   --zone NAME=FILE           the zone at NAME, from a zone file
   --blocklist FILE           names that are blocked, a line each
   --allow NET, --deny NET    who may ask
+  --allow-transfer NET, --deny-transfer NET
+                             who of those may have a zone transferred
   --nsid TEXT                what identifies this server
   --max-udp N                bytes of a reply over UDP at most, 1232
   udp|tcp|lines              one datagram, a stream, or lines 'udp|tcp ADDRESS HEX'

@@ -1,5 +1,2 @@
-pub mod HexGroups
-pub mod RowSteps
-pub mod SameBytes
-pub mod SpellingSteps
-pub mod UnitSteps
+pub mod FieldFaults
+pub mod FirstFaults

@@ -1,7 +1,2 @@
-pub mod Moments
-pub mod RecordText
-pub mod Spelling
-pub mod TypeBitmaps
-pub mod TypeTable
-pub mod Words
+pub mod ZoneFaults
 pub mod ZoneFiles

@@ -8,14 +8,14 @@ use Rattle.wire_messages.specs.declared.rr.record.Proof.TheVariants.{Indetermina
 use Rattle.wire_messages.specs.rr.RecordData.{type_of}
 use Rattle.wire_names.specs.rr.domain.DomainName.{DomainName}
 use Rattle.wire_messages.specs.serialize.writing.RecordSize.{data_len}
-use Rattle.zone_text.specs.declared.words.TextKind.TheVariants.{ZoneFile}
-use Rattle.zone_text.specs.declared.words.Word.{Word}
+use Rattle.text_words.specs.declared.words.TextKind.TheVariants.{ZoneFile}
+use Rattle.text_words.specs.declared.words.Word.{Word}
 use Rattle.zone_text.specs.declared.zone_file.entry.Before.{Before}
 use Rattle.zone_text.specs.declared.zone_file.entry.Entry.{Entry}
 use Rattle.zone_text.specs.declared.zone_file.entry.Entry.TheVariants.{Blank, Origin, DefaultTtl, Record as RecordOf}
-use Rattle.zone_text.specs.RecordText.{SameLetters, SpellsData, SpellsType}
-use Rattle.zone_text.specs.Spelling.{IsNumber, SpellsName, SpellsTime}
-use Rattle.zone_text.specs.Words.{AreWordsTo, is_blank}
+use Rattle.record_text.specs.RecordText.{SameLetters, SpellsData, SpellsType}
+use Rattle.text_words.specs.Spelling.{IsNumber, SpellsName, SpellsTime}
+use Rattle.text_words.specs.Words.{AreWordsTo, is_blank}
 
 -- a type of which zones have records: none that stands in messages alone, which are OPT, 41, and from 128 to 255, and not 0, which no record
 -- has (RFC 6895 section 3.1)

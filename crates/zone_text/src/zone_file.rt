@@ -1,17 +1,19 @@
 //! Zone files (RFC 1035 section 5.1).
 
 mod entry;
-pub(crate) mod fault;
+mod fault;
+pub(crate) mod fault_word;
 
-ghost use Rattle.std.specs.Prelude.{◌≡◌, ◌≤◌, ◌<◌, length, All, IfOk};
+ghost use Rattle.std.specs.Prelude.{◌≡◌, ◌≤◌, ◌<◌, length, All, IfErr, IfOk};
+ghost use Rattle.zone_text.specs.ZoneFaults.{IsEntryFault, IsFileFault, IsFirstFault};
 ghost use Rattle.zone_text.specs.ZoneFiles.{IsEntryFrom, IsZoneFile, IsZoneRecord, first_entry};
 
 use crate::error::ZoneFileError;
-use crate::words::Words;
 use crate::zone_file::entry::{Before, Entry, read_entry};
 use crate::zone_file::fault::EntryError;
 use hickory_wire::{Items, Name, Record};
 use std::alloc::Global;
+use text_words::Words;
 
 /// Where the first entry begins: behind a byte order mark, if there is one (RFC 3629 section 6).
 fn first_entry(text: &[u8]) -> usize
@@ -36,19 +38,26 @@ fn entry_at(
     ensures on { IfOk result (λ read. place ≤ read.1) }
     ensures within { IfOk result (λ read. read.1 ≤ length text.now) }
     ensures entry { IfOk result (λ read. IsEntryFrom text.now place before.now read.0 read.1) }
+    ensures fault { IfErr result (IsEntryFault text.now place before.now) }
 {
     let mut words = Words::entry(text, place);
     let begins_blank = words.begins_blank();
-    let fields = words.rest(alloc)?;
+    let fields = match words.rest(alloc) {
+        Ok(fields) => fields,
+        Err(e) => return Err(EntryError::from(e).within(place, text.len())),
+    };
     let end = words.place();
-    let entry = read_entry(alloc, begins_blank, fields.as_slice(), end, before)?;
-    Ok((entry, end))
+    match read_entry(alloc, begins_blank, fields.as_slice(), end, before) {
+        Ok(entry) => Ok((entry, end)),
+        Err(e) => Err(e.within(place, end)),
+    }
 }
 
 /// Reads the entries one after the other.
 fn read_entries(alloc: Global, text: &[u8], origin: &Name) -> Result<Items<Record>, EntryError>
     ensures file { IfOk result (IsZoneFile origin.now text.now) }
     ensures records { IfOk result (λ records. All IsZoneRecord records) }
+    ensures fault { IfErr result (IsFileFault origin.now text.now) }
 {
     let mut before = Before {
         origin: origin.clone()?,
@@ -83,6 +92,7 @@ pub fn read_zone_file(
 ) -> Result<Items<Record>, ZoneFileError>
     ensures file { IfOk result (IsZoneFile origin.now text.now) }
     ensures records { IfOk result (λ records. All IsZoneRecord records) }
+    ensures fault { IfErr result (IsFirstFault origin.now text.now) }
 {
     let bytes = text.as_bytes();
     match read_entries(alloc, bytes, origin) {

@@ -3,7 +3,7 @@
 ghost use Rattle.std.specs.Prelude.{◌≡◌, ◌↔◌, ℕ, Contains, IsTrue, MatchOption};
 ghost use Rattle.wire_messages.specs.declared.op.query.Query.{Query};
 ghost use Rattle.access_control.specs.Access.{Network};
-ghost use Rattle.hickory_server.specs.Ruling.{IsOfServedClass, IsQuery, IsResponse, IsRuling, IsTransfer, udp_limit};
+ghost use Rattle.hickory_server.specs.Ruling.{IsIncremental, IsOfServedClass, IsQuery, IsResponse, IsRuling, IsTransfer, udp_limit};
 
 use hickory_base::access::AccessControl;
 use hickory_base::message_request::MessageRequest;
@@ -29,6 +29,8 @@ pub enum Ruling {
     Refuse,
     /// It is answered with TC and no records, and no zone is asked.
     Truncate,
+    /// It is answered by a transfer of the whole zone.
+    Transfer,
     /// It is for the zones.
     Pass,
 }
@@ -73,6 +75,18 @@ fn is_transfer(query: &LowerQuery) -> bool
     query.query_type() == RecordType::AXFR || query.query_type() == RecordType::IXFR
 }
 
+/// What becomes over a stream of a question whose asker may have transfers: of what changed in a zone no record is kept, so the whole zone is given.
+fn ruling_over_streams(query: &LowerQuery) -> Ruling
+    ensures incremental { IsIncremental query.now → result ≡ Ruling.Transfer }
+    ensures others { ¬ (IsIncremental query.now) → result ≡ Ruling.Pass }
+{
+    if query.query_type() == RecordType::IXFR {
+        Ruling::Transfer
+    } else {
+        Ruling::Pass
+    }
+}
+
 impl Rules {
     /// Everybody may use the server and have transfers, and a reply over UDP has at most 1,232 bytes: what IPv6 carries in one piece
     /// everywhere, of which 48 bytes are headers (RFC 8200 sections 3 and 5, RFC 768).
@@ -113,7 +127,7 @@ impl Rules {
         }
         match request.protocol() {
             Protocol::Udp => Ruling::Truncate,
-            _ => Ruling::Pass,
+            _ => ruling_over_streams(query),
         }
     }
 

@@ -1,14 +1,16 @@
 //! A server: the rules that it holds messages to, and the zones that it answers for.
 
-ghost use Rattle.std.specs.Prelude.{◌≡◌, ◌∷◌, [], List, ℕ, IfErr, IfOk, Ok};
+ghost use Rattle.std.specs.Prelude.{◌≡◌, ◌∷◌, [], List, ℕ, IfErr, IfOk, Ok, OnOk};
 ghost use Rattle.std.specs.List.{AllZip};
 ghost use Rattle.std.specs.Net.Socket.{socket_ip};
 ghost use Rattle.std.specs.Option.{option_copied};
 ghost use Rattle.wire_messages.specs.declared.op.query.Query.{Query};
+ghost use Rattle.wire_messages.specs.serialize.writing.Reply.{Reply};
 ghost use Rattle.hickory_base.specs.responses.EncodingSinks.{EncodedReplies, IsEncodingOf};
 ghost use Rattle.hickory_catalog.specs.Replies.{error_reply};
 ghost use Rattle.hickory_catalog.specs.ReplyEdns.{reply_edns};
 ghost use Rattle.hickory_catalog.specs.Server.{server_of};
+ghost use Rattle.hickory_catalog.specs.WholeTransfers.{TransferReplies};
 ghost use Rattle.hickory_server.specs.Ruling.{IsQuery, IsRuling, refusal, udp_limit};
 ghost use Rattle.hickory_server.specs.ServedBy.{AreSent, BytesServed, LeavesBytes, RequestServed};
 ghost use Rattle.hickory_server.specs.Serving.{LeavesRequest};
@@ -18,9 +20,11 @@ use crate::server::datagrams::{sent, truncated};
 use crate::server::no_keys::NoKeys;
 use crate::server::rules::{Rules, Ruling, is_response};
 use crate::server::serve::{ServeError, replies_to};
+use hickory_base::encoding_sink::EncodingSink;
 use hickory_base::server::Request;
 use hickory_base::zone_store::{InMemoryZoneHandler, ZoneHandler};
 use hickory_catalog::catalog::Catalog;
+use hickory_catalog::laws::replies_taken;
 use hickory_catalog::signer::ReplySigner;
 use hickory_wire::{Items, NSIDPayload, Octets, ProtoError, Protocol};
 use std::alloc::{AllocError, Global};
@@ -96,6 +100,64 @@ fn truncate<S: ReplySigner, H: ZoneHandler>(
     sent(alloc, request, rules.udp_limit(), replies)
 }
 
+/// Hands the replies to a request by a transfer of the whole zone to a sink that has none.
+fn hand_transfer_over<S: ReplySigner, H: ZoneHandler>(
+    alloc: Global,
+    catalog: &Catalog<S, H>,
+    request: &Request,
+    now: u64,
+    sink: &mut EncodingSink,
+) -> Result<(), AllocError>
+    requires { sink.old ≡ record { protocol = request.now.protocol; replies = []; failures = 0 } }
+    ensures { OnOk result ((replies : List Reply) ×
+        TransferReplies (server_of H.ZoneHandler S.signature_for catalog.now) request.now (reply_edns catalog.now.nsid request.now.message.edns) now replies ×
+        AllZip (IsEncodingOf request.now.protocol) replies sink.new.replies) }
+{
+    match catalog.transfer(alloc, request, now, sink) {
+        Ok(_) => {}
+        Err(_) => return Err(AllocError),
+    }
+    // The sink fails only where it is refused the memory for a reply.
+    if sink.failures() > 0 {
+        return Err(AllocError);
+    }
+    replies_taken::<EncodingSink>();
+    Ok(())
+}
+
+/// The bytes of the replies to a request by a transfer of the whole zone, in their order.
+fn transfer_replies<S: ReplySigner, H: ZoneHandler>(
+    alloc: Global,
+    catalog: &Catalog<S, H>,
+    request: &Request,
+    now: u64,
+) -> Result<Items<Octets>, AllocError>
+    ensures { IfOk result (λ encoded. (replies : List Reply) ×
+        TransferReplies (server_of H.ZoneHandler S.signature_for catalog.now) request.now (reply_edns catalog.now.nsid request.now.message.edns) now replies ×
+        AllZip (IsEncodingOf request.now.protocol) replies encoded) }
+{
+    let mut sink = EncodingSink::new(alloc, request.protocol());
+    hand_transfer_over(alloc, catalog, request, now, &mut sink)?;
+    Ok(sink.into_replies())
+}
+
+/// What is sent to a request that is answered by the whole zone. It changes nothing, so want of memory leaves nothing handled.
+fn transferred<S: ReplySigner, H: ZoneHandler>(
+    alloc: Global,
+    rules: &Rules,
+    catalog: &Catalog<S, H>,
+    request: &Request,
+    now: u64,
+) -> Result<Items<Octets>, AllocError>
+    requires { IsRuling rules.now request.now Ruling.Transfer }
+    ensures { IfOk result (λ sent. (encoded : List (List ℕ)) ×
+        RequestServed rules.now (server_of H.ZoneHandler S.signature_for catalog.now) request.now now encoded catalog.now.zones ×
+        AreSent request.now.protocol (udp_limit rules.now) encoded sent) }
+{
+    let replies = transfer_replies(alloc, catalog, request, now)?;
+    sent(alloc, request, rules.udp_limit(), replies)
+}
+
 /// Want of memory before anything was handled.
 fn unhandled<T: Drop>(made: Result<T, AllocError>) -> Result<T, ServeError>
     ensures ok { IfOk result (λ value. made ≡ Ok value) }
@@ -149,6 +211,7 @@ fn answered<S: ReplySigner, H: ZoneHandler>(
         Ruling::Pass => passed(alloc, rules, catalog, request, now),
         Ruling::Refuse => unhandled(refuse(alloc, rules, catalog, request, now)),
         Ruling::Truncate => unhandled(truncate(alloc, rules, catalog, request, now)),
+        Ruling::Transfer => unhandled(transferred(alloc, rules, catalog, request, now)),
     }
 }
 
@@ -195,7 +258,8 @@ impl<S: ReplySigner, H: ZoneHandler> Server<S, H> {
     /// A message whose address may not use the server is denied; one that is shorter than a header, or begins with no message, is
     /// unreadable; one with QR set is a response. None of these has a reply. A query of another class than IN and ANY is answered
     /// Refused, and so is one for a transfer (AXFR, IXFR) from an address that may have none; any other transfer over UDP is answered
-    /// with TC and no records (RFC 5936 section 4.2). Over UDP no reply is longer than the client takes, nor than the limit of the rules.
+    /// with TC and no records (RFC 5936 section 4.2), and one for what changed in a zone (IXFR) over another transport by the whole zone (RFC 1995
+    /// section 4). Over UDP no reply is longer than the client takes, nor than the limit of the rules.
     ///
     /// `Memory` says that the catalog is as before, and `MemoryAfterHandling` that the message was handled and its replies are missing.
     pub fn serve(

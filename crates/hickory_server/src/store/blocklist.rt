@@ -2,5 +2,5 @@
 
 pub use hickory_store::blocklist::{
     AddError, BlocklistConfig, BlocklistConsultAction, BlocklistZoneHandler, CountedReader,
-    ListReader,
+    ListLine, ListReader, ListReport,
 };

@@ -1,8 +1,11 @@
 //! What a line of a list says.
 
-ghost use Rattle.std.specs.Prelude.{◌≡◌, IfOk};
+ghost use Rattle.std.specs.Prelude.{◌≡◌, ◌↔◌, [], IfOk, IsTrue};
 ghost use Rattle.std.specs.Option.{option_copied};
-ghost use Rattle.hickory_store.specs.ListLines.{entry_of, name_of};
+ghost use Rattle.std.specs.Str.{trim};
+ghost use Rattle.wire_names.specs.rr.domain.DomainName.{DomainName};
+ghost use Rattle.hickory_store.specs.ListLines.{Lists, entry_of, name_of};
+ghost use Rattle.hickory_store.specs.ListReports.{IsLine};
 ghost use Rattle.hickory_store.specs.Entries.{Tells};
 
 use hickory_wire::{LowerName, Name, NameError};
@@ -58,4 +61,47 @@ pub(crate) fn read_line(alloc: Global, line: &str) -> Result<Option<Listed>, All
         name: LowerName::new(alloc, &name)?,
         is_wildcard: text.starts_with('*'),
     }))
+}
+
+/// What a line of a list says.
+#[derive(Clone, Copy, Debug, PartialEq, Eq)]
+pub enum ListLine {
+    /// It lists a name.
+    Name,
+    /// Nothing: it is blank, or a comment stands alone on it.
+    Nothing,
+    /// It lists no name, though something stands there: it is skipped.
+    Skipped,
+}
+
+/// Whether nothing stands on a line, or nothing before its comment, but white space.
+fn is_silent(line: &str) -> bool
+    ensures { IsTrue result ↔ (trim (entry_of line.now) ≡ []) }
+{
+    entry_of(line).trim().is_empty()
+}
+
+/// What a line that lists no name says.
+fn nameless(line: &str) -> ListLine
+    requires { (name : DomainName) → ¬ (Lists line.now name) }
+    ensures { IsLine line.now result }
+{
+    if is_silent(line) {
+        ListLine::Nothing
+    } else {
+        ListLine::Skipped
+    }
+}
+
+/// What a line says.
+pub(crate) fn list_line(alloc: Global, line: &str) -> Result<ListLine, AllocError>
+    ensures { IfOk result (IsLine line.now) }
+{
+    match read_line(alloc, line)? {
+        Some(listed) => {
+            drop(listed);
+            Ok(ListLine::Name)
+        }
+        None => Ok(nameless(line)),
+    }
 }

@@ -9,7 +9,7 @@ use hickory_wire::{Boxed, LowerName, Record, TSIG, TSigResponseContext};
 use std::alloc::Global;
 use std::test::Fail;
 
-/// A signer without a key.
+/// A signer without a key: that of `hickory_server` stands above what these tests stand on.
 #[derive(Drop)]
 pub(crate) struct NoSigner;
 

@@ -1,23 +1,21 @@
 //! One entry of a zone file (RFC 1035 section 5.1).
 
-ghost use Rattle.std.specs.Prelude.{◌≡◌, ◌↔◌, ◌≤◌, ◌++◌, ◌⊎◌, [], ◌∷◌, All, List, Some, None, false, true, IfOk, IfSome, IsTrue, OnOk};
+ghost use Rattle.std.specs.Prelude.{◌≡◌, ◌≢◌, ◌↔◌, ◌≤◌, ◌++◌, ◌⊎◌, [], ◌∷◌, All, List, Some, None, false, true, IfErr, IfOk, IfSome, IsTrue, OnOk};
 ghost use Rattle.wire_messages.specs.rr.RecordData.{type_of};
 ghost use Rattle.wire_messages.specs.serialize.writing.RecordSize.{data_len};
-ghost use Rattle.zone_text.specs.declared.words.Word.{Word as WordOf};
-ghost use Rattle.zone_text.specs.RecordText.{SpellsData, SpellsType};
+ghost use Rattle.text_words.specs.declared.words.Word.{Word as WordOf};
+ghost use Rattle.record_text.specs.RecordText.{SpellsData, SpellsType};
 ghost use Rattle.zone_text.specs.ZoneFiles.{AreTtlAndClass, BeginsWith, IsBehindOwner, IsClassIn, IsDirective, IsEntry, IsRecordEntry};
+ghost use Rattle.zone_text.specs.declared.zone_file.fault.EntryError.TheVariants.{Memory};
+ghost use Rattle.zone_text.specs.ZoneFaults.{IsOfField, IsWordsFault};
 ghost use Rattle.zone_text.specs.ZoneFiles.{IsTtl, IsZoneRecord, IsZoneType, MayBeginWithTtl, after, last_owner, ttl_in_force, zone_minimum};
 
-use crate::data::data_of_words;
-use crate::data::table::type_of;
-use crate::error::{TextFault, ZoneFileFault};
-use crate::names::absolute_name;
-use crate::record::class_of;
-use crate::ttl::seconds_of;
-use crate::words::{Word, fault_at, number_of_digits};
+use crate::error::ZoneFileFault;
 use crate::zone_file::fault::{EntryError, fault_of};
 use hickory_wire::{DNSClass, Items, Name, Proof, RData, Record, RecordType};
+use record_text::{class_of, data_of_words, type_of};
 use std::alloc::{AllocError, Global};
+use text_words::{TextFault, Word, absolute_name, fault_at, number_of_digits, seconds_of};
 
 /// What the entries before leave to an entry.
 #[derive(Drop)]
@@ -68,7 +66,8 @@ fn zone_minimum(rdata: &RData) -> Option<u32>
 
 /// The TTL that a field is, if it begins with a digit, as neither a class nor a type does.
 fn own_ttl(word: &Word<'_>) -> Result<Option<u32>, EntryError>
-    ensures { IfOk result (λ own. IfSome own (IsTtl word.now)) }
+    ensures ttl { IfOk result (λ own. IfSome own (IsTtl word.now)) }
+    ensures fault { IfErr result IsOfField }
 {
     match word.bytes {
         [first, ..] if first.is_ascii_digit() => {
@@ -98,7 +97,8 @@ fn is_class_1(word: &Word<'_>) -> bool
 
 /// Whether a field is the class IN. Another class is a fault.
 fn is_class_in(word: &Word<'_>) -> Result<bool, EntryError>
-    ensures { IfOk result (λ is. IsTrue is → IsClassIn word.now) }
+    ensures class { IfOk result (λ is. IsTrue is → IsClassIn word.now) }
+    ensures fault { IfErr result IsOfField }
 {
     if word.quoted {
         return Ok(false);
@@ -117,7 +117,8 @@ fn is_class_in(word: &Word<'_>) -> Result<bool, EntryError>
 
 /// The fields behind the class IN, where the first of them is that.
 fn behind_class<'a, 'w>(words: &'w [Word<'a>]) -> Result<Option<&'w [Word<'a>]>, EntryError>
-    ensures { IfOk result (λ found. IfSome found (λ behind. BeginsWith IsClassIn words.now behind.now)) }
+    ensures class { IfOk result (λ found. IfSome found (λ behind. BeginsWith IsClassIn words.now behind.now)) }
+    ensures fault { IfErr result IsOfField }
 {
     let Some((word, behind)) = words.split_first() else {
         return Ok(None);
@@ -133,7 +134,8 @@ fn behind_class<'a, 'w>(words: &'w [Word<'a>]) -> Result<Option<&'w [Word<'a>]>,
 fn ttl_and_behind<'a, 'w>(
     words: &'w [Word<'a>],
 ) -> Result<(Option<u32>, &'w [Word<'a>]), EntryError>
-    ensures { IfOk result (λ found. MayBeginWithTtl words.now found.0 found.1.now) }
+    ensures ttl { IfOk result (λ found. MayBeginWithTtl words.now found.0 found.1.now) }
+    ensures fault { IfErr result IsOfField }
 {
     let Some((word, behind)) = words.split_first() else {
         return Ok((None, words));
@@ -146,7 +148,8 @@ fn ttl_and_behind<'a, 'w>(
 
 /// TTL and class, in either order and either left out: the TTL, if there is one, and the fields behind them.
 fn ttl_and_class<'a, 'w>(words: &'w [Word<'a>]) -> Result<(Option<u32>, &'w [Word<'a>]), EntryError>
-    ensures { IfOk result (λ found. (front : List WordOf) × (words.now ≡ front ++ found.1.now) × AreTtlAndClass front found.0) }
+    ensures timed { IfOk result (λ found. (front : List WordOf) × (words.now ≡ front ++ found.1.now) × AreTtlAndClass front found.0) }
+    ensures fault { IfErr result IsOfField }
 {
     let (ttl, fields) = ttl_and_behind(words)?;
     let Some(behind) = behind_class(fields)? else {
@@ -185,6 +188,7 @@ fn zone_type(word: &Word<'_>) -> Result<RecordType, EntryError>
     ensures unquoted { IfOk result (λ number. word.now.quoted ≡ false) }
     ensures typed { IfOk result (SpellsType word.now.bytes.now) }
     ensures stored { IfOk result IsZoneType }
+    ensures fault { IfErr result IsOfField }
 {
     let record_type = type_of(word)?;
     if !is_zone_type(record_type) {
@@ -205,6 +209,7 @@ fn zone_data(
     ensures form { IfOk result (λ rdata. type_of rdata ≡ record_type) }
     ensures fits { IfOk result (λ rdata. data_len rdata ≤ 65535) }
     ensures spelled { IfOk result (SpellsData (Some origin.now) record_type words.now) }
+    ensures fault { IfErr result IsOfField }
 {
     let rdata = data_of_words(alloc, record_type, words, end, Some(origin))?;
     match rdata {
@@ -217,7 +222,8 @@ fn zone_data(
 
 /// The owner name of the last record, for an entry that begins with this field.
 fn last_owner(first: &Word<'_>, records: &[Record]) -> Result<Name, EntryError>
-    ensures { IfOk result (λ name. last_owner records.now ≡ Some name) }
+    ensures owner { IfOk result (λ name. last_owner records.now ≡ Some name) }
+    ensures fault { IfErr result (λ e. e ≢ Memory → last_owner records.now ≡ None) }
 {
     match records.last() {
         Some(record) => Ok(record.name.clone()?),
@@ -238,6 +244,7 @@ fn record_behind(
     requires { name.is_fqdn ≡ true }
     ensures named { IfOk result (λ r. r.name ≡ name) }
     ensures behind { IfOk result (IsBehindOwner before.now words.now) }
+    ensures fault { IfErr result IsOfField }
 {
     let (own, fields) = ttl_and_class(words)?;
     let Some((word, data)) = fields.split_first() else {
@@ -267,8 +274,10 @@ fn repeated_record(
     end: usize,
     before: &Before,
 ) -> Result<Record, EntryError>
-    requires { All IsZoneRecord before.now.records }
-    ensures { IfOk result (IsRecordEntry before.now true words.now) }
+    requires some { words.now ≢ [] }
+    requires records { All IsZoneRecord before.now.records }
+    ensures entry { IfOk result (IsRecordEntry before.now true words.now) }
+    ensures fault { IfErr result (IsWordsFault before.now true words.now) }
 {
     let name = last_owner(first, before.records.as_slice())?;
     record_behind(alloc, first, name, words, end, before)
@@ -283,7 +292,8 @@ fn named_record(
     before: &Before,
 ) -> Result<Record, EntryError>
     requires { IsDirective owner.now → ⊥ }
-    ensures { IfOk result (IsRecordEntry before.now false (owner.now ∷ behind.now)) }
+    ensures entry { IfOk result (IsRecordEntry before.now false (owner.now ∷ behind.now)) }
+    ensures fault { IfErr result IsOfField }
 {
     let name = absolute_name(alloc, owner, Some(&before.origin))?;
     record_behind(alloc, owner, name, behind, end, before)
@@ -291,7 +301,8 @@ fn named_record(
 
 /// The field behind that of a directive, which is the last one.
 fn only_field<'a, 'w>(behind: &'w [Word<'a>], end: usize) -> Result<&'w Word<'a>, EntryError>
-    ensures { IfOk result (λ word. behind.now ≡ word.now ∷ []) }
+    ensures only { IfOk result (λ word. behind.now ≡ word.now ∷ []) }
+    ensures fault { IfErr result IsOfField }
 {
     match behind {
         [] => Err(EntryError::from(fault_at(end, TextFault::MissingField))),
@@ -308,8 +319,9 @@ fn read_directive(
     end: usize,
     before: &Before,
 ) -> Result<Entry, EntryError>
-    requires { first.now.quoted ≡ false }
-    ensures { IfOk result (IsEntry before.now false (first.now ∷ behind.now)) }
+    requires { IsDirective first.now }
+    ensures entry { IfOk result (IsEntry before.now false (first.now ∷ behind.now)) }
+    ensures fault { IfErr result (IsWordsFault before.now false (first.now ∷ behind.now)) }
 {
     if first.bytes.eq_ignore_ascii_case(b"$ORIGIN") {
         let word = only_field(behind, end)?;
@@ -346,7 +358,8 @@ pub(crate) fn read_entry(
     before: &Before,
 ) -> Result<Entry, EntryError>
     requires { All IsZoneRecord before.now.records }
-    ensures { IfOk result (IsEntry before.now begins_blank words.now) }
+    ensures entry { IfOk result (IsEntry before.now begins_blank words.now) }
+    ensures fault { IfErr result (IsWordsFault before.now begins_blank words.now) }
 {
     let (first, behind) = match words.split_first() {
         Some(parts) => parts,

@@ -1,11 +1,13 @@
 //! Faults of a zone file by their places.
 
-ghost use Rattle.std.specs.Prelude.{◌≤◌, length};
+ghost use Rattle.std.specs.Prelude.{◌≡◌, ◌≤◌, length};
+ghost use Rattle.zone_text.specs.declared.zone_file.fault.EntryError.TheVariants.{At, Memory};
+ghost use Rattle.zone_text.specs.ZoneFaults.{IsMovedInto, IsPlaced, IsToldOf, IsWithin, error_of};
 
-use crate::error::{TextError, ZoneFileError, ZoneFileFault};
-use crate::words::{Word, field_end};
+use crate::error::{ZoneFileError, ZoneFileFault};
+use crate::zone_file::fault_word::FaultWord;
 use std::alloc::{AllocError, AllocFailed};
-use std::fmt;
+use text_words::{TextError, Word, field_end};
 
 /// Why an entry could not be read.
 #[derive(Clone, Copy)]
@@ -22,7 +24,9 @@ pub(crate) enum EntryError {
 }
 
 /// A fault of a whole field.
-pub(crate) fn fault_of(word: &Word<'_>, fault: ZoneFileFault) -> EntryError {
+pub(crate) fn fault_of(word: &Word<'_>, fault: ZoneFileFault) -> EntryError
+    ensures { result ≡ At word.now.start fault }
+{
     EntryError::At {
         place: word.start,
         fault,
@@ -30,6 +34,8 @@ pub(crate) fn fault_of(word: &Word<'_>, fault: ZoneFileFault) -> EntryError {
 }
 
 impl From<TextError> for EntryError {
+    ghost from_gives = { λ e given. given ≡ error_of e };
+
     fn from(e: TextError) -> EntryError {
         match e {
             TextError::At { column, fault } => EntryError::At {
@@ -42,102 +48,64 @@ impl From<TextError> for EntryError {
 }
 
 impl From<AllocError> for EntryError {
+    ghost from_gives = { λ _ e. e ≡ Memory };
+
     fn from(_e: AllocError) -> EntryError {
         EntryError::Memory
     }
 }
 
 impl<T: Drop> From<AllocFailed<T>> for EntryError {
+    ghost from_gives = { λ _ e. e ≡ Memory };
+
     fn from(_e: AllocFailed<T>) -> EntryError {
         EntryError::Memory
     }
 }
 
-/// How many bytes of a field are kept to be shown.
-const MOST_SHOWN: usize = 40;
-
-/// The front of a field that is wrong, to be shown: at most 40 bytes of it.
-#[derive(Clone, Copy, Debug, PartialEq, Eq)]
-pub struct FaultWord {
-    bytes: [u8; MOST_SHOWN],
-    len: usize,
-    is_whole: bool,
-    ghost within: { len ≤ 40 },
-}
-
-impl FaultWord {
-    /// The bytes that are shown: all of the field, or its first 40.
-    pub fn as_bytes(&self) -> &[u8] {
-        &self.bytes[..self.len]
-    }
-
-    /// Whether they are all of the field.
-    pub fn is_whole(&self) -> bool {
-        self.is_whole
-    }
-}
-
-/// A colon and the field in quotes, with `..` behind where it is cut; bytes that are no visible ASCII are a backslash and three decimal digits.
-/// Nothing, where there is no field.
-impl fmt::Display for FaultWord {
-    fn fmt<W: fmt::Write>(&self, f: &mut fmt::Formatter<W>) -> fmt::Result {
-        if self.len == 0 {
-            return Ok(());
-        }
-        f.write_str(": \"")?;
-        for byte in self.as_bytes() {
-            match *byte {
-                b' '..=b'~' => write!(f, "{}", char::from(*byte))?,
-                other => write!(f, "\\{other:03}")?,
-            }
-        }
-        f.write_str(if self.is_whole { "\"" } else { "..\"" })
-    }
-}
-
-/// The field of a text that is wrong from this place on.
-fn word_at(text: &[u8], place: usize) -> FaultWord
-    requires { place ≤ length text.now }
-{
-    let end = field_end(text, place);
-    let len = MOST_SHOWN.min(end - place);
-    let mut bytes = [0; MOST_SHOWN];
-    for (shown, byte) in bytes.iter_mut().zip(text[place..place + len].iter()) {
-        *shown = *byte;
-    }
-    FaultWord {
-        bytes,
-        len,
-        is_whole: len == end - place,
-    }
-}
-
 /// Line and column of the byte of a text before which so many stand; the first are 1.
-fn line_and_column(text: &[u8], place: usize) -> (usize, usize) {
-    let mut line = 1usize;
-    let mut column = 1usize;
-    for byte in text.iter().take(place) {
-        if *byte == b'\n' {
-            line = line.saturating_add(1);
-            column = 1;
-        } else {
-            column = column.saturating_add(1);
+fn line_and_column(text: &[u8], place: usize) -> (usize, usize)
+    requires { place ≤ length text.now }
+    ensures { IsPlaced text.now place result.0 result.1 }
+{
+    let mut line = 1;
+    let mut start = 0;
+    for at in 0..place {
+        if text[at] == b'\n' {
+            line += 1;
+            start = at + 1;
         }
     }
-    (line, column)
+    (line, place - start + 1)
 }
 
 impl EntryError {
+    /// The same fault of an entry that stands from one place to another, told no place outside of them.
+    pub(crate) fn within(self, start: usize, end: usize) -> EntryError
+        requires { start ≤ end }
+        ensures { IsMovedInto start end self result }
+    {
+        match self {
+            EntryError::At { place, fault } => EntryError::At {
+                place: place.max(start).min(end),
+                fault,
+            },
+            EntryError::Memory => EntryError::Memory,
+        }
+    }
+
     /// The fault of the zone file that has this text.
-    pub(crate) fn in_file(self, text: &[u8]) -> ZoneFileError {
+    pub(crate) fn in_file(self, text: &[u8]) -> ZoneFileError
+        requires { IsWithin 0 (length text.now) self }
+        ensures { IsToldOf text.now self result }
+    {
         match self {
             EntryError::At { place, fault } => {
-                let place = place.min(text.len());
                 let (line, column) = line_and_column(text, place);
                 ZoneFileError::At {
                     line,
                     column,
-                    word: word_at(text, place),
+                    word: FaultWord::new(&text[place..field_end(text, place)]),
                     fault,
                 }
             }

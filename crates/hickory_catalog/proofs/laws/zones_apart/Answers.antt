@@ -1,5 +1,5 @@
 use Rattle.hickory_catalog.specs.Server.{server_of}
-use Rattle.hickory_catalog.proofs.Alone.{request_alone, request_apexes, request_stays}
+use Rattle.hickory_catalog.proofs.Alone.{request_alone, request_apexes, request_stays, transfer_alone}
 use Rattle.hickory_catalog.proofs.Deciding.{of_zone_decided}
 use Rattle.hickory_catalog.proofs.OneAnswer.{one_at}
 use Rattle.hickory_catalog.proofs.laws.zones_apart.Goals as goal
@@ -21,3 +21,7 @@ returns-clause-one_chain g c = one_at
 
 pub returns-clause-decided : goal.returns-clause-decided
 returns-clause-decided g c = of_zone_decided
+
+pub returns-clause-transfers : goal.returns-clause-transfers
+returns-clause-transfers g c = λ catalog request edns now replies zone sorted of.
+    transfer_alone (server_of g.H.ZoneHandler g.S.ReplySigner.signature_for catalog) zone.0 zone.1 sorted request of.query of.asks of.nearest now edns replies

@@ -1,20 +1,17 @@
-use Rattle.std.proofs.Common.{[], ◌∷◌, rules, refl}
-use Rattle.hickory_base.specs.responses.Responses.{header_of}
-use Rattle.hickory_catalog.specs.Queries.{one, transfer, untransferred}
-use Rattle.hickory_catalog.specs.Replies.{error_reply}
-use Rattle.hickory_catalog.proofs.QueryReplies.{if_ok_map}
-use Rattle.hickory_catalog.proofs.SentInOrder.{sent_alone}
+use Rattle.std.proofs.Common.{ℕ, List, Option}
+use Rattle.wire_messages.specs.op.EdnsFields.{EdnsFields}
+use Rattle.wire_messages.specs.serialize.writing.Reply.{Reply}
+use Rattle.hickory_base.specs.requests.Requests.{ReceivedRequest}
+use Rattle.hickory_catalog.specs.Server.{server_of}
+use Rattle.hickory_catalog.proofs.QueryReplies.{if_ok_map, transferred}
 use Rattle.hickory_catalog.proofs.queries.answer_transfer.Goals as goal
 
-pub returns-in-None-clause-replied : goal.returns-in-None-clause-replied
-returns-in-None-clause-replied g c = (
-  error_reply c.args.asked.now.request.now.message c.args.edns.now 2 ∷ [],
-  one (untransferred c.requires (rw c.in-None.is at c.ask_for_transfer.ensures) refl) refl,
-  sent_alone g.R.ResponseHandler c.args.asked.now.request.now.message.metadata c.args.sink.now c.send_error.new.sink
-      (error_reply c.args.asked.now.request.now.message c.args.edns.now 2) (header_of c.send_error.result) (search rules),
-)
-
-pub returns-in-Some-clause-replied : goal.returns-in-Some-clause-replied
-returns-in-Some-clause-replied g c =
-    if_ok_map c.answer_given-told.result _ _ c.answer_given-told.ensures.replied
-    (λ info w. (w.0, transfer c.requires (rw c.in-Some.is at c.ask_for_transfer.ensures) w.1, w.2))
+pub returns-clause-replied : goal.returns-clause-replied
+returns-clause-replied g c =
+    let asked = c.args.asked.now in
+    if_ok_map c.give_transfer.result _ _ c.give_transfer.ensures.replied
+    (λ info w. (
+      w.0,
+      transferred (server_of g.H.ZoneHandler g.S.ReplySigner.signature_for asked.catalog.now) asked.chain.now asked.request.now c.args.edns.now asked.moment asked.query.now w.0 c.requires w.1,
+      w.2,
+    ))

@@ -1,5 +1,11 @@
-use Rattle.zone_serve.proofs.Results.{when_ok}
+use Rattle.std.proofs.Common.{refl, sym}
+use Rattle.hickory_server.specs.declared.server.serve.Incoming.{Incoming}
 use Rattle.zone_serve.proofs.serving.answer_now.Goals as goal
 
-pub returns-clause-answered : goal.returns-clause-answered
-returns-clause-answered g c = when_ok c.answer_to.result _ _ (λ answer answered. (c.in_ok-incoming.incoming, c.in_ok-incoming.ensures, answered)) c.answer_to.ensures.answered
+pub returns-in-Ok-clause-answered : goal.returns-in-Ok-clause-answered
+returns-in-Ok-clause-answered g c =
+    let message : Incoming = record { bytes = c.args.message.bytes; src = c.source_of-source.result; protocol = c.args.message.protocol; now = c.in_ok-now.now } in (
+      message,
+      record { protocol_is = refl; address_is = c.source_of-source.ensures; bytes_are = refl },
+      c.in-Ok.ensures.ok message (record { bytes_are = sym c.deref.ensures.value; source_is = refl; protocol_is = refl; now_is = refl }),
+    )

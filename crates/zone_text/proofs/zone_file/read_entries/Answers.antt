@@ -3,13 +3,15 @@ use Rattle.std.proofs.lemmas.List.Elements.{All-push}
 use Rattle.wire_messages.specs.declared.rr.rdata.RData.{RData}
 use Rattle.wire_messages.specs.declared.rr.record.Record.{Record}
 use Rattle.wire_names.specs.rr.domain.DomainName.{DomainName}
-use Rattle.zone_text.specs.declared.words.Word.{Word}
+use Rattle.text_words.specs.declared.words.Word.{Word}
 use Rattle.zone_text.specs.declared.zone_file.entry.Before.{Before}
 use Rattle.zone_text.specs.declared.zone_file.entry.Entry.{Entry}
 use Rattle.zone_text.specs.ZoneFiles.{IsEntry, IsEntryFrom, IsFront, IsRecordEntry, IsZoneRecord, after, first_entry}
 use Rattle.zone_text.specs.ZoneFiles.AreEntries.{none, more}
 use Rattle.zone_text.specs.ZoneFiles.IsEntry.{blank, origin_of, default_ttl_of, record_of}
 use Rattle.zone_text.specs.ZoneFiles.IsRecordEntry.{repeated, named}
+use Rattle.std.proofs.lemmas.Result.{err_from_is_err_and}
+use Rattle.zone_text.specs.ZoneFaults.IsFileFault.{memory, entry}
 use Rattle.zone_text.proofs.zone_file.read_entries.Goals as goal
 
 no_entries : (text : List ℕ) (origin o : DomainName) (records : List (Record RData)) (place : ℕ) → place ≡ first_entry text → o ≡ origin → records ≡ [] → IsFront origin text place (record { origin = o; default_ttl = None; records = records })
@@ -41,3 +43,18 @@ entries-preserved c =
       front = one_more c.args.origin.now c.args.text.now c.entries.place c.in_ok-entry.end c.entries.before c.take.new.self c.in_ok-entry.entry c.entries.invariant.front c.entries-test.true c.in_ok-entry.ensures.entry c.in_ok-take.ensures;
       records = subst (λ (b : Before). All IsZoneRecord b.records) (sym c.in_ok-take.ensures) kept;
     }
+
+pub returns-in_err-clone-clause-fault : goal.returns-in_err-clone-clause-fault
+returns-in_err-clone-clause-fault c =
+    let p = err_from_is_err_and c.from_residual.result c.from_residual.ensures.1 in
+    rw (p.1, p.2) memory
+
+pub returns-in_err-entry-clause-fault : goal.returns-in_err-entry-clause-fault
+returns-in_err-entry-clause-fault c =
+    let p = err_from_is_err_and c.from_residual-in_err-entry.result c.from_residual-in_err-entry.ensures.1 in
+    rw (p.1, p.2) (entry c.entries.invariant.front c.entries-test.true c.in_err-entry.ensures.fault)
+
+pub returns-in_err-take-clause-fault : goal.returns-in_err-take-clause-fault
+returns-in_err-take-clause-fault c =
+    let p = err_from_is_err_and c.from_residual-in_err-take.result c.from_residual-in_err-take.ensures.1 in
+    rw (p.1, p.2) memory

@@ -14,9 +14,9 @@ returns-clause-within g c =
 pub returns-clause-alone : goal.returns-clause-alone
 returns-clause-alone g c =
     alone g.H.ZoneHandler g.S.ReplySigner.signature_for c.one_message.ensures.same c.one_message.ensures.no_fault
-    c.zones_apart.ensures.alone c.zones_apart.ensures.others c.zones_apart.ensures.apexes c.zones_apart.ensures.one_chain c.zones_apart.ensures.decided
+    c.zones_apart.ensures.alone c.zones_apart.ensures.others c.zones_apart.ensures.apexes c.zones_apart.ensures.one_chain c.zones_apart.ensures.decided c.zones_apart.ensures.transfers
 
 pub returns-clause-others : goal.returns-clause-others
 returns-clause-others g c =
     stay g.H.ZoneHandler g.S.ReplySigner.signature_for c.one_message.ensures.same c.one_message.ensures.no_fault
-    c.zones_apart.ensures.alone c.zones_apart.ensures.others c.zones_apart.ensures.apexes c.zones_apart.ensures.one_chain c.zones_apart.ensures.decided
+    c.zones_apart.ensures.alone c.zones_apart.ensures.others c.zones_apart.ensures.apexes c.zones_apart.ensures.one_chain c.zones_apart.ensures.decided c.zones_apart.ensures.transfers

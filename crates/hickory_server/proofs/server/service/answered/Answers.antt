@@ -10,3 +10,8 @@ pub returns-in-Truncate-clause-err : goal.returns-in-Truncate-clause-err
 returns-in-Truncate-clause-err g c =
     leaves_all (server_of g.H.ZoneHandler g.S.ReplySigner.signature_for c.args.catalog.now) c.args.request.now c.args.now c.unhandled-in-Truncate.result
     c.unhandled-in-Truncate.ensures.err
+
+pub returns-in-Transfer-clause-err : goal.returns-in-Transfer-clause-err
+returns-in-Transfer-clause-err g c =
+    leaves_all (server_of g.H.ZoneHandler g.S.ReplySigner.signature_for c.args.catalog.now) c.args.request.now c.args.now c.unhandled-in-Transfer.result
+    c.unhandled-in-Transfer.ensures.err

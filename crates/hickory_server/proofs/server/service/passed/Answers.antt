@@ -1,4 +1,4 @@
-use Rattle.std.proofs.Common.{[], inl, arith, refl}
+use Rattle.std.proofs.Common.{[], inl, arith}
 use Rattle.hickory_base.specs.responses.EncodingSinks.{EncodedReplies}
 use Rattle.hickory_server.specs.ServedBy.{passed}
 use Rattle.hickory_server.proofs.server.service.passed.Goals as goal

@@ -3,9 +3,9 @@ use Rattle.std.proofs.lemmas.Bool.{eqb-true}
 use Rattle.std.proofs.lemmas.List.{take-append-drop}
 use Rattle.std.specs.List.{IsSplitAt}
 use Rattle.std.specs.Prelude.{codes}
-use Rattle.zone_text.specs.declared.words.Word.{Word}
-use Rattle.zone_text.specs.RecordText.{SameLetters}
-use Rattle.zone_text.specs.Spelling.{IsNumber}
+use Rattle.text_words.specs.declared.words.Word.{Word}
+use Rattle.record_text.specs.RecordText.{SameLetters}
+use Rattle.text_words.specs.Spelling.{IsNumber}
 use Rattle.zone_text.specs.ZoneFiles.{IsClassIn}
 use Rattle.zone_text.specs.ZoneFiles.IsClassIn.{numbered}
 use Rattle.zone_text.proofs.zone_file.entry.is_class_1.Goals as goal

@@ -1,13 +1,15 @@
-use Rattle.std.proofs.Common.{◌≡◌, List, Result, Ok, Err, Some, sym, subst, true}
+use Rattle.std.proofs.Common.{◌≡◌, List, Result, Ok, Err, Some, None, sym, subst, true}
 use Rattle.std.specs.Prelude.{IfOk}
 use Rattle.wire_messages.specs.declared.rr.rdata.RData.{RData}
 use Rattle.wire_messages.specs.declared.rr.record.Record.{Record}
 use Rattle.wire_names.specs.rr.domain.DomainName.{DomainName}
-use Rattle.zone_text.specs.declared.words.Word.{Word}
+use Rattle.text_words.specs.declared.words.Word.{Word}
 use Rattle.zone_text.specs.declared.zone_file.entry.Before.{Before}
 use Rattle.zone_text.specs.declared.zone_file.fault.EntryError.{EntryError}
 use Rattle.zone_text.specs.ZoneFiles.{IsBehindOwner, IsRecordEntry, last_owner}
 use Rattle.zone_text.specs.ZoneFiles.IsRecordEntry.{repeated}
+use Rattle.std.proofs.lemmas.Result.{err_from_is_err_and}
+use Rattle.zone_text.proofs.FieldFaults.{in_words, no_owner}
 use Rattle.zone_text.proofs.zone_file.entry.repeated_record.Goals as goal
 
 with_owner : (before : Before) (words : List Word) (name : DomainName) (records : List (Record RData)) (r : Result (Record RData) EntryError) → records ≡ before.records → last_owner records ≡ Some name → IfOk r (λ kept. kept.name ≡ name) → IfOk r (IsBehindOwner before words)
@@ -16,5 +18,13 @@ with_owner before words name records (Ok r) all last same h =
     repeated (subst (λ (n : DomainName). last_owner before.records ≡ Some n) (sym same) (subst (λ (rs : List (Record RData)). last_owner rs ≡ Some name) all last)) h
 with_owner before words name records (Err e) all last same h = h
 
-pub returns : goal.returns
-returns c = with_owner c.args.before.now c.args.words.now c.in_ok-name.name c.as_slice.result.now c.record_behind.result c.as_slice.ensures c.in_ok-name.ensures c.record_behind.ensures.named c.record_behind.ensures.behind
+pub returns-clause-entry : goal.returns-clause-entry
+returns-clause-entry c = with_owner c.args.before.now c.args.words.now c.in_ok-name.name c.as_slice.result.now c.record_behind.result c.as_slice.ensures c.in_ok-name.ensures.owner c.record_behind.ensures.named c.record_behind.ensures.behind
+
+pub returns-in_err-name-clause-fault : goal.returns-in_err-name-clause-fault
+returns-in_err-name-clause-fault c =
+    let p = err_from_is_err_and c.from_residual.result c.from_residual.ensures.1 in
+    rw (p.1, p.2) (no_owner c.args.before.now c.args.words.now c.in_err-name.field-0.0 c.requires.some (λ other. subst (λ (rs : List (Record RData)). last_owner rs ≡ None) c.as_slice.ensures (c.in_err-name.ensures.fault other)))
+
+pub returns-clause-fault : goal.returns-clause-fault
+returns-clause-fault c = in_words c.args.before.now true c.args.words.now c.record_behind.result c.record_behind.ensures.fault

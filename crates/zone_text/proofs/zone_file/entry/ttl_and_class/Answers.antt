@@ -1,6 +1,6 @@
 use Rattle.std.proofs.Common.{◌≡◌, ◌∙◌, ℕ, List, [], ◌∷◌, ◌++◌, Option, Some, None, Result, Ok, Err, Bor, IfOk, ap, subst}
 use Rattle.std.specs.Prelude.{IfSome}
-use Rattle.zone_text.specs.declared.words.Word.{Word}
+use Rattle.text_words.specs.declared.words.Word.{Word}
 use Rattle.zone_text.specs.declared.zone_file.fault.EntryError.{EntryError}
 use Rattle.zone_text.specs.ZoneFiles.{AreTtlAndClass, BeginsWith, IsClassIn, MayBeginWithTtl}
 use Rattle.zone_text.specs.ZoneFiles.AreTtlAndClass.{neither, class, ttl, class_ttl, ttl_class}
@@ -28,13 +28,13 @@ with_class fields found behind is h = subst (λ (o : Option (Bor (List Word))). 
 with_ttl : (words fields : List Word) (own other : Option ℕ) → own ≡ other → MayBeginWithTtl words own fields → MayBeginWithTtl words other fields
 with_ttl words fields own other is h = subst (λ (o : Option ℕ). MayBeginWithTtl words o fields) is h
 
-pub returns-in_default : goal.returns-in_default
-returns-in_default c = ttl_alone c.args.words.now c.in_ok-ttl.ttl c.in_ok-ttl.fields.now c.in_ok-ttl.ensures
+pub returns-in_default-clause-timed : goal.returns-in_default-clause-timed
+returns-in_default-clause-timed c = ttl_alone c.args.words.now c.in_ok-ttl.ttl c.in_ok-ttl.fields.now c.in_ok-ttl.ensures.ttl
 
-pub returns-in-Some-ttl : goal.returns-in-Some-ttl
-returns-in-Some-ttl c = ttl_first c.args.words.now c.in-Some-ttl.seconds c.in_ok-ttl.fields.now c.in-Some.behind.now (with_ttl c.args.words.now c.in_ok-ttl.fields.now c.in_ok-ttl.ttl _ c.in-Some-ttl.is c.in_ok-ttl.ensures)
-    (with_class c.in_ok-ttl.fields.now c.in_ok-behind.field-0 c.in-Some.behind c.in-Some.is c.in_ok-behind.ensures)
+pub returns-in-Some-ttl-clause-timed : goal.returns-in-Some-ttl-clause-timed
+returns-in-Some-ttl-clause-timed c = ttl_first c.args.words.now c.in-Some-ttl.seconds c.in_ok-ttl.fields.now c.in-Some.behind.now (with_ttl c.args.words.now c.in_ok-ttl.fields.now c.in_ok-ttl.ttl _ c.in-Some-ttl.is c.in_ok-ttl.ensures.ttl)
+    (with_class c.in_ok-ttl.fields.now c.in_ok-behind.field-0 c.in-Some.behind c.in-Some.is c.in_ok-behind.ensures.class)
 
-pub returns-in-None : goal.returns-in-None
-returns-in-None c = after_class c.args.words.now c.in_ok-ttl.fields.now c.in-Some.behind.now c.ttl_and_behind-in-None.result (with_ttl c.args.words.now c.in_ok-ttl.fields.now c.in_ok-ttl.ttl None c.in-None.is c.in_ok-ttl.ensures)
-    (with_class c.in_ok-ttl.fields.now c.in_ok-behind.field-0 c.in-Some.behind c.in-Some.is c.in_ok-behind.ensures) c.ttl_and_behind-in-None.ensures
+pub returns-in-None-clause-timed : goal.returns-in-None-clause-timed
+returns-in-None-clause-timed c = after_class c.args.words.now c.in_ok-ttl.fields.now c.in-Some.behind.now c.ttl_and_behind-in-None.result (with_ttl c.args.words.now c.in_ok-ttl.fields.now c.in_ok-ttl.ttl None c.in-None.is c.in_ok-ttl.ensures.ttl)
+    (with_class c.in_ok-ttl.fields.now c.in_ok-behind.field-0 c.in-Some.behind c.in-Some.is c.in_ok-behind.ensures.class) c.ttl_and_behind-in-None.ensures.ttl

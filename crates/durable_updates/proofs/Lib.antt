@@ -1,0 +1,4 @@
+pub mod Entries
+pub mod Untouched
+pub mod Histories
+pub mod Sameness

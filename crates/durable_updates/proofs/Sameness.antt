@@ -1,0 +1,248 @@
+-- What entries make of one zone is one zone: an update leaves the same of two lists that stand for one.
+use Rattle.std.proofs.Common.{◌≡◌, ◌∙◌, ap, sym, subst, refl, ℕ, Bool, true, false, cond, not, ◌&&◌, ◌||◌, [], ◌∷◌, List, map, Option, Some, None, Result, Ok, Err}
+use Rattle.std.specs.Prelude.{◌==◌}
+use Rattle.std.specs.List.{list_any}
+use Rattle.std.specs.Option.{is_some}
+use Rattle.wire_names.specs.rr.domain.DomainName.{DomainName}
+use Rattle.wire_reading.specs.declared.op.message.Message.{Message}
+use Rattle.wire_messages.specs.rr.RecordSameness.{SameRecord}
+use Rattle.wire_messages.specs.serialize.reading.Cursor.{Cursor}
+use Rattle.wire_names.specs.declared.error.DecodeError.{DecodeError}
+use Rattle.hickory_base.specs.zone_store.ZoneAnswers.{MemoryZone}
+use Rattle.hickory_base.specs.zone_store.ZoneRecords.{is_at}
+use Rattle.hickory_base.specs.zone_store.ZoneSets.{zone_records}
+use Rattle.hickory_store.specs.Changes.{any_change, changes, comes, fold, goes_when, has_ttl, in_class, in_rrset, is_ignored, is_newer, is_spared, is_there, is_type, replaces_rrset, turn}
+use Rattle.hickory_store.specs.Identity.{SameZone, same_record, ttl_at}
+use Rattle.hickory_store.specs.UpdateAnswers.{Outcome, applied, incremented, is_apex_soa, with_next_serial}
+use Rattle.hickory_store.specs.UpdateLaws.{HasOneSoa, HoldsIn, IsOneSoa}
+use Rattle.hickory_store.proofs.ApexNs.{OfOneType, Records, Resource}
+use Rattle.hickory_store.proofs.OneSoa.{next_same, next_soa, one_fold, one_next, one_soa_same, only_soa, soa_respects}
+use Rattle.hickory_store.proofs.SameZones.{Identity, any_same, both_respect, fold_same, goes_respects, name_respects, newer_respects, not_respects, rrset_respects, same_respects, same_turned, same_via, some_ttl, type_respects}
+use Rattle.hickory_store.proofs.SerialSteps.{apex_next}
+use Rattle.durable_updates.specs.Redone.{Leaves, Makes, Redone, RedoesOne}
+
+true_and_false : {P : Type 0} (b : Bool) → b ≡ true → b ≡ false → P
+true_and_false true p q = absurd (cc)
+true_and_false false p q = absurd (cc)
+
+none_of : (x : Option ℕ) → is_some x ≡ false → x ≡ None
+none_of None h = refl
+none_of (Some t) h = absurd (cc)
+
+found_at : (b : Bool) (t : ℕ) (x : Option ℕ) → b ≡ true → cond b (Some t) x ≡ Some t
+found_at true t x h = refl
+found_at false t x h = absurd (cc)
+
+passed_by : (b : Bool) (t : ℕ) (x : Option ℕ) → b ≡ false → cond b (Some t) x ≡ x
+passed_by true t x h = absurd (cc)
+passed_by false t x h = refl
+
+is_false : (b : Bool) → (b ≡ true → ⊥) → b ≡ false
+is_false true h = absurd (h refl)
+is_false false h = refl
+
+both_true : (a b : Bool) → a ≡ true → (a && not b) ≡ false → b ≡ true
+both_true true true h e = refl
+both_true true false h e = absurd (cc)
+both_true false b h e = absurd (cc)
+
+first_none : (a b : Bool) → (a || b) ≡ false → a ≡ false
+first_none true b h = absurd (cc)
+first_none false b h = refl
+
+rest_none : (a b : Bool) → (a || b) ≡ false → b ≡ false
+rest_none true b h = absurd (cc)
+rest_none false b h = h
+
+module _ (identity : Identity) (same_type : OfOneType) where
+  -- ---- whether a record comes, and whether its records are spared
+
+  ignored_of : Bool → Bool → Bool → Bool → Bool → Bool → Bool
+  ignored_of five six beside cnames sets serials = cond five beside (cnames || (six && (not sets || serials)))
+
+  ignored_same : (z w : Records) (r : Resource) → SameZone z w → is_ignored z r ≡ is_ignored w r
+  unfolding ignored_of
+  ignored_same z w r h =
+      let beside : Resource → Bool = λ q. is_at r.name q && not (is_type 5 q) in
+      let cnames : Resource → Bool = λ q. is_at r.name q && is_type 5 q in
+      let serials : Resource → Bool = λ q. in_rrset r q && not (is_newer r.rdata q.rdata) in
+      ap (λ x. ignored_of (is_type 5 r) (is_type 6 r) x (list_any cnames z) (list_any (in_rrset r) z) (list_any serials z))
+      (any_same identity beside (both_respect (is_at r.name) (λ q. not (is_type 5 q)) (name_respects identity r.name) (not_respects (is_type 5) (type_respects identity 5))) z w h)
+      ∙ ap (λ x. ignored_of (is_type 5 r) (is_type 6 r) (list_any beside w) x (list_any (in_rrset r) z) (list_any serials z))
+      (any_same identity cnames (both_respect (is_at r.name) (is_type 5) (name_respects identity r.name) (type_respects identity 5)) z w h)
+      ∙ ap (λ x. ignored_of (is_type 5 r) (is_type 6 r) (list_any beside w) (list_any cnames w) x (list_any serials z)) (any_same identity (in_rrset r) (rrset_respects identity r) z w h)
+      ∙ ap (λ x. ignored_of (is_type 5 r) (is_type 6 r) (list_any beside w) (list_any cnames w) (list_any (in_rrset r) w) x)
+      (any_same identity serials (both_respect (in_rrset r) (λ q. not (is_newer r.rdata q.rdata)) (rrset_respects identity r) (not_respects (λ q. is_newer r.rdata q.rdata) (newer_respects identity r.rdata))) z w h)
+
+  there_same : (z w : Records) (r : Resource) → SameZone z w → is_there z r ≡ is_there w r
+  there_same z w r h =
+      ap (λ t. has_ttl r.ttl t && not (replaces_rrset r && list_any (λ q. in_rrset r q && not (same_record r q)) z)) (h r)
+      ∙ ap (λ x. has_ttl r.ttl (ttl_at w r) && not (replaces_rrset r && x))
+      (any_same identity (λ q. in_rrset r q && not (same_record r q)) (both_respect (in_rrset r) (λ q. not (same_record r q)) (rrset_respects identity r) (not_respects (same_record r) (same_respects identity r))) z w h)
+
+  comes_same : (c : ℕ) (z w : Records) (r : Resource) → SameZone z w → comes c z r ≡ comes c w r
+  comes_same c z w r h =
+      ap (λ x. (r.dns_class == c) && (not x && not (is_there z r))) (ignored_same z w r h) ∙ ap (λ x. (r.dns_class == c) && (not (is_ignored w r) && not x)) (there_same z w r h)
+
+  spared_same : (c : ℕ) (z w : Records) (r : Resource) → SameZone z w → is_spared c z r ≡ is_spared c w r
+  spared_same c z w r h =
+      ap (λ x. is_type 6 r || (is_type 2 r && not x))
+      (any_same identity (λ q. in_rrset r q && not (same_record (in_class c r) q)) (both_respect (in_rrset r) (λ q. not (same_record (in_class c r) q)) (rrset_respects identity r) (not_respects (same_record (in_class c r)) (same_respects identity (in_class c r)))) z w h)
+
+  -- ---- whether an update changes the zone
+
+  changes_same : (o : DomainName) (c : ℕ) (z w : Records) (r : Resource) → SameZone z w → changes o c z r ≡ changes o c w r
+  unfolding changes
+  changes_same o c z w r h =
+      ap (λ a. list_any (goes_when o c r a (is_spared c z r)) z || a) (comes_same c z w r h)
+      ∙ ap (λ b. list_any (goes_when o c r (comes c w r) b) z || comes c w r) (spared_same c z w r h)
+      ∙ ap (λ x. x || comes c w r) (any_same identity (goes_when o c r (comes c w r) (is_spared c w r)) (goes_respects identity o c r (comes c w r) (is_spared c w r)) z w h)
+
+  any_change_same : (o : DomainName) (c : ℕ) (rs z w : Records) → SameZone z w → any_change o c z rs ≡ any_change o c w rs
+  any_change_same o c [] z w h = refl
+  any_change_same o c (r ∷ rs) z w h =
+      ap (λ x. x || any_change o c (turn o c z r) rs) (changes_same o c z w r h)
+      ∙ ap (λ x. changes o c w r || x) (any_change_same o c rs (turn o c z r) (turn o c w r) (fold_same identity o c (r ∷ []) z w h))
+
+  -- ---- the increment
+
+  module _ (o : DomainName) where
+    -- a record that is no SOA of the apex
+    other_ttl : (q : Resource) → is_apex_soa o q ≡ false → (z : Records) → ttl_at (map (incremented o) z) q ≡ ttl_at z q
+    other_ttl q n [] = refl
+    other_ttl q n (r ∷ z) = step (is_apex_soa o r) refl (other_ttl q n z)
+      where
+        step : (b : Bool) → is_apex_soa o r ≡ b → ttl_at (map (incremented o) z) q ≡ ttl_at z q → cond (same_record q (cond b (next_soa r) r)) (Some (cond b (next_soa r) r).ttl) (ttl_at (map (incremented o) z) q) ≡ cond (same_record q r) (Some r.ttl) (ttl_at z q)
+        step true e rest =
+            let first : same_record q (next_soa r) ≡ false = is_false (same_record q (next_soa r)) (λ s. true_and_false (is_apex_soa o q) (sym (soa_respects identity same_type o q (next_soa r) s) ∙ apex_next o r ∙ e) n) in
+            let second : same_record q r ≡ false = is_false (same_record q r) (λ s. true_and_false (is_apex_soa o q) (sym (soa_respects identity same_type o q r s) ∙ e) n) in
+            passed_by (same_record q (next_soa r)) r.ttl (ttl_at (map (incremented o) z) q) first ∙ rest ∙ sym (passed_by (same_record q r) r.ttl (ttl_at z q) second)
+        step false e rest = ap (λ x. cond (same_record q r) (Some r.ttl) x) rest
+
+    -- the one that has the next serial
+    next_ttl : (s q : Resource) → is_apex_soa o s ≡ true → is_apex_soa o q ≡ true → ((r : Resource) → same_record s r ≡ true → same_record q (next_soa r) ≡ true) → (z : Records) → list_any (λ r. is_apex_soa o r && not (same_record s r)) z ≡ false
+        → ttl_at (map (incremented o) z) q ≡ ttl_at z s
+    next_ttl s q n k follows [] alone = refl
+    next_ttl s q n k follows (r ∷ z) alone = step (is_apex_soa o r) refl (next_ttl s q n k follows z (rest_none (is_apex_soa o r && not (same_record s r)) _ alone))
+      where
+        step : (b : Bool) → is_apex_soa o r ≡ b → ttl_at (map (incremented o) z) q ≡ ttl_at z s → cond (same_record q (cond b (next_soa r) r)) (Some (cond b (next_soa r) r).ttl) (ttl_at (map (incremented o) z) q) ≡ cond (same_record s r) (Some r.ttl) (ttl_at z s)
+        step true e rest =
+            let one : same_record s r ≡ true = both_true (is_apex_soa o r) (same_record s r) e (first_none (is_apex_soa o r && not (same_record s r)) _ alone) in
+            found_at (same_record q (next_soa r)) r.ttl (ttl_at (map (incremented o) z) q) (follows r one) ∙ sym (found_at (same_record s r) r.ttl (ttl_at z s) one)
+        step false e rest =
+            let first : same_record q r ≡ false = is_false (same_record q r) (λ h. true_and_false (is_apex_soa o q) k (sym (soa_respects identity same_type o q r h) ∙ e)) in
+            let second : same_record s r ≡ false = is_false (same_record s r) (λ h. true_and_false (is_apex_soa o s) n (sym (soa_respects identity same_type o s r h) ∙ e)) in
+            passed_by (same_record q r) r.ttl (ttl_at (map (incremented o) z) q) first ∙ rest ∙ sym (passed_by (same_record s r) r.ttl (ttl_at z s) second)
+
+    no_ttl : (z : Records) (s q : Resource) → IsOneSoa o z s → is_apex_soa o q ≡ true → same_record (next_soa s) q ≡ false → ttl_at (map (incremented o) z) q ≡ None
+    no_ttl z s q h n apart =
+        none_of (ttl_at (map (incremented o) z) q)
+        (some_ttl (map (incremented o) z) q ∙ is_false (list_any (same_record q) (map (incremented o) z)) (λ e. true_and_false (same_record (next_soa s) q) (only_soa identity same_type o (map (incremented o) z) (next_soa s) q (one_next identity same_type o z s h) n e) apart))
+
+    -- records of one identity are of one with the next serial
+    next_alike : (s r : Resource) → same_record s r ≡ true → same_record (next_soa s) (next_soa r) ≡ true
+    next_alike s r e =
+        let i : SameRecord s r = (identity s r).0 e in (identity (next_soa s) (next_soa r)).1 (record { name = i.name; class = i.class; rdata = next_same s.rdata r.rdata i.rdata })
+
+    incremented_same : (z w : Records) → HasOneSoa o z → SameZone z w → SameZone (map (incremented o) z) (map (incremented o) w)
+    incremented_same z w h same q = by_kind (is_apex_soa o q) refl
+      where
+        in_w : IsOneSoa o w h.0
+        in_w = one_soa_same identity same_type o z w h.0 same h.1
+
+        by_serial : (b : Bool) → same_record (next_soa h.0) q ≡ b → is_apex_soa o q ≡ true → ttl_at (map (incremented o) z) q ≡ ttl_at (map (incremented o) w) q
+        by_serial true e n =
+            let follows : (r : Resource) → same_record h.0 r ≡ true → same_record q (next_soa r) ≡ true = λ r k. same_via identity q (next_soa h.0) (next_soa r) (same_turned identity (next_soa h.0) q e) (next_alike h.0 r k) in
+            next_ttl h.0 q h.1.0 n follows z h.1.2 ∙ same h.0 ∙ sym (next_ttl h.0 q h.1.0 n follows w in_w.2)
+        by_serial false e n = no_ttl z h.0 q h.1 n e ∙ sym (no_ttl w h.0 q in_w n e)
+
+        by_kind : (b : Bool) → is_apex_soa o q ≡ b → ttl_at (map (incremented o) z) q ≡ ttl_at (map (incremented o) w) q
+        by_kind true n = by_serial (same_record (next_soa h.0) q) refl n
+        by_kind false n = other_ttl q n z ∙ same q ∙ sym (other_ttl q n w)
+
+  -- ---- an update section
+
+  -- two outcomes that leave one zone
+  abbrev SameOutcome : Outcome → Outcome → Type 0
+  SameOutcome (Ok a) (Ok b) = SameZone a.0 b.0
+  SameOutcome (Err c) (Err d) = Unit {0}
+  SameOutcome a b = ⊥
+
+  serial_outcome : (o : DomainName) (z w : Records) (a b : Bool) → a ≡ b → HasOneSoa o z → SameZone z w → SameOutcome (cond a (Ok (map (incremented o) z, true)) (Err 2)) (cond b (Ok (map (incremented o) w, true)) (Err 2))
+  serial_outcome o z w true true e h same = incremented_same o z w h same
+  serial_outcome o z w false false e h same = tt
+  serial_outcome o z w true false e h same = absurd (cc)
+  serial_outcome o z w false true e h same = absurd (cc)
+
+  change_outcome : (o : DomainName) (rs z w : Records) (a b : Bool) → a ≡ b → HasOneSoa o z → SameZone z w
+      → SameOutcome (cond a (with_next_serial o (fold o 1 z rs)) (Ok (z, false))) (cond b (with_next_serial o (fold o 1 w rs)) (Ok (w, false)))
+  change_outcome o rs z w true true e h same =
+      let after : SameZone (fold o 1 z rs) (fold o 1 w rs) = fold_same identity o 1 rs z w same in
+      serial_outcome o (fold o 1 z rs) (fold o 1 w rs) (list_any (is_apex_soa o) (fold o 1 z rs)) (list_any (is_apex_soa o) (fold o 1 w rs))
+      (any_same identity (is_apex_soa o) (soa_respects identity same_type o) (fold o 1 z rs) (fold o 1 w rs) after) (one_fold identity same_type o 1 rs z h) after
+  change_outcome o rs z w false false e h same = same
+  change_outcome o rs z w true false e h same = absurd (cc)
+  change_outcome o rs z w false true e h same = absurd (cc)
+
+  applied_same : (o : DomainName) (rs z w : Records) → HasOneSoa o z → SameZone z w → SameOutcome (applied o 1 z rs true) (applied o 1 w rs true)
+  applied_same o rs z w h same = change_outcome o rs z w (any_change o 1 z rs) (any_change o 1 w rs) (any_change_same o 1 rs z w same) h same
+
+  -- the outcome has one SOA, if it is no refusal
+  abbrev OneSoaLeft : DomainName → Outcome → Type 0
+  OneSoaLeft o (Ok p) = HasOneSoa o p.0
+  OneSoaLeft o (Err code) = Unit {0}
+
+  serial_left : (o : DomainName) (z : Records) (b : Bool) → HasOneSoa o z → OneSoaLeft o (cond b (Ok (map (incremented o) z, true)) (Err 2))
+  serial_left o z true h = (next_soa h.0, one_next identity same_type o z h.0 h.1)
+  serial_left o z false h = tt
+
+  change_left : (o : DomainName) (rs z : Records) (b : Bool) → HasOneSoa o z → OneSoaLeft o (cond b (with_next_serial o (fold o 1 z rs)) (Ok (z, false)))
+  change_left o rs z true h = serial_left o (fold o 1 z rs) (list_any (is_apex_soa o) (fold o 1 z rs)) (one_fold identity same_type o 1 rs z h)
+  change_left o rs z false h = h
+
+  -- two zones of one origin that have the same records, with one SOA
+  record Alike (a b : MemoryZone) : Type 0 where
+    origin : a.origin ≡ b.origin
+    records : SameZone (zone_records a.sets) (zone_records b.sets)
+    soa : HoldsIn HasOneSoa a
+
+  left_alike : (one other : Outcome) (a b x y : MemoryZone) → Alike a b → SameOutcome one other → OneSoaLeft a.origin one → Leaves one a x → Leaves other b y → Alike x y
+  left_alike (Ok one) (Ok other) a b x y alike same left p q =
+      let of_x : x.origin ≡ a.origin = ap (λ (z : MemoryZone). z.origin) p.1 in
+      let of_y : y.origin ≡ b.origin = ap (λ (z : MemoryZone). z.origin) q.1 in
+      record {
+        origin = of_x ∙ alike.origin ∙ sym of_y;
+        records = λ r. p.0 r ∙ same r ∙ sym (q.0 r);
+        soa = subst (λ o. HasOneSoa o (zone_records x.sets)) (sym of_x) (left.0, one_soa_same identity same_type a.origin one.0 (zone_records x.sets) left.0 (λ r. sym (p.0 r)) left.1);
+      }
+  left_alike (Err c) (Err d) a b x y alike same left p q = subst (λ v. Alike v y) (sym p) (subst (λ v. Alike a v) (sym q) alike)
+  left_alike (Ok one) (Err d) a b x y alike same left p q = absurd same
+  left_alike (Err c) (Ok other) a b x y alike same left p q = absurd same
+
+  made_alike : (rs : Records) (a b x y : MemoryZone) → Alike a b → Makes rs a x → Makes rs b y → Alike x y
+  made_alike rs a b x y alike p q =
+      let done : Leaves (applied a.origin 1 (zone_records b.sets) rs true) b y = subst (λ o. Leaves (applied o 1 (zone_records b.sets) rs true) b y) (sym alike.origin) q.done in
+      left_alike (applied a.origin 1 (zone_records a.sets) rs true) (applied a.origin 1 (zone_records b.sets) rs true) a b x y alike
+      (applied_same a.origin rs (zone_records a.sets) (zone_records b.sets) alike.soa alike.records)
+      (change_left a.origin rs (zone_records a.sets) (any_change a.origin 1 (zone_records a.sets) rs) alike.soa) p.done done
+
+  -- ---- entries
+
+  same_message : (entry : List ℕ) (a b x y : MemoryZone) (p : RedoesOne entry a x) (q : RedoesOne entry b y) → p.message ≡ q.message
+  same_message entry a b x y p q = ap (λ (m : Message × Cursor). m.0) (ok_is (sym p.reads.reads ∙ q.reads.reads))
+    where
+      ok_is : {m n : Message × Cursor} → ◌≡◌ {A = Result (Message × Cursor) DecodeError} (Ok m) (Ok n) → m ≡ n
+      ok_is e = cc
+
+  redone_alike : (entries : List (List ℕ)) (a b x y : MemoryZone) → Alike a b → Redone entries a x → Redone entries b y → Alike x y
+  redone_alike [] a b x y alike p q = subst (λ v. Alike v y) (sym p) (subst (λ v. Alike a v) (sym q) alike)
+  redone_alike (entry ∷ entries) a b x y alike p q =
+      let first = p.1 in
+      let second = q.1 in
+      let made : Makes p.1.message.authorities b q.0 = subst (λ (m : Message). Makes m.authorities b q.0) (sym (same_message entry a b p.0 q.0 p.1 q.1)) q.1.made in
+      redone_alike entries p.0 q.0 x y (made_alike p.1.message.authorities a b p.0 q.0 alike p.1.made made) p.2 q.2
+
+  pub redone_once : (entries : List (List ℕ)) (base a b : MemoryZone) → HoldsIn HasOneSoa base → Redone entries base a → Redone entries base b → SameZone (zone_records a.sets) (zone_records b.sets) × HoldsIn HasOneSoa a
+  redone_once entries base a b soa p q =
+      let alike = redone_alike entries base base a b (record { origin = refl; records = λ r. refl; soa = soa }) p q in
+      (alike.records, alike.soa)

@@ -1,0 +1,132 @@
+-- Lives of a process that serves one zone with its journal: each begins with what stands in the file, and ends with a crash.
+use Rattle.std.specs.Prelude.{◌≡◌, ◌⊎◌, ◌≤◌, ℕ, Bool, true, false, IsTrue, List, [], ◌∷◌, ◌++◌, length, map, Option, Result, Ok, Err, OnErr, OnOk}
+use Rattle.wire_messages.specs.declared.rr.tsig.TSigResponseContext.{TSigResponseContext}
+use Rattle.wire_reading.specs.serialize.reading.MessageReading.{Reads}
+use Rattle.hickory_base.specs.requests.Requests.{ReceivedRequest}
+use Rattle.hickory_base.specs.requests.RequestReading.{message_of}
+use Rattle.hickory_base.specs.requests.Updates.{update_of}
+use Rattle.hickory_base.specs.zone_store.ZoneAnswers.{MemoryZone}
+use Rattle.hickory_base.specs.declared.errors.UpdateFault.{UpdateFault}
+use Rattle.hickory_store.specs.UpdatableZone.{UpdatableZone}
+use Rattle.hickory_store.specs.declared.sqlite.verifier.Verifier.{Ghosts}
+use Rattle.sqlite_disk.specs.Disk.{Only}
+use Rattle.sqlite_disk.specs.declared.Disk.{Ghosts as DiskGhosts}
+use Rattle.update_journal.specs.Frames.{StandsFor}
+use Rattle.update_journal.specs.JournalState.{JournalState}
+use Rattle.update_journal.specs.Read.{contents}
+use Rattle.update_journal.specs.Recovery.{Recovers}
+use Rattle.update_journal.specs.declared.reading.Recovered.{Recovered}
+use Rattle.update_journal.specs.declared.error.JournalError.{JournalError}
+use Rattle.durable_updates.specs.DurableUpdates.{AnswersDurably}
+use Rattle.durable_updates.specs.Journalling.{Journals}
+use Rattle.durable_updates.specs.Redone.{Makes, Redone}
+
+-- The message of a request is the one that its bytes begin with, as it is of each that `Request::from_bytes` reads.
+abbrev pub IsRead : ReceivedRequest → Type 0
+IsRead request = Reads request.bytes (message_of request.message)
+
+-- the entries of requests
+abbrev pub bytes_of : List ReceivedRequest → List (List ℕ)
+bytes_of requests = map (λ (request : ReceivedRequest). request.bytes) requests
+
+-- What a process did from its start to its end: the requests that it acknowledged, in their order; and the one, if any, that is in doubt: the journal
+-- failed with it, or the process ended while it was at it.
+pub record Life : Type 0 where
+  pub acknowledged : List ReceivedRequest
+  pub in_doubt : List ReceivedRequest
+
+-- as it begins
+abbrev pub unused : Life
+unused = record { acknowledged = []; in_doubt = [] }
+
+-- this request is in doubt, unless another is already
+abbrev pub doubted : List ReceivedRequest → ReceivedRequest → List ReceivedRequest
+doubted [] request = request ∷ []
+doubted (first ∷ others) request = first ∷ others
+
+-- once a request was answered: with Ok it is acknowledged; with an error it was refused, or is in doubt where the journal takes no entry any more
+abbrev pub after_answer : Life → ReceivedRequest → Result Bool UpdateFault → Bool → Life
+after_answer life request (Ok changed) is_open = record life { acknowledged = life.acknowledged ++ request ∷ [] }
+after_answer life request (Err fault) true = life
+after_answer life request (Err fault) false = record life { in_doubt = doubted life.in_doubt request }
+
+-- where the process ended while it was at this request
+abbrev pub cut_short : Life → ReceivedRequest → Life
+cut_short life request = record life { in_doubt = doubted life.in_doubt request }
+
+-- The entries that lives, the last of them first, may leave: behind those of the lives before it, of each all that it acknowledged, and then what is in
+-- doubt, whole or not at all.
+abbrev pub MayStand : List Life → List (List ℕ) → Type 0
+MayStand [] entries = entries ≡ []
+MayStand (life ∷ earlier) entries =
+    (before : List (List ℕ)) × MayStand earlier before
+    × ((entries ≡ before ++ bytes_of life.acknowledged) ⊎ (entries ≡ (before ++ bytes_of life.acknowledged) ++ bytes_of life.in_doubt))
+
+-- Of no life more than one request is in doubt.
+abbrev pub OneInDoubt : List Life → Type 0
+OneInDoubt [] = Unit {0}
+OneInDoubt (life ∷ earlier) = (length life.in_doubt ≤ 1) × OneInDoubt earlier
+
+-- a zone with its journal
+pub record Server (V D : Type 0) : Type 0 where
+  pub zone : UpdatableZone V
+  pub journal : JournalState D
+
+module _ {V D : Type 0} (by : Ghosts V) (disks : DiskGhosts D) where
+  -- A request is answered: the contract of `update_durably`.
+  pub record ServesOne (request : ReceivedRequest) (now : ℕ) (answer : Result Bool UpdateFault) (context : Option TSigResponseContext) (old new : Server V D) : Type 0 where
+    pub answers : AnswersDurably by old.zone request now answer context new.zone
+    pub made : OnOk answer (Makes (update_of request.message).updates old.zone.zone new.zone.zone)
+    pub kept : OnErr answer (new.zone ≡ old.zone)
+    pub journals : Journals disks.seen disks.may_leave answer request.bytes old.journal new.journal
+
+  -- A disk has this file, and nothing else, as after a crash; its recovery answers so, and the disk told no lie: the contract of `recover`.
+  pub record Opens (file : List ℕ) (result : Result Recovered JournalError) (opened : D) : Type 0 where
+    pub disk : D
+    pub there : disks.seen disk ≡ file
+    pub restarted : Only (disks.seen disk) (disks.may_leave disk)
+    pub recovers : Recovers disks.seen disks.may_leave disks.is_clean disk result opened
+    pub clean : IsTrue (disks.is_clean opened)
+
+  -- The server starts on the file: its journal is recovered, and the entries are done again to the zone that was there before the first of them:
+  -- the contracts of `recover`, `Journal::new` and `redo`.
+  pub record Starts (base : MemoryZone) (file : List ℕ) (server : Server V D) : Type 0 where
+    pub opened : D
+    pub found : Recovered
+    pub opens : Opens file (Ok found) opened
+    pub journal : server.journal ≡ record { disk = opened; end = found.end; is_open = true }
+    pub redone : Redone (contents found.entries.items) base server.zone.zone
+
+  -- From its first state on the server has answered requests, one after another, each at its moment.
+  pub data Serves (first : Server V D) : Life → Server V D → Type 0 where
+    begun : Serves first unused first
+    answered : {life : Life} {old new : Server V D} (request : ReceivedRequest) (now : ℕ) (answer : Result Bool UpdateFault) (context : Option TSigResponseContext)
+        → Serves first life old → IsRead request → ServesOne request now answer context old new
+        → Serves first (after_answer life request answer new.journal.is_open) new
+
+  -- A life begins with one file, and a crash leaves another: while the server started, or between two requests, or while it was at one, at any moment
+  -- of the call.
+  pub data IsLife (base : MemoryZone) (file : List ℕ) : Life → List ℕ → Type 0 where
+    while_starting : {next : List ℕ} {result : Result Recovered JournalError} {opened : D} → Opens file result opened → disks.may_leave opened next → IsLife base file unused next
+    between_requests : {next : List ℕ} {life : Life} {first server : Server V D} → Starts base file first → Serves first life server → disks.may_leave server.journal.disk next
+        → IsLife base file life next
+    within_request : {next : List ℕ} {life : Life} {first old new : Server V D} (request : ReceivedRequest) (now : ℕ) (answer : Result Bool UpdateFault) (context : Option TSigResponseContext)
+        → Starts base file first → Serves first life old → IsRead request → ServesOne request now answer context old new → disks.may_leave new.journal.disk next
+        → IsLife base file (cut_short life request) next
+
+  -- Lives, the last first, and the file that they left. Before the first the file is empty.
+  pub data Run (base : MemoryZone) : List Life → List ℕ → Type 0 where
+    unborn : Run base [] []
+    lived : {lives : List Life} {file next : List ℕ} {life : Life} → Run base lives file → IsLife base file life next → Run base (life ∷ lives) next
+
+  -- After a run the file stands for what its lives may leave. A server that starts on it has the zone that these entries make of the first zone; and
+  -- while it serves, the zone of these and of the requests that it has acknowledged since.
+  pub record IsKept (base : MemoryZone) (lives : List Life) (file : List ℕ) : Type 0 where
+    pub stands : (entries : List (List ℕ)) × StandsFor file entries × MayStand lives entries
+    pub one_in_doubt : OneInDoubt lives
+    pub served : (first server : Server V D) (life : Life) → Starts base file first → Serves first life server
+        → (entries : List (List ℕ)) × StandsFor file entries × MayStand lives entries
+        × Redone entries base first.zone.zone × Redone (entries ++ bytes_of life.acknowledged) base server.zone.zone
+
+  abbrev pub RunsAreKept : Type 0
+  RunsAreKept = (base : MemoryZone) (lives : List Life) (file : List ℕ) → Run base lives file → IsKept base lives file

@@ -1,0 +1,251 @@
+//! A zone handler whose updates are on the disk before they are answered.
+
+ghost use Rattle.std.specs.Prelude.{◌≡◌, IfErr, IfOk, IsTrue, None, false};
+ghost use Rattle.hickory_base.specs.zone_store.ZoneAnswers.{LookedUp};
+ghost use Rattle.hickory_base.specs.declared.zone_store.lookup.LookupControlFlow.TheVariants.{Skip};
+ghost use Rattle.hickory_store.specs.Permission.{transfer_permission};
+ghost use Rattle.hickory_store.specs.TransferAnswers.{SearchedIn, TransferredAs};
+ghost use Rattle.durable_updates.specs.DurableUpdates.{AnswersDurably};
+ghost use Rattle.sqlite_disk.specs.Disk.{Only};
+ghost use Rattle.durable_updates.specs.Recorded.{IsDurable, IsOpenedFrom, IsRecovered};
+
+use crate::redoing::{RedoError, redo};
+use crate::updating::update_durably;
+use hickory_base::errors::{LookupError, UpdateFault};
+use hickory_base::server::{Request, RequestInfo};
+use hickory_base::zone_store::{
+    AuthLookup, AxfrPolicy, LookupControlFlow, LookupOptions, Nsec3QueryInfo, NxProofKind,
+    StoredAnswer, ZoneHandler, ZoneTransfer, ZoneType,
+};
+use hickory_store::sqlite::{SqliteZoneHandler, Verifier};
+use hickory_wire::{LowerName, Record, RecordType, TSigResponseContext};
+use sqlite_disk::Disk;
+use std::alloc::Global;
+use std::marker::Model;
+use thiserror::Error;
+use update_journal::{Journal, JournalError, recover};
+
+/// Why the journal of a zone was not opened.
+#[derive(Debug, Drop, Error)]
+pub enum OpenError {
+    /// Its file was not recovered.
+    #[error("{0}")]
+    Journal(JournalError),
+    /// Its entries were not done again.
+    #[error("{0}")]
+    Entries(RedoError),
+}
+
+/// A zone that takes dynamic updates (RFC 2136) as `SqliteZoneHandler` does, each of which is in a journal on the disk before it is
+/// answered `Ok`. Where the journal refuses an update, the answer is ServFail, and the zone is as before; queries go on.
+///
+/// A contract sees the zone alone. What it keeps with its journal is `IsDurable`, whatever is asked of it.
+#[derive(Drop)]
+pub struct JournalledZone<V: Verifier, D: Disk + Drop> {
+    zone: SqliteZoneHandler<V>,
+    journal: Journal<D>,
+}
+
+impl<V: Verifier, D: Disk + Drop> Model for JournalledZone<V, D> {
+    ghost use Rattle.hickory_store.specs.UpdatableZone.{UpdatableZone};
+    ghost use Rattle.durable_updates.specs.Recorded.{IsDurable};
+
+    ghost Value = { UpdatableZone V };
+
+    ghost view = { λ handler. handler.zone };
+
+    ghost invariant = { λ handler. IsDurable D.Disk handler.zone.zone handler.journal };
+}
+
+impl<V: Verifier, D: Disk + Drop> JournalledZone<V, D> {
+    /// Opens the journal in a file, and does its entries again to `zone`, the zone that was there before the first of them. An empty
+    /// file is a journal without entries. It takes memory for the file twice and for the zone, and writes at most one byte, with
+    /// one sync.
+    ///
+    /// With an error the file is handed back. It stands for the same entries.
+    pub fn open(
+        alloc: Global,
+        zone: SqliteZoneHandler<V>,
+        disk: D,
+    ) -> Result<JournalledZone<V, D>, (OpenError, D)>
+        requires usable { IsTrue (D.is_usable disk) }
+        // After a restart, what is read is what is on the disk.
+        requires restarted { Only (D.seen disk) (D.may_leave disk) }
+        ensures recovered { IfOk result (λ handler. IsRecovered D.Disk disk zone.zone handler.zone) }
+        ensures others { IfOk result (λ handler. handler ≡ record zone { zone = handler.zone }) }
+        ensures err { IfErr result (λ e. IsOpenedFrom D.Disk disk e.1) }
+    {
+        let mut zone = zone;
+        let mut disk = disk;
+        match recover(alloc, &mut disk) {
+            Err(error) => Err((OpenError::Journal(error), disk)),
+            Ok(found) => match redo(&mut zone, alloc, &found.entries) {
+                Err(error) => Err((OpenError::Entries(error), disk)),
+                Ok(()) => Ok(JournalledZone::new(zone, Journal::new(disk, found.end))),
+            },
+        }
+    }
+
+    /// A handler of a zone with its journal: the zone is the one that the entries of the journal make of the first zone, as `redo`
+    /// leaves it of what `recover` found.
+    pub fn new(zone: SqliteZoneHandler<V>, journal: Journal<D>) -> JournalledZone<V, D>
+        requires { IsDurable D.Disk zone.zone journal }
+        ensures { result ≡ zone }
+    {
+        JournalledZone { zone, journal }
+    }
+
+    /// The zone without its journal.
+    pub fn zone(&self) -> &SqliteZoneHandler<V>
+        ensures { result.now ≡ self.now }
+    {
+        &self.zone
+    }
+
+    /// Whether the journal takes entries. Once it does not, every update is ServFail, until the zone is recovered from the file.
+    pub fn takes_updates(&self) -> bool {
+        self.journal.is_open()
+    }
+
+    /// The zone and its journal, as they are after whatever was asked of the handler.
+    pub fn into_parts(self) -> (SqliteZoneHandler<V>, Journal<D>)
+        ensures zone { result.0 ≡ self }
+        ensures durable { IsDurable D.Disk result.0.zone result.1 }
+    {
+        let JournalledZone { zone, journal } = self;
+        (zone, journal)
+    }
+}
+
+impl<V: Verifier, D: Disk + Drop> ZoneHandler for JournalledZone<V, D> {
+    ghost zone_type_of = { λ handler. handler.zone.zone_type };
+
+    ghost axfr_policy_of = { λ handler. handler.axfr_policy };
+
+    ghost origin_of = { λ handler. handler.zone.origin };
+
+    ghost validates_dnssec = { λ _. false };
+
+    ghost nx_proof_kind_of = { λ _. None };
+
+    ghost lookup_gives = { λ handler name record_type _ _ answer. LookedUp handler.zone name record_type answer };
+
+    ghost search_gives = { λ handler request _ answer context. SearchedIn handler.zone request answer × (context ≡ None) };
+
+    ghost consult_gives = { λ _ _ _ _ _ last answer context. (answer ≡ last) × (context ≡ None) };
+
+    ghost transfer_gives = { λ handler request _ now answer. TransferredAs handler.zone (transfer_permission V.Verifier handler.verifier handler.axfr_policy request now) answer };
+
+    ghost nsec_gives = { λ _ _ _ answer. answer ≡ Skip };
+
+    ghost nsec3_gives = { λ _ _ _ answer. answer ≡ Skip };
+
+    ghost update_gives = { AnswersDurably V.Verifier };
+
+    fn zone_type(&self) -> ZoneType {
+        self.zone.zone_type()
+    }
+
+    fn axfr_policy(&self) -> AxfrPolicy {
+        self.zone.axfr_policy()
+    }
+
+    fn origin(&self) -> &LowerName {
+        self.zone.origin()
+    }
+
+    fn can_validate_dnssec(&self) -> bool {
+        self.zone.can_validate_dnssec()
+    }
+
+    fn nx_proof_kind(&self) -> Option<&NxProofKind> {
+        self.zone.nx_proof_kind()
+    }
+
+    fn lookup(
+        &self,
+        alloc: Global,
+        name: &LowerName,
+        record_type: RecordType,
+        info: Option<&RequestInfo<'_>>,
+        options: LookupOptions,
+    ) -> LookupControlFlow<AuthLookup> {
+        self.zone.lookup(alloc, name, record_type, info, options)
+    }
+
+    fn search(
+        &self,
+        alloc: Global,
+        request: &Request,
+        options: LookupOptions,
+    ) -> (LookupControlFlow<AuthLookup>, Option<TSigResponseContext>) {
+        self.zone.search(alloc, request, options)
+    }
+
+    fn stored_answer(&self, request: &Request, options: LookupOptions) -> Option<StoredAnswer<'_>> {
+        self.zone.stored_answer(request, options)
+    }
+
+    fn stored_soa(&self, options: LookupOptions) -> Option<&[Record]> {
+        self.zone.stored_soa(options)
+    }
+
+    fn consult(
+        &self,
+        alloc: Global,
+        name: &LowerName,
+        record_type: RecordType,
+        info: Option<&RequestInfo<'_>>,
+        options: LookupOptions,
+        last: LookupControlFlow<AuthLookup>,
+    ) -> (LookupControlFlow<AuthLookup>, Option<TSigResponseContext>) {
+        self.zone
+            .consult(alloc, name, record_type, info, options, last)
+    }
+
+    fn zone_transfer(
+        &self,
+        alloc: Global,
+        request: &Request,
+        options: LookupOptions,
+        now: u64,
+    ) -> Option<
+        (
+            Result<ZoneTransfer, LookupError>,
+            Option<TSigResponseContext>,
+        ),
+    > {
+        self.zone.zone_transfer(alloc, request, options, now)
+    }
+
+    fn nsec_records(
+        &self,
+        alloc: Global,
+        name: &LowerName,
+        options: LookupOptions,
+    ) -> LookupControlFlow<AuthLookup> {
+        self.zone.nsec_records(alloc, name, options)
+    }
+
+    fn nsec3_records(
+        &self,
+        alloc: Global,
+        info: Nsec3QueryInfo<'_>,
+        options: LookupOptions,
+    ) -> LookupControlFlow<AuthLookup> {
+        let info = Nsec3QueryInfo {
+            qtype: info.qtype,
+            ..info
+        };
+        self.zone.nsec3_records(alloc, info, options)
+    }
+
+    fn update(
+        &mut self,
+        alloc: Global,
+        request: &Request,
+        now: u64,
+    ) -> (Result<bool, UpdateFault>, Option<TSigResponseContext>) {
+        update_durably(&mut self.zone, &mut self.journal, alloc, request, now)
+    }
+}

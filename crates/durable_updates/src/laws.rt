@@ -1,0 +1,37 @@
+//! Laws of the definitions, each the contract of a function with nothing to do.
+
+ghost use Rattle.std.specs.Prelude.{◌≡◌, ◌++◌, ◌∷◌, [], List, ℕ};
+ghost use Rattle.hickory_base.specs.zone_store.ZoneAnswers.{MemoryZone};
+ghost use Rattle.hickory_base.specs.zone_store.ZoneSets.{zone_records};
+ghost use Rattle.hickory_store.specs.Identity.{SameZone};
+ghost use Rattle.hickory_store.specs.UpdateLaws.{HasOneSoa, HoldsIn};
+ghost use Rattle.durable_updates.specs.Redone.{Redone, RedoesOne};
+ghost use Rattle.durable_updates.specs.Runs.{RunsAreKept};
+
+use hickory_store::sqlite::Verifier;
+use hickory_store::sqlite::laws::identities;
+use hickory_wire::record_comparisons;
+use sqlite_disk::Disk;
+
+/// Entries and one more that is done after them are done as one list.
+pub fn one_more()
+    ensures { (entries : List (List ℕ)) (entry : List ℕ) (old between new : MemoryZone) → Redone entries old between → RedoesOne entry between new → Redone (entries ++ entry ∷ []) old new }
+{}
+
+/// Entries make one zone of a zone that has one SOA at its apex: whoever does them again gets the same records, with the same
+/// serial, and one SOA.
+pub fn redone_once()
+    ensures records { (entries : List (List ℕ)) (base new other : MemoryZone) → HoldsIn HasOneSoa base → Redone entries base new → Redone entries base other → SameZone (zone_records new.sets) (zone_records other.sets) }
+    ensures soa { (entries : List (List ℕ)) (base new : MemoryZone) → HoldsIn HasOneSoa base → Redone entries base new → HoldsIn HasOneSoa new }
+{
+    identities();
+    record_comparisons();
+}
+
+/// A process serves a zone with its journal, ends at any moment, and is started again, as often as you like: on the requests
+/// that it answers, those that it refuses and those in which a crash comes, with a disk that fails or does not. At each start it
+/// recovers, of each life before, all updates that were acknowledged, in their order, and behind them at most the one that was in
+/// doubt, whole or not at all; the zone is the one that these make of the first zone.
+pub fn runs_are_kept<V: Verifier, D: Disk>()
+    ensures { RunsAreKept V.Verifier D.Disk }
+{}

@@ -1,0 +1,95 @@
+//! Doing a journal's entries again.
+
+ghost use Rattle.std.specs.Prelude.{◌≡◌, IfOk, OnOk};
+ghost use Rattle.wire_reading.specs.serialize.reading.MessageReading.{Reads};
+ghost use Rattle.hickory_base.specs.requests.RequestReading.{message_of};
+ghost use Rattle.update_journal.specs.Read.{contents};
+ghost use Rattle.durable_updates.specs.Redone.{Makes, Redone, RedoesOne};
+
+use hickory_base::errors::UpdateFault;
+use hickory_base::server::Request;
+use hickory_base::update_request::UpdateRequest;
+use hickory_store::sqlite::{SqliteZoneHandler, Verifier};
+use hickory_wire::{ProtoError, Protocol, Record};
+use std::alloc::Global;
+use std::net::{IpAddr, Ipv4Addr, SocketAddr};
+use thiserror::Error;
+
+/// Why an entry is not done again.
+#[derive(Clone, Copy, Debug, PartialEq, Eq, Error)]
+pub enum RedoError {
+    /// It does not begin with a message, or the update section of that does not pass the prescan of this zone (RFC 2136
+    /// section 3.4.1).
+    #[error("an entry is no update of this zone")]
+    Damaged,
+    /// Memory was refused.
+    #[error("out of memory")]
+    Memory,
+}
+
+/// Reads an entry. Where it came from is not kept.
+fn read_entry(alloc: Global, entry: &[u8]) -> Result<Request, RedoError>
+    ensures reads { IfOk result (λ request. Reads entry.now (message_of request.message)) }
+{
+    let Ok(bytes) = Vec::from_slice(alloc, entry) else {
+        return Err(RedoError::Memory);
+    };
+    let nowhere = SocketAddr::new(IpAddr::V4(Ipv4Addr::LOCALHOST), 0);
+    match Request::from_bytes(alloc, bytes, nowhere, Protocol::Tcp) {
+        Ok(request) => Ok(request),
+        Err(ProtoError::Memory) => Err(RedoError::Memory),
+        Err(_) => Err(RedoError::Damaged),
+    }
+}
+
+/// Does an update section again that passes the prescan. One that is refused, for want of an SOA, leaves the zone as it was when
+/// it came.
+fn redo_updates<V: Verifier>(
+    zone: &mut SqliteZoneHandler<V>,
+    alloc: Global,
+    updates: &[Record],
+) -> Result<(), RedoError>
+    ensures made { OnOk result (Makes updates.now zone.old.zone zone.new.zone) }
+    ensures others { zone.new ≡ record zone.old { zone = zone.new.zone } }
+{
+    let Ok(()) = zone.pre_scan(updates) else {
+        return Err(RedoError::Damaged);
+    };
+    match zone.update_records(alloc, updates, true) {
+        Ok(_) => Ok(()),
+        Err(UpdateFault::Code(_)) => Ok(()),
+        Err(UpdateFault::Memory) => Err(RedoError::Memory),
+    }
+}
+
+/// Does one entry again.
+fn redo_one<V: Verifier>(
+    zone: &mut SqliteZoneHandler<V>,
+    alloc: Global,
+    entry: &[u8],
+) -> Result<(), RedoError>
+    ensures redoes { OnOk result (RedoesOne entry.now zone.old.zone zone.new.zone) }
+    ensures others { zone.new ≡ record zone.old { zone = zone.new.zone } }
+{
+    let request = read_entry(alloc, entry)?;
+    redo_updates(zone, alloc, request.message().updates())?;
+    Ok(())
+}
+
+/// Does the entries of a journal again, the first first, to the zone that was there before the first of them. Permissions and
+/// prerequisites are not asked for again. After an `Err` those of a front are done.
+pub fn redo<V: Verifier>(
+    zone: &mut SqliteZoneHandler<V>,
+    alloc: Global,
+    entries: &[Vec<u8>],
+) -> Result<(), RedoError>
+    ensures redone { OnOk result (Redone (contents entries.now) zone.old.zone zone.new.zone) }
+    ensures others { zone.new ≡ record zone.old { zone = zone.new.zone } }
+{
+    let mut rest = entries;
+    while let [entry, others @ ..] = rest {
+        redo_one(zone, alloc, entry)?;
+        rest = others;
+    }
+    Ok(())
+}

@@ -1,0 +1,126 @@
+//! Updates, on the disk before they are made.
+
+ghost use Rattle.std.specs.Prelude.{◌≡◌, IfErr, IfOk, None, OnErr, OnOk, false, true};
+ghost use Rattle.hickory_base.specs.requests.Updates.{update_of};
+ghost use Rattle.hickory_store.specs.Prescan.{prescan_refusal};
+ghost use Rattle.hickory_store.specs.UpdateAnswers.{told_context};
+ghost use Rattle.durable_updates.specs.DurableUpdates.{AnswersDurably, DoesDurably, IsWriteFault, MakesDurably};
+ghost use Rattle.durable_updates.specs.Journalling.{Journals};
+ghost use Rattle.durable_updates.specs.Redone.{Makes};
+
+use hickory_base::errors::UpdateFault;
+use hickory_base::server::Request;
+use hickory_base::update_request::UpdateRequest;
+use hickory_store::sqlite::{SqliteZoneHandler, Verifier};
+use hickory_wire::{ResponseCode, TSigResponseContext};
+use sqlite_disk::Disk;
+use std::alloc::Global;
+use update_journal::{Journal, JournalError};
+
+/// Adds a request to the journal. Where the journal refuses it, that is ServFail, and `Memory` where memory was refused.
+fn write<D: Disk>(
+    journal: &mut Journal<D>,
+    alloc: Global,
+    request: &Request,
+) -> Result<(), UpdateFault>
+    ensures journals { Journals D.seen D.may_leave result request.now.bytes journal.old journal.new }
+    ensures clean { D.is_clean journal.new.disk ≡ D.is_clean journal.old.disk }
+    ensures err { IfErr result IsWriteFault }
+{
+    match journal.append(alloc, request.as_slice()) {
+        Ok(()) => Ok(()),
+        Err(JournalError::Memory) => Err(UpdateFault::Memory),
+        Err(_) => Err(UpdateFault::Code(ResponseCode::SERV_FAIL)),
+    }
+}
+
+/// Writes the request to the journal, and then does its update section. Where that fails, for want of memory or of an SOA, the
+/// request stands in the journal, which is shut.
+fn write_and_do<V: Verifier, D: Disk>(
+    zone: &mut SqliteZoneHandler<V>,
+    journal: &mut Journal<D>,
+    alloc: Global,
+    request: &Request,
+) -> Result<bool, UpdateFault>
+    requires { prescan_refusal zone.old.zone.origin 1 (update_of request.now.message).updates ≡ None }
+    ensures done { DoesDurably (update_of request.now.message) result zone.old zone.new }
+    ensures made { OnOk result (Makes (update_of request.now.message).updates zone.old.zone zone.new.zone) }
+    ensures untouched { IfOk result (λ changed. changed ≡ false → zone.new ≡ zone.old) }
+    ensures journals { Journals D.seen D.may_leave result request.now.bytes journal.old journal.new }
+    ensures clean { D.is_clean journal.new.disk ≡ D.is_clean journal.old.disk }
+{
+    write(journal, alloc, request)?;
+    match zone.update_records(alloc, request.message().updates(), true) {
+        Ok(changed) => Ok(changed),
+        Err(fault) => {
+            journal.shut();
+            Err(fault)
+        }
+    }
+}
+
+/// Makes the update of a request that may be made.
+fn make<V: Verifier, D: Disk>(
+    zone: &mut SqliteZoneHandler<V>,
+    journal: &mut Journal<D>,
+    alloc: Global,
+    request: &Request,
+) -> Result<bool, UpdateFault>
+    ensures done { MakesDurably (update_of request.now.message) result zone.old zone.new }
+    ensures made { OnOk result (Makes (update_of request.now.message).updates zone.old.zone zone.new.zone) }
+    ensures untouched { IfOk result (λ changed. changed ≡ false → zone.new ≡ zone.old) }
+    ensures journals { Journals D.seen D.may_leave result request.now.bytes journal.old journal.new }
+    ensures clean { D.is_clean journal.new.disk ≡ D.is_clean journal.old.disk }
+{
+    match zone.verify_prerequisites(alloc, request.message().prerequisites()) {
+        Err(fault) => Err(fault),
+        Ok(()) => match zone.pre_scan(request.message().updates()) {
+            Err(code) => Err(UpdateFault::Code(code)),
+            Ok(()) => write_and_do(zone, journal, alloc, request),
+        },
+    }
+}
+
+/// What goes with an answer for the signer of the reply: nothing where memory was refused.
+fn told_context(
+    answer: &Result<bool, UpdateFault>,
+    context: Option<TSigResponseContext>,
+) -> Option<TSigResponseContext>
+    ensures { result ≡ told_context context answer.now }
+{
+    match answer {
+        Err(UpdateFault::Memory) => None,
+        _ => context,
+    }
+}
+
+/// Makes the update that a request asks for (RFC 2136 section 3), once its bytes are on the disk. `now` is in seconds since 1970.
+///
+/// First it is judged as `SqliteZoneHandler::update` judges it; a request that is refused is not written. With an answer of `Ok` its
+/// bytes are an entry of the journal. Where the journal refuses them, the answer is ServFail, and the zone is as before. A
+/// journal in which a write has failed, or whose last entry was not done for want of memory, is shut: every update is ServFail
+/// until the zone is recovered from the file. Whatever the answer, a crash leaves the entries from before, with this one or
+/// without. Two syncs.
+pub fn update_durably<V: Verifier, D: Disk>(
+    zone: &mut SqliteZoneHandler<V>,
+    journal: &mut Journal<D>,
+    alloc: Global,
+    request: &Request,
+    now: u64,
+) -> (Result<bool, UpdateFault>, Option<TSigResponseContext>)
+    ensures answers { AnswersDurably V.Verifier zone.old request.now now result.0 result.1 zone.new }
+    ensures made { OnOk result.0 (Makes (update_of request.now.message).updates zone.old.zone zone.new.zone) }
+    ensures kept { OnErr result.0 (zone.new ≡ zone.old) }
+    ensures journals { Journals D.seen D.may_leave result.0 request.now.bytes journal.old journal.new }
+    ensures clean { D.is_clean journal.new.disk ≡ D.is_clean journal.old.disk }
+{
+    let (permission, context) = zone.authorize_update(alloc, request, now);
+    match permission {
+        Err(fault) => (Err(fault), context),
+        Ok(()) => {
+            let answer = make(zone, journal, alloc, request);
+            let told = told_context(&answer, context);
+            (answer, told)
+        }
+    }
+}

@@ -1,0 +1,33 @@
+use Rattle.std.proofs.Common.{[], ◌∷◌, refl, rules}
+use Rattle.hickory_base.specs.responses.Responses.{header_of}
+use Rattle.hickory_catalog.specs.Replies.{error_reply}
+use Rattle.hickory_catalog.specs.WholeTransfers.{no_zone, other_count, zone}
+use Rattle.hickory_catalog.proofs.QueryReplies.{finds_none, finds_some, if_ok_map}
+use Rattle.hickory_catalog.proofs.SentInOrder.{sent_alone}
+use Rattle.hickory_catalog.proofs.whole_transfers.answer_by_transfer.Goals as goal
+
+pub returns-in-Err-clause-replied : goal.returns-in-Err-clause-replied
+returns-in-Err-clause-replied g c = (
+  error_reply c.args.request.now.message c.args.edns.now 1 ∷ [],
+  other_count c.in-Err.ensures.err refl,
+  sent_alone g.R.ResponseHandler c.args.request.now.message.metadata c.args.sink.now c.send_error.new.sink
+      (error_reply c.args.request.now.message c.args.edns.now 1) (header_of c.send_error.result) (search rules),
+)
+
+pub returns-in-None-clause-replied : goal.returns-in-None-clause-replied
+returns-in-None-clause-replied g c = (
+  error_reply c.args.request.now.message c.args.edns.now 5 ∷ [],
+  no_zone c.in-Ok.ensures.query (finds_none c.args.catalog.now.zones (λ chain. chain.now.items) c.name.result.now _ c.in_ok-find.field-0 c.in_ok-find.ensures.found c.in-None.is c.name.ensures) refl,
+  sent_alone g.R.ResponseHandler c.args.request.now.message.metadata c.args.sink.now c.send_error-in-None.new.sink
+      (error_reply c.args.request.now.message c.args.edns.now 5) (header_of c.send_error-in-None.result) (search rules),
+)
+
+pub returns-in-Some-clause-replied : goal.returns-in-Some-clause-replied
+returns-in-Some-clause-replied g c =
+    if_ok_map c.give_transfer.result _ _ c.give_transfer.ensures.replied
+    (λ info w. (
+      w.0,
+      zone c.in-Ok.ensures.query (finds_some c.args.catalog.now.zones (λ chain. chain.now.items) c.name.result.now _ c.in_ok-find.field-0 c.in-Some.chain c.in_ok-find.ensures.found c.in-Some.is c.name.ensures)
+          (rw c.as_slice.ensures.value at w.1),
+      w.2,
+    ))

@@ -1,0 +1,2 @@
+pub mod HexGroups
+pub mod RowSteps

@@ -1,0 +1,20 @@
+use Rattle.std.proofs.Common.{◌≡◌, ℕ, false, List, Result, Ok, Err, Option}
+use Rattle.std.specs.Prelude.{OnOk}
+use Rattle.wire_names.specs.rr.domain.DomainName.{DomainName}
+use Rattle.record_text.specs.declared.data.field.Field.TheVariants as field
+use Rattle.record_text.specs.declared.data.hex_groups.Group.TheVariants as group
+use Rattle.text_words.specs.declared.error.TextError.{TextError}
+use Rattle.text_words.specs.declared.words.Word.{Word}
+use Rattle.text_words.specs.Spelling.{Puts}
+use Rattle.record_text.specs.RecordText.{IsField}
+use Rattle.record_text.specs.RecordText.IsField.{locator64}
+use Rattle.record_text.specs.Groups.{SpellsHexGroups}
+use Rattle.record_text.proofs.data.hex_groups.put_locator64.Goals as goal
+
+as_field : (r : Result (Unit {0}) TextError) (word : Word) (old new : List ℕ) → word.quoted ≡ false → OnOk r (Puts (SpellsHexGroups 58 group.Bits16 4 word.bytes.now) old new)
+    → OnOk r ((origin : Option DomainName) → Puts (IsField origin field.Locator64 word) old new)
+as_field (Ok done) word old new unquoted h = λ origin. (h.0, h.1, locator64 unquoted h.2)
+as_field (Err e) word old new unquoted h = h
+
+pub returns : goal.returns
+returns c = as_field c.put_groups.result c.args.word.now c.args.data.now.items c.put_groups.new.data.items c.if-word.false c.put_groups.ensures

@@ -1,0 +1,20 @@
+use Rattle.std.proofs.Common.{◌∙◌, ◌+◌, ◌<◌, ℕ, List, [], ◌++◌, length, take, get_or, sym, ap, subst, append_assoc, append-nil}
+use Rattle.std.proofs.lemmas.List.{take_more}
+use Rattle.text_words.specs.declared.words.Word.{Word}
+use Rattle.text_words.specs.Spelling.{IsString, Puts}
+use Rattle.record_text.specs.RecordText.{AreStrings}
+use Rattle.record_text.specs.RecordText.AreStrings.{none, more}
+use Rattle.record_text.proofs.data.rest.put_strings.Goals as goal
+
+pub loop-word-init : goal.loop-word-init
+loop-word-init c = ([], sym (append-nil c.args.data.now.items), none)
+
+more_strings : (words : List Word) (i : ℕ) (d : Word) (old before after : List ℕ) → i < length words → Puts (AreStrings (take i words)) old before → Puts (IsString (get_or words i d)) before after → Puts (AreStrings (take (i + 1) words)) old after
+more_strings words i d old before after below all one = (
+  all.0 ++ one.0,
+  one.1 ∙ ap (λ (xs : List ℕ). xs ++ one.0) all.1 ∙ append_assoc old all.0 one.0,
+  subst (λ (ws : List Word). AreStrings ws (all.0 ++ one.0)) (sym (take_more words i d below)) (more all.2 one.2),
+)
+
+pub loop-word-preserved : goal.loop-word-preserved
+loop-word-preserved c = more_strings c.args.words.now c.loop-word.word-index _ c.args.data.now.items c.loop-word.data.items c.put_string.new.bytes.items c.loop-word-test.true c.loop-word.invariant c.in_ok-put_string.ensures

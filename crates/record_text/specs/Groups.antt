@@ -1,0 +1,31 @@
+-- What words of digits in base 16 and 32 spell: octets in groups of digits.
+use Rattle.std.specs.Prelude.{◌≡◌, ℕ, ◌+◌, ◌<◌, ◌≤◌, List, [], ◌∷◌, ◌++◌, length, drop}
+use Rattle.std.specs.Int.{w16, w64, to_be_bytes}
+use Rattle.std.specs.Str.Parse.{AllDigits, digits_value}
+use Rattle.record_text.specs.declared.data.hex_groups.Group.{Group}
+use Rattle.record_text.specs.declared.data.hex_groups.Group.TheVariants as group
+
+-- digits in base 32, of which those above 9 are the letters from A on (RFC 4648 section 7)
+pub record IsBase32 (text : List ℕ) (n : ℕ) : Type 0 where
+  pub digits : AllDigits 32 text
+  pub value : digits_value 32 text ≡ n
+
+-- octets in base 32, without padding and in whole groups: each eight digits are the number of forty bits that five octets make
+pub data SpellsGroups : List ℕ → List ℕ → Type 0 where
+  none : SpellsGroups [] []
+  more : {text piece octets : List ℕ} (n : ℕ) → SpellsGroups text octets → length piece ≡ 8 → IsBase32 piece n → SpellsGroups (text ++ piece) (octets ++ drop 3 (to_be_bytes w64 n))
+
+-- hexadecimal digits, and the number that they are
+pub record IsHex (text : List ℕ) (n : ℕ) : Type 0 where
+  pub digits : AllDigits 16 text
+  pub value : digits_value 16 text ≡ n
+
+-- A group of hexadecimal digits, and its octets: one for two digits, or sixteen bits for one to four.
+pub data IsGroup : Group → List ℕ → List ℕ → Type 0 where
+  octet : {text : List ℕ} {n : ℕ} → length text ≡ 2 → IsHex text n → IsGroup group.Octet text (n ∷ [])
+  bits16 : {text : List ℕ} {n : ℕ} → 0 < length text → length text ≤ 4 → IsHex text n → IsGroup group.Bits16 text (to_be_bytes w16 n)
+
+-- so many groups with a byte between them, and their octets
+pub data SpellsHexGroups (between : ℕ) (kind : Group) : ℕ → List ℕ → List ℕ → Type 0 where
+  first : {text octets : List ℕ} → IsGroup kind text octets → SpellsHexGroups between kind 1 text octets
+  more : {count : ℕ} {text octets piece own : List ℕ} → SpellsHexGroups between kind count text octets → IsGroup kind piece own → SpellsHexGroups between kind (count + 1) (text ++ between ∷ piece) (octets ++ own)

@@ -1,0 +1,5 @@
+pub mod Groups
+pub mod Moments
+pub mod RecordText
+pub mod TypeBitmaps
+pub mod TypeTable

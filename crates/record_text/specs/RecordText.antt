@@ -1,0 +1,161 @@
+-- The data of a record as the words of a zone's text, and the octets that they stand for (RFC 1035 section 5.1, RFC 3597 section 5).
+use Rattle.std.specs.Prelude.{◌≡◌, ◌≢◌, ℕ, ◌^◌, ◌<◌, false, List, [], ◌∷◌, ◌++◌, length, map, codes, Any, All, Option, Some, Ok}
+use Rattle.std.specs.Char.{to_ascii_lowercase}
+use Rattle.std.specs.Int.{w16, w32, to_be_bytes}
+use Rattle.std.specs.List.{flat_map}
+use Rattle.std.specs.Net.Addr.{ipv4_octets, ipv6_octets}
+use Rattle.std.specs.Net.Grammar.{IsIpv4Text, IsIpv6Text}
+use Rattle.std.specs.declared.net.ipv4_addr.Ipv4Addr.{Ipv4Addr}
+use Rattle.std.specs.declared.net.ipv6_addr.Ipv6Addr.{Ipv6Addr}
+use Rattle.base64.specs.Engines.{standard}
+use Rattle.base64.specs.GeneralPurpose.{encode_of}
+use Rattle.hex.specs.Hex.{decode_of}
+use Rattle.wire_names.specs.rr.domain.DomainName.{DomainName}
+use Rattle.wire_messages.specs.rr.RecordData.{character_string}
+use Rattle.wire_messages.specs.declared.rr.rdata.RData.{RData}
+use Rattle.wire_messages.specs.declared.rr.record.Record.{Record}
+use Rattle.wire_messages.specs.serialize.layout.RecordLayout.{RecordAt}
+use Rattle.wire_messages.specs.serialize.writing.FullForm.{data_octets, name_octets}
+use Rattle.record_text.specs.declared.data.field.Field.{Field}
+use Rattle.record_text.specs.declared.data.field.Field.TheVariants as field
+use Rattle.record_text.specs.declared.data.field.Rest.{Rest}
+use Rattle.record_text.specs.declared.data.field.Rest.TheVariants as rest
+use Rattle.record_text.specs.declared.data.field.Row.{Row}
+use Rattle.text_words.specs.declared.words.TextKind.{TextKind}
+use Rattle.text_words.specs.declared.words.Word.{Word}
+use Rattle.record_text.specs.Moments.{SpellsMoment}
+use Rattle.record_text.specs.declared.data.hex_groups.Group.TheVariants as group
+use Rattle.record_text.specs.Groups.{SpellsGroups, SpellsHexGroups}
+use Rattle.text_words.specs.Spelling.{IsNumber, IsString, Spells, any_byte, SpellsName, SpellsTime}
+use Rattle.record_text.specs.TypeBitmaps.{windows}
+use Rattle.record_text.specs.TypeTable.{TypeRow, rows, row_of}
+use Rattle.text_words.specs.Words.{AreWordsTo}
+
+-- a row of the table as the code has it
+abbrev pub row_view : Row → TypeRow
+row_view row = record { number = row.number; mnemonic = row.mnemonic.now; fields = row.fields.now; rest = row.rest }
+
+-- the same text, letter case aside
+abbrev pub SameLetters : List ℕ → List ℕ → Type 0
+SameLetters a b = map to_ascii_lowercase a ≡ map to_ascii_lowercase b
+
+-- a mnemonic of a type, in any letter case
+abbrev pub SpellsMnemonic : List ℕ → ℕ → Type 0
+SpellsMnemonic text number = Any (λ row. (row.number ≡ number) × SameLetters row.mnemonic text) rows
+
+-- A type: its mnemonic, or TYPE and its number (RFC 3597 section 5), in any letter case.
+pub data SpellsType : List ℕ → ℕ → Type 0 where
+  mnemonic : {text : List ℕ} {number : ℕ} → SpellsMnemonic text number → SpellsType text number
+  numbered : {digits : List ℕ} {number : ℕ} (front : List ℕ) → SameLetters (codes "TYPE") front → IsNumber digits number → number < 2 ^ 16 → SpellsType (front ++ digits) number
+
+-- A word as it stands for a field's octets.
+pub data IsField (origin : Option DomainName) : Field → Word → List ℕ → Type 0 where
+  number8 : {w : Word} {n : ℕ} → w.quoted ≡ false → IsNumber w.bytes.now n → n < 2 ^ 8 → IsField origin field.Number8 w (n ∷ [])
+  number16 : {w : Word} {n : ℕ} → w.quoted ≡ false → IsNumber w.bytes.now n → n < 2 ^ 16 → IsField origin field.Number16 w (to_be_bytes w16 n)
+  number32 : {w : Word} {n : ℕ} → w.quoted ≡ false → IsNumber w.bytes.now n → n < 2 ^ 32 → IsField origin field.Number32 w (to_be_bytes w32 n)
+  time : {w : Word} {n : ℕ} → w.quoted ≡ false → SpellsTime w.bytes.now n → n < 2 ^ 32 → IsField origin field.Time w (to_be_bytes w32 n)
+  name : {w : Word} {labels : List (List ℕ)} → w.quoted ≡ false → SpellsName origin w.bytes.now labels → IsField origin field.Name w (name_octets labels)
+  string : {w : Word} {octets : List ℕ} → IsString w octets → IsField origin field.String w octets
+  text : {w : Word} {bytes : List ℕ} → Spells any_byte w.bytes.now bytes → IsField origin field.Text w bytes
+  ipv4 : {w : Word} {address : Ipv4Addr} → w.quoted ≡ false → IsIpv4Text w.bytes.now address → IsField origin field.Ipv4 w (ipv4_octets address)
+  ipv6 : {w : Word} {address : Ipv6Addr} → w.quoted ≡ false → IsIpv6Text w.bytes.now address → IsField origin field.Ipv6 w (ipv6_octets address)
+  type : {w : Word} {number : ℕ} → w.quoted ≡ false → SpellsType w.bytes.now number → IsField origin field.RecordType w (to_be_bytes w16 number)
+  moment : {w : Word} {n : ℕ} → w.quoted ≡ false → SpellsMoment w.bytes.now n → IsField origin field.Moment w (to_be_bytes w32 n)
+  no_salt : {w : Word} → w.quoted ≡ false → w.bytes.now ≡ 45 ∷ [] → IsField origin field.Salt w (0 ∷ [])
+  salt : {w : Word} {octets : List ℕ} → w.quoted ≡ false → w.bytes.now ≢ 45 ∷ [] → decode_of w.bytes.now ≡ Ok octets → length octets < 256 → IsField origin field.Salt w (character_string octets)
+  hash : {w : Word} {octets : List ℕ} → w.quoted ≡ false → SpellsGroups w.bytes.now octets → length octets < 256 → IsField origin field.Hash w (character_string octets)
+  eui48 : {w : Word} {octets : List ℕ} → w.quoted ≡ false → SpellsHexGroups 45 group.Octet 6 w.bytes.now octets → IsField origin field.Eui48 w octets
+  eui64 : {w : Word} {octets : List ℕ} → w.quoted ≡ false → SpellsHexGroups 45 group.Octet 8 w.bytes.now octets → IsField origin field.Eui64 w octets
+  locator64 : {w : Word} {octets : List ℕ} → w.quoted ≡ false → SpellsHexGroups 58 group.Bits16 4 w.bytes.now octets → IsField origin field.Locator64 w octets
+
+-- words for the fields, one for each, and their octets one behind the other
+pub data AreFields (origin : Option DomainName) : List Field → List Word → List ℕ → Type 0 where
+  none : AreFields origin [] [] []
+  more : {fields : List Field} {words : List Word} {octets : List ℕ} {field : Field} {word : Word} {own : List ℕ} → AreFields origin fields words octets → IsField origin field word own → AreFields origin (fields ++ field ∷ []) (words ++ word ∷ []) (octets ++ own)
+
+-- words for the fields, and the words behind them
+abbrev pub AreFieldsBefore : Option DomainName → List Field → List Word → List Word → List ℕ → Type 0
+AreFieldsBefore origin fields words behind octets = (front : List Word) × (words ≡ front ++ behind) × AreFields origin fields front octets
+
+-- character strings, one a word
+pub data AreStrings : List Word → List ℕ → Type 0 where
+  none : AreStrings [] []
+  more : {words : List Word} {octets own : List ℕ} {word : Word} → AreStrings words octets → IsString word own → AreStrings (words ++ word ∷ []) (octets ++ own)
+
+-- types, one a word
+pub data AreTypes : List Word → List ℕ → Type 0 where
+  none : AreTypes [] []
+  more : {words : List Word} {numbers : List ℕ} {number : ℕ} (word : Word) → AreTypes words numbers → word.quoted ≡ false → SpellsType word.bytes.now number → AreTypes (words ++ word ∷ []) (numbers ++ number ∷ [])
+
+-- a set of types as octets (RFC 4034 section 4.1.2)
+pub record IsTypeSet (words : List Word) (octets : List ℕ) : Type 0 where
+  pub types : List ℕ
+  pub spelled : AreTypes words types
+  pub written : octets ≡ windows types 256
+
+-- the bytes of words, one behind the other
+abbrev pub bytes_of : List Word → List ℕ
+bytes_of words = flat_map (λ word. word.bytes.now) words
+
+-- words in no quotes
+abbrev pub ArePlain : List Word → Type 0
+ArePlain words = All (λ word. word.quoted ≡ false) words
+
+-- What the words behind the fields stand for: none is left; character strings; hexadecimal digits; the encoding of octets in
+-- base 64; or a set of types.
+pub data IsRest : Rest → List Word → List ℕ → Type 0 where
+  nothing : IsRest rest.Nothing [] []
+  strings : {words : List Word} {octets : List ℕ} → words ≢ [] → AreStrings words octets → IsRest rest.Strings words octets
+  hex : {words : List Word} {octets : List ℕ} → words ≢ [] → ArePlain words → decode_of (bytes_of words) ≡ Ok octets → IsRest rest.Hex words octets
+  base64 : {words : List Word} {octets : List ℕ} → words ≢ [] → ArePlain words → bytes_of words ≡ encode_of standard octets → IsRest rest.Base64 words octets
+  types : {words : List Word} {octets : List ℕ} → IsTypeSet words octets → IsRest rest.Types words octets
+
+-- words for the data of a row: its fields, and what stands behind them
+pub record IsRow (origin : Option DomainName) (row : TypeRow) (words : List Word) (octets : List ℕ) : Type 0 where
+  pub front : List Word
+  pub behind : List Word
+  pub front_octets : List ℕ
+  pub behind_octets : List ℕ
+  pub in_order : words ≡ front ++ behind
+  pub together : octets ≡ front_octets ++ behind_octets
+  pub fields : AreFields origin row.fields front front_octets
+  pub rest : IsRest row.rest behind behind_octets
+
+-- The words are data of a type in its form, and these are their octets.
+pub data IsData (origin : Option DomainName) (number : ℕ) : List Word → List ℕ → Type 0 where
+  in_form : {row : TypeRow} {words : List Word} {octets : List ℕ} → row_of number ≡ Some row → IsRow origin row words octets → IsData origin number words octets
+
+-- the record of the root with these data, in bytes: its name, type, class IN, TTL 0, and the data behind their length (RFC 1035 section 4.1.3)
+abbrev pub root_record : ℕ → List ℕ → List ℕ
+root_record number octets = (0 ∷ to_be_bytes w16 number) ++ (0 ∷ 1 ∷ 0 ∷ 0 ∷ 0 ∷ 0 ∷ []) ++ to_be_bytes w16 (length octets) ++ octets
+
+-- data that are read of these octets as a record has them
+abbrev pub AreReadOf : ℕ → List ℕ → RData → Type 0
+AreReadOf number octets rdata = (r : Record RData) × (next : ℕ) × RecordAt (root_record number octets) 0 r next × (rdata ≡ r.rdata)
+
+-- The form that is one for all types (RFC 3597 section 5): behind `\#` stand the length of the data and their octets in hexadecimal digits, and the data are
+-- those that are read of them.
+pub record IsGenericData (number : ℕ) (size : Word) (digits : List Word) (rdata : RData) : Type 0 where
+  pub octets : List ℕ
+  pub unquoted : size.quoted ≡ false
+  pub counted : IsNumber size.bytes.now (length octets)
+  pub plain : ArePlain digits
+  pub spelled : decode_of (bytes_of digits) ≡ Ok octets
+  pub read : AreReadOf number octets rdata
+
+-- Words begin in the form that is one for all types: `\#`, and at least one word behind it.
+abbrev pub BeginGeneric : List Word → Type 0
+BeginGeneric (mark ∷ size ∷ digits) = (mark.quoted ≡ false) × (mark.bytes.now ≡ 92 ∷ 35 ∷ [])
+BeginGeneric words = ⊥
+
+-- The words are data of a type, and these are the data: in the form of the type, or, where they begin so, in the form that is one for all.
+pub data SpellsData (origin : Option DomainName) (number : ℕ) : List Word → RData → Type 0 where
+  in_form : {words : List Word} {rdata : RData} → ¬ (BeginGeneric words) → IsData origin number words (data_octets rdata) → SpellsData origin number words rdata
+  generic : {mark size : Word} {digits : List Word} {rdata : RData} → mark.quoted ≡ false → mark.bytes.now ≡ 92 ∷ 35 ∷ [] → IsGenericData number size digits rdata → SpellsData origin number (mark ∷ size ∷ digits) rdata
+
+-- From a place of a text within so many parentheses on, the words to the end are data of a type, and these are the data.
+pub record HasData (origin : Option DomainName) (number : ℕ) (kind : TextKind) (text : List ℕ) (place depth : ℕ) (rdata : RData) : Type 0 where
+  pub words : List Word
+  pub end : ℕ
+  pub stand : AreWordsTo kind text place depth words end
+  pub spelled : SpellsData origin number words rdata

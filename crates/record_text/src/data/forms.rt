@@ -1,0 +1,135 @@
+//! Data in the form of their type.
+
+ghost use Rattle.std.specs.Prelude.{◌≡◌, [], ◌∷◌, length, IfOk};
+ghost use Rattle.std.specs.Option.{option_copied};
+ghost use Rattle.std.specs.List.{flat_map};
+ghost use Rattle.wire_messages.specs.rr.RecordData.{character_string, type_of};
+ghost use Rattle.wire_messages.specs.serialize.writing.FullForm.{data_octets};
+ghost use Rattle.text_words.specs.Spelling.{IsString};
+ghost use Rattle.record_text.specs.RecordText.{AreStrings, IsData};
+
+use crate::data::fields::{ipv4, ipv6, number16, put_fields};
+use crate::data::rest::put_rest;
+use crate::data::table::row_of;
+use hickory_wire::{Boxed, Items, MX, Name, Octets, RData, RecordType, SOA};
+use std::alloc::Global;
+use text_words::{
+    MAX_STRING_LEN, TextError, TextFault, Word, absolute_name, fault_at, read_string, seconds_of,
+};
+
+/// A mail exchange.
+fn mail_exchange(
+    alloc: Global,
+    preference: &Word<'_>,
+    exchange: &Word<'_>,
+    origin: Option<&Name>,
+) -> Result<RData, TextError>
+    ensures form { IfOk result (λ rdata. type_of rdata ≡ 15) }
+    ensures spelled { IfOk result (λ rdata. IsData (option_copied origin.entry) 15 (preference.now ∷ exchange.now ∷ []) (data_octets rdata)) }
+{
+    let preference = number16(preference)?;
+    let exchange = absolute_name(alloc, exchange, origin)?;
+    Ok(RData::MX(MX {
+        preference,
+        exchange,
+    }))
+}
+
+/// The start of a zone: two names, a number and four times.
+fn start_of_authority(
+    alloc: Global,
+    words: &[Word<'_>],
+    origin: Option<&Name>,
+) -> Result<RData, TextError>
+    requires { length words.now ≡ 7 }
+    ensures form { IfOk result (λ rdata. type_of rdata ≡ 6) }
+    ensures spelled { IfOk result (λ rdata. IsData (option_copied origin.entry) 6 words.now (data_octets rdata)) }
+{
+    let mname = absolute_name(alloc, &words[0], origin)?;
+    let rname = absolute_name(alloc, &words[1], origin)?;
+    let serial = words[2].number()?;
+    let refresh = seconds_of(&words[3])?;
+    let retry = seconds_of(&words[4])?;
+    let expire = seconds_of(&words[5])?;
+    let minimum = seconds_of(&words[6])?;
+    let soa = SOA {
+        mname,
+        rname,
+        serial,
+        refresh,
+        retry,
+        expire,
+        minimum,
+    };
+    Ok(RData::SOA(Boxed::new(alloc, soa)?))
+}
+
+/// The character string of a word.
+fn string(alloc: Global, word: &Word<'_>) -> Result<Octets, TextError>
+    ensures { IfOk result (λ bytes. IsString word.now (character_string bytes)) }
+{
+    let mut bytes = [0; MAX_STRING_LEN];
+    let len = read_string(word, &mut bytes)?;
+    Ok(Octets::from_slice(alloc, &bytes[..len])?)
+}
+
+/// Character strings, one a word.
+fn strings(alloc: Global, words: &[Word<'_>]) -> Result<Items<Octets>, TextError>
+    ensures { IfOk result (λ strings. AreStrings words.now (flat_map character_string strings)) }
+{
+    let mut strings = Items::new(alloc);
+    for word in words {
+        strings.push(string(alloc, word)?)?;
+    }
+    Ok(strings)
+}
+
+/// Data of a type that has no form of its own, as bytes.
+fn as_bytes(
+    alloc: Global,
+    record_type: RecordType,
+    words: &[Word<'_>],
+    end: usize,
+    origin: Option<&Name>,
+) -> Result<RData, TextError>
+    ensures form { IfOk result (λ rdata. type_of rdata ≡ record_type) }
+    ensures spelled { IfOk result (λ rdata. IsData (option_copied origin.entry) record_type words.now (data_octets rdata)) }
+{
+    let Some(row) = row_of(record_type.value()) else {
+        let place = words.first().map_or(end, |word| word.start);
+        return Err(fault_at(place, TextFault::NoTextForm));
+    };
+    let mut bytes = Vec::new(alloc);
+    let behind = put_fields(alloc, row.fields, words, end, origin, &mut bytes)?;
+    put_rest(alloc, row.rest, behind, end, &mut bytes)?;
+    Ok(RData::Unknown {
+        code: record_type,
+        bytes: Octets::from_vec(bytes),
+    })
+}
+
+/// Data in the form of their type. Where they have not as many words as that, the table tells the first fault.
+pub(crate) fn data_in_form(
+    alloc: Global,
+    record_type: RecordType,
+    words: &[Word<'_>],
+    end: usize,
+    origin: Option<&Name>,
+) -> Result<RData, TextError>
+    ensures form { IfOk result (λ rdata. type_of rdata ≡ record_type) }
+    ensures spelled { IfOk result (λ rdata. IsData (option_copied origin.entry) record_type words.now (data_octets rdata)) }
+{
+    match (record_type, words) {
+        (RecordType::A, [word]) => Ok(RData::A(ipv4(word)?)),
+        (RecordType::AAAA, [word]) => Ok(RData::AAAA(ipv6(word)?)),
+        (RecordType::NS, [word]) => Ok(RData::NS(absolute_name(alloc, word, origin)?)),
+        (RecordType::CNAME, [word]) => Ok(RData::CNAME(absolute_name(alloc, word, origin)?)),
+        (RecordType::PTR, [word]) => Ok(RData::PTR(absolute_name(alloc, word, origin)?)),
+        (RecordType::MX, [preference, exchange]) => {
+            mail_exchange(alloc, preference, exchange, origin)
+        }
+        (RecordType::SOA, [_, _, _, _, _, _, _]) => start_of_authority(alloc, words, origin),
+        (RecordType::TXT, [_, ..]) => Ok(RData::TXT(strings(alloc, words)?)),
+        _ => as_bytes(alloc, record_type, words, end, origin),
+    }
+}

@@ -1,0 +1,108 @@
+//! What the words behind the fields stand for.
+
+ghost use Rattle.std.specs.Prelude.{◌≡◌, IfOk, OnOk};
+ghost use Rattle.base64.specs.Engines.{standard};
+ghost use Rattle.base64.specs.GeneralPurpose.{encode_of};
+ghost use Rattle.hex.specs.Hex.{decode_of};
+ghost use Rattle.text_words.specs.Spelling.{Puts};
+ghost use Rattle.record_text.specs.RecordText.{AreStrings, ArePlain, IsRest, bytes_of};
+
+use crate::data::field::Rest;
+use crate::data::types::put_types;
+use base64::DecodeAllocError;
+use base64::engine::general_purpose::STANDARD;
+use hex::FromHexError;
+use std::alloc::Global;
+use text_words::{TextError, TextFault, Word, fault_at, put_string};
+
+/// A fault of words together, at the first of them.
+fn first_fault(words: &[Word<'_>], fault: TextFault) -> TextError {
+    fault_at(words.first().map_or(0, |word| word.start), fault)
+}
+
+/// The bytes of words in no quotes, one behind the other.
+pub(crate) fn joined(
+    alloc: Global,
+    words: &[Word<'_>],
+    fault: TextFault,
+) -> Result<Vec<u8>, TextError>
+    ensures plain { OnOk result (ArePlain words.now) }
+    ensures bytes { IfOk result (λ bytes. bytes.items ≡ bytes_of words.now) }
+{
+    let mut bytes = Vec::new(alloc);
+    for word in words {
+        if word.quoted {
+            return Err(word.fault(fault));
+        }
+        bytes.extend_from_slice(word.bytes)?;
+    }
+    Ok(bytes)
+}
+
+/// The bytes that hexadecimal digits are.
+pub(crate) fn hex_bytes(alloc: Global, words: &[Word<'_>]) -> Result<Vec<u8>, TextError>
+    ensures { IfOk result (λ bytes. ArePlain words.now × (decode_of (bytes_of words.now) ≡ Ok bytes.items)) }
+{
+    let digits = joined(alloc, words, TextFault::BadHex)?;
+    match hex::decode(alloc, digits.as_slice()) {
+        Ok(bytes) => Ok(bytes),
+        Err(FromHexError::OutOfMemory) => Err(TextError::Memory),
+        Err(_) => Err(first_fault(words, TextFault::BadHex)),
+    }
+}
+
+/// Puts the bytes that hexadecimal digits are behind others.
+fn put_hex(alloc: Global, words: &[Word<'_>], data: &mut Vec<u8>) -> Result<(), TextError>
+    ensures { OnOk result (ArePlain words.now × Puts (λ octets. decode_of (bytes_of words.now) ≡ Ok octets) «data».old.items «data».new.items) }
+{
+    let bytes = hex_bytes(alloc, words)?;
+    data.extend_from_slice(bytes.as_slice())?;
+    Ok(())
+}
+
+/// Puts the bytes behind others whose encoding in base 64 the words are.
+fn put_base64(alloc: Global, words: &[Word<'_>], data: &mut Vec<u8>) -> Result<(), TextError>
+    ensures { OnOk result (ArePlain words.now × Puts (λ octets. bytes_of words.now ≡ encode_of standard octets) «data».old.items «data».new.items) }
+{
+    let text = joined(alloc, words, TextFault::BadBase64)?;
+    match STANDARD.decode(alloc, text.as_slice()) {
+        Ok(bytes) => {
+            data.extend_from_slice(bytes.as_slice())?;
+            Ok(())
+        }
+        Err(DecodeAllocError::OutOfMemory) => Err(TextError::Memory),
+        Err(_) => Err(first_fault(words, TextFault::BadBase64)),
+    }
+}
+
+/// Puts character strings behind others.
+fn put_strings(words: &[Word<'_>], data: &mut Vec<u8>) -> Result<(), TextError>
+    ensures { OnOk result (Puts (AreStrings words.now) «data».old.items «data».new.items) }
+{
+    for word in words {
+        put_string(word, data)?;
+    }
+    Ok(())
+}
+
+/// Puts the bytes behind others that the words behind the fields stand for. `end` is the place where a word is missing.
+pub(crate) fn put_rest(
+    alloc: Global,
+    rest: Rest,
+    words: &[Word<'_>],
+    end: usize,
+    data: &mut Vec<u8>,
+) -> Result<(), TextError>
+    ensures { OnOk result (Puts (IsRest rest words.now) «data».old.items «data».new.items) }
+{
+    match (rest, words.first()) {
+        (Rest::Nothing, None) => Ok(()),
+        (Rest::Nothing, Some(word)) => Err(word.fault(TextFault::TooMuchText)),
+        (Rest::Generic, Some(word)) => Err(word.fault(TextFault::NoTextForm)),
+        (Rest::Types, _) => put_types(alloc, words, data),
+        (_, None) => Err(fault_at(end, TextFault::MissingField)),
+        (Rest::Strings, Some(_)) => put_strings(words, data),
+        (Rest::Hex, Some(_)) => put_hex(alloc, words, data),
+        (Rest::Base64, Some(_)) => put_base64(alloc, words, data),
+    }
+}

@@ -1,0 +1,116 @@
+//! Sets of types as bytes (RFC 4034 section 4.1.2).
+
+ghost use Rattle.std.specs.Prelude.{◌≡◌, ◌==◌, ◌<◌, ◌≤◌, ◌+◌, ◌*◌, ◌++◌, IfOk, OnOk};
+ghost use Rattle.std.specs.List.{list_any};
+ghost use Rattle.text_words.specs.Spelling.{Puts};
+ghost use Rattle.record_text.specs.RecordText.{AreTypes, IsTypeSet};
+ghost use Rattle.record_text.specs.TypeBitmaps.{bitmap, bitmap_octet, type_bit, window_len, window_octets, windows};
+
+use crate::data::table::type_of;
+use std::alloc::{AllocError, Global};
+use text_words::{TextError, Word};
+
+/// Whether a type is among some.
+fn has_type(types: &[u16], number: u16) -> bool
+    ensures { result ≡ list_any (λ t. t == number) types.now }
+{
+    types.iter().any(|t| *t == number)
+}
+
+/// A bit of this weight where a type is among some.
+fn type_bit(types: &[u16], number: u16, weight: u8) -> u8
+    ensures value { result ≡ type_bit types.now number weight }
+    ensures small { result ≤ weight }
+{
+    if has_type(types, number) { weight } else { 0 }
+}
+
+/// The byte of eight types, from this one on.
+fn bitmap_octet(types: &[u16], first: u16) -> u8
+    requires { first ≤ 65528 }
+    ensures { result ≡ bitmap_octet types.now first }
+{
+    let high = type_bit(types, first, 128)
+        + type_bit(types, first + 1, 64)
+        + type_bit(types, first + 2, 32)
+        + type_bit(types, first + 3, 16);
+    let low = type_bit(types, first + 4, 8)
+        + type_bit(types, first + 5, 4)
+        + type_bit(types, first + 6, 2)
+        + type_bit(types, first + 7, 1);
+    high + low
+}
+
+/// How many bytes the bitmap of a window has.
+fn window_len(types: &[u16], window: u16) -> u16
+    ensures value { result ≡ window_len types.now window }
+    ensures small { result ≤ 32 }
+{
+    let mut len = 0;
+    for number in types {
+        if *number / 256 == window {
+            len = len.max(*number % 256 / 8 + 1);
+        }
+    }
+    len
+}
+
+/// Puts bytes of a bitmap behind others, the first of them that of this type.
+fn put_bitmap(types: &[u16], first: u16, len: u16, data: &mut Vec<u8>) -> Result<(), AllocError>
+    requires { first + 8 * len ≤ 65536 }
+    ensures { OnOk result («data».new.items ≡ «data».old.items ++ bitmap types.now first len) }
+{
+    for octet in 0..len {
+        data.push(bitmap_octet(types, first + 8 * octet))?;
+    }
+    Ok(())
+}
+
+/// Puts a window behind others, where it has types.
+fn put_window(types: &[u16], window: u16, data: &mut Vec<u8>) -> Result<(), AllocError>
+    requires { window < 256 }
+    ensures { OnOk result («data».new.items ≡ «data».old.items ++ window_octets types.now window) }
+{
+    let len = window_len(types, window);
+    if len == 0 {
+        return Ok(());
+    }
+    data.push(window as u8)?;
+    data.push(len as u8)?;
+    put_bitmap(types, 256 * window, len, data)
+}
+
+/// Puts the windows below one behind other bytes.
+fn put_windows(types: &[u16], count: u16, data: &mut Vec<u8>) -> Result<(), AllocError>
+    requires { count ≤ 256 }
+    ensures { OnOk result («data».new.items ≡ «data».old.items ++ windows types.now count) }
+{
+    for window in 0..count {
+        put_window(types, window, data)?;
+    }
+    Ok(())
+}
+
+/// The numbers of the types that words are.
+fn numbers(alloc: Global, words: &[Word<'_>]) -> Result<Vec<u16>, TextError>
+    ensures { IfOk result (λ numbers. AreTypes words.now numbers.items) }
+{
+    let mut numbers = Vec::new(alloc);
+    for word in words {
+        numbers.push(type_of(word)?.value())?;
+    }
+    Ok(numbers)
+}
+
+/// Puts the set of types that words are behind other bytes.
+pub(crate) fn put_types(
+    alloc: Global,
+    words: &[Word<'_>],
+    data: &mut Vec<u8>,
+) -> Result<(), TextError>
+    ensures { OnOk result (Puts (IsTypeSet words.now) «data».old.items «data».new.items) }
+{
+    let types = numbers(alloc, words)?;
+    put_windows(types.as_slice(), 256, data)?;
+    Ok(())
+}

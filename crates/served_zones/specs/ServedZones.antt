@@ -1,0 +1,95 @@
+-- The zones that the server has.
+use Rattle.std.specs.Prelude.{◌≡◌, [], ◌∷◌, List, Option, Some, None, drop, true}
+use Rattle.std.specs.Global.{Global}
+use Rattle.std.specs.Option.{option_map}
+use Rattle.std.specs.declared.rc.Rc.{Rc}
+use Rattle.either.specs.declared.Either.{Either}
+use Rattle.either.specs.declared.Either.TheVariants.{Left, Right}
+use Rattle.wire_names.specs.rr.domain.DomainName.{DomainName}
+use Rattle.wire_names.specs.rr.domain.NameOrder.{lower_name}
+use Rattle.hickory_base.specs.declared.zone_store.handler.AxfrPolicy.TheVariants.{AllowAll}
+use Rattle.hickory_base.specs.declared.zone_store.handler.ZoneType.TheVariants.{Primary}
+use Rattle.hickory_base.specs.zone_store.ZoneAnswers.{MemoryZone}
+use Rattle.hickory_catalog.specs.Find.{Finds}
+use Rattle.hickory_catalog.specs.Zones.{ChangesAt}
+use Rattle.hickory_store.specs.BlockAnswers.{Blocklist}
+use Rattle.hickory_server.specs.ZoneOfText.{IsTextFault, IsZoneOfText}
+use Rattle.hickory_zone.specs.declared.zone_with_parent.ZoneWithParent.{ZoneWithParent}
+use Rattle.served_zones.specs.declared.zones.ZoneFault.{ZoneFault}
+use Rattle.served_zones.specs.declared.zones.ZoneFault.TheVariants.{Zone}
+
+-- The zone of a file as it is served: of this apex, primary, and transferred to everybody (RFC 5936 section 5).
+abbrev pub IsServedZone : DomainName → MemoryZone → Type 0
+IsServedZone apex zone = IsZoneOfText apex Primary AllowAll zone
+
+-- Why a file is not taken: where its text is told to be none of the zone, it is none.
+abbrev pub IsFileFault : DomainName → ZoneFault → Type 0
+IsFileFault apex (Zone e) = IsTextFault apex e
+IsFileFault apex other = Unit {0}
+
+-- a handler of a chain: a zone, with the zone above it if there is one, or the list of blocked names that all chains share
+abbrev pub ServedHandler : Type 0
+ServedHandler = Either ZoneWithParent (Rc Blocklist Global)
+
+abbrev pub Chain : Type 0
+Chain = List ServedHandler
+
+-- The chain of a zone: its handler, and behind it the list of blocked names, if there is one.
+abbrev pub IsChain : ServedHandler → Option Blocklist → Chain → Type 0
+IsChain zone None chain = chain ≡ zone ∷ []
+IsChain zone (Some list) chain = (shared : Rc Blocklist Global) × (shared.value ≡ list) × (chain ≡ zone ∷ Right shared ∷ [])
+
+-- The handler is of the zone, with this zone above it, if there is one.
+abbrev pub IsPlaced : MemoryZone → Option MemoryZone → ServedHandler → Type 0
+IsPlaced zone parent handler = (both : ZoneWithParent) × (handler ≡ Left both) × (both.zone.value ≡ zone) × (option_map (λ it. it.value) both.parent ≡ parent)
+
+-- The zone of a file is served at its apex, where there was none, with the list of blocked names behind it, if there is one.
+abbrev pub IsLoaded : Option Blocklist → List (DomainName × Chain) → List (DomainName × Chain) → Type 0
+IsLoaded list old new = (apex : DomainName) × (zone : MemoryZone) × IsServedZone apex zone × (handler : ServedHandler) × IsPlaced zone None handler
+    × (chain : Chain) × IsChain handler list chain × ChangesAt old (lower_name apex) None (Some chain) new
+
+-- the zone of a handler, if it has one
+abbrev pub zone_in : ServedHandler → Option MemoryZone
+zone_in (Left both) = Some both.zone.value
+zone_in (Right list) = None
+
+-- the zone that a chain begins with, if it begins with one
+abbrev pub first_zone : Chain → Option MemoryZone
+first_zone [] = None
+first_zone (handler ∷ others) = zone_in handler
+
+-- What is found is the chain of this zone; or nothing is found, or a chain that begins with no zone.
+abbrev pub IsZoneOf : Option Chain → Option MemoryZone → Type 0
+IsZoneOf None zone = zone ≡ None
+IsZoneOf (Some chain) zone = zone ≡ first_zone chain
+
+-- The zone that answers for a name, if there is one: "the zone which is the nearest ancestor to QNAME" (RFC 1034 section 4.3.2, step 2).
+abbrev pub AnswersFor : List (DomainName × Chain) → DomainName → Option MemoryZone → Type 0
+AnswersFor zones name zone = (chain : Option Chain) × Finds zones name chain × IsZoneOf chain zone
+
+-- the name above, without the first label
+abbrev pub above : DomainName → DomainName
+above name = record name { labels = drop 1 name.labels }
+
+-- the root
+abbrev pub root : DomainName
+root = record { labels = []; is_fqdn = true }
+
+-- The zone above that of an apex: the one that answers for the name above the apex. Above the root there is none.
+pub data IsAbove (zones : List (DomainName × Chain)) (apex : DomainName) (parent : Option MemoryZone) : Type 0 where
+  none : apex ≡ root → parent ≡ None → IsAbove zones apex parent
+  nearest : ¬ (apex ≡ root) → AnswersFor zones (above apex) parent → IsAbove zones apex parent
+
+-- The zone that answers at an apex is served there beside the zone above it, if there is one, which has its DS records (RFC 4035 section 3.1.4.1); behind them is
+-- the list of blocked names, if there is one; and all else is as it was.
+pub record IsJoined (list : Option Blocklist) (apex : DomainName) (old new : List (DomainName × Chain)) : Type 0 where
+  pub zone : MemoryZone
+  pub parent : Option MemoryZone
+  pub answers : AnswersFor old (lower_name apex) (Some zone)
+  pub is_above : IsAbove old (lower_name apex) parent
+  pub handler : ServedHandler
+  pub placed : IsPlaced zone parent handler
+  pub chain : Chain
+  pub chained : IsChain handler list chain
+  pub was : Option Chain
+  pub changed : ChangesAt old (lower_name apex) was (Some chain) new

@@ -1,0 +1,90 @@
+-- What a crash leaves in each step of adding entries.
+use Rattle.std.proofs.Common.{◌≡◌, ◌≢◌, ◌⊎◌, inl, inr, ℕ, ◌+◌, ◌<◌, List, [], ◌∷◌, ◌++◌, length, get_or, drop, sym, ◌∙◌, ap, subst, arith, append_assoc, length-append}
+use Rattle.std.specs.Int.{w32, to_be_bytes}
+use Rattle.std.proofs.lemmas.Bool.{cases_eq}
+use Rattle.sqlite_disk.specs.Disk.{Holds, Torn, Follows}
+use Rattle.update_journal.specs.Frames.{frames, AreSmall, IsBeforeOrAfter, StandsFor}
+use Rattle.update_journal.specs.Settled.{behind_gate, IsAtRest, IsOpened, IsStaged}
+use Rattle.update_journal.proofs.Files.{kept, written, one_byte, one_byte_done}
+use Rattle.update_journal.proofs.Entries.{zero_not_one, stands_closed, stands_gate, opened_is, small_all, place_all}
+
+module _ {D : Type 0} (seen : D → List ℕ) (may_leave : D → List ℕ → Type 0) (disk : D) (end : ℕ) (entries : List (List ℕ)) where
+  pub rests : IsAtRest seen may_leave disk end entries → (c : List ℕ) → may_leave disk c → StandsFor c entries
+  rests s c left = subst (λ f. StandsFor f entries) (sym (s.durable c left ∙ s.file)) (stands_closed entries s.gate s.junk s.closed s.small)
+
+  -- the file up to its gate, and what is behind it
+  at_gate : (s : IsAtRest seen may_leave disk end entries) → seen disk ≡ (frames entries ++ s.gate ∷ []) ++ s.junk
+  at_gate s = s.file ∙ sym (append_assoc (frames entries) (s.gate ∷ []) s.junk)
+
+  behind : (s : IsAtRest seen may_leave disk end entries) → end + 1 ≡ length (frames entries ++ s.gate ∷ [])
+  behind s = omega (arith, s.place, length-append (frames entries) (s.gate ∷ []))
+
+  pub staging : IsAtRest seen may_leave disk end entries → (n : ℕ) (now : List ℕ → Type 0) → Follows (Torn (end + 1) n) (may_leave disk) now → (c : List ℕ) → now c → StandsFor c entries
+  staging s n now follows c left =
+      let from = follows c left in
+      let torn : Torn (end + 1) n ((frames entries ++ s.gate ∷ []) ++ s.junk) c = subst (λ f. Torn (end + 1) n f c) (s.durable from.0 from.1 ∙ at_gate s) from.2 in
+      let rest = drop (end + 1) c in
+      let is : c ≡ frames entries ++ s.gate ∷ rest = kept (end + 1) n (frames entries ++ s.gate ∷ []) s.junk c torn (behind s) ∙ append_assoc (frames entries) (s.gate ∷ []) rest in
+      subst (λ f. StandsFor f entries) (sym is) (stands_closed entries s.gate rest s.closed s.small)
+
+  pub staged : (s : IsAtRest seen may_leave disk end entries) → (first : List ℕ) (others : List (List ℕ)) (bytes : List ℕ) (next : D) → bytes ≡ behind_gate first others → Torn (end + 1) (length bytes) (seen disk) (seen next) → Holds (seen next) (end + 1) bytes
+      → (junk : List ℕ) × (seen next ≡ frames entries ++ s.gate ∷ (behind_gate first others ++ junk))
+  staged s first others bytes next are torn holds =
+      let junk : List ℕ = drop (length bytes) (drop (end + 1) (seen next)) in
+      let torn' : Torn (end + 1) (length bytes) ((frames entries ++ s.gate ∷ []) ++ s.junk) (seen next) = subst (λ f. Torn (end + 1) (length bytes) f (seen next)) (at_gate s) torn in (
+        junk,
+        written (end + 1) bytes (frames entries ++ s.gate ∷ []) s.junk (seen next) torn' (behind s) holds
+            ∙ append_assoc (frames entries) (s.gate ∷ []) (bytes ++ junk) ∙ ap (λ (l : List ℕ). frames entries ++ s.gate ∷ (l ++ junk)) are,
+      )
+
+  module _ (first : List ℕ) (others : List (List ℕ)) (s : IsStaged seen may_leave disk end entries first others) where
+    pub opening : AreSmall (first ∷ others) → (now : List ℕ → Type 0) → Follows (Torn end 1) (may_leave disk) now → (c : List ℕ) → now c → IsBeforeOrAfter entries (first ∷ others) c
+    opening new now follows c left =
+        let from = follows c left in
+        let torn : Torn end 1 (frames entries ++ s.gate ∷ (behind_gate first others ++ s.junk)) c = subst (λ f. Torn end 1 f c) (s.durable from.0 from.1 ∙ s.file) from.2 in
+        subst (IsBeforeOrAfter entries (first ∷ others)) (sym (one_byte end (frames entries) (behind_gate first others ++ s.junk) s.gate c s.place torn)) (stands_gate entries first others (get_or c end 0) s.junk s.small new)
+
+    pub opened : (next : D) → Torn end 1 (seen disk) (seen next) → Holds (seen next) end (1 ∷ []) → seen next ≡ frames entries ++ 1 ∷ (behind_gate first others ++ s.junk)
+    opened next torn holds =
+        one_byte_done end (frames entries) (behind_gate first others ++ s.junk) s.gate 1 (seen next) s.place (subst (λ f. Torn end 1 f (seen next)) s.file torn) holds
+
+  -- the file after more entries
+  pub rests_more : (first : List ℕ) (others : List (List ℕ)) (next : D) (place : ℕ) → IsAtRest seen may_leave disk end entries → AreSmall (first ∷ others) → IsOpened seen may_leave next entries first others
+      → place ≡ end + length (behind_gate first others) → IsAtRest seen may_leave next place (entries ++ first ∷ others)
+  rests_more first others next place s small o moved = record {
+    gate = 0;
+    junk = o.junk;
+    closed = zero_not_one 0 (λ i. 0);
+    file = o.file ∙ opened_is entries first others o.junk;
+    place = moved ∙ ap (λ k. k + length (behind_gate first others)) s.place ∙ sym (place_all entries first others);
+    small = small_all entries (first ∷ others) s.small small;
+    durable = o.durable;
+  }
+
+pub behind_some : (first : List ℕ) (others : List (List ℕ)) (bytes : List ℕ) → bytes ≡ behind_gate first others → 0 < length bytes
+behind_some first others bytes are = omega (arith, ap length are, length-append ((to_be_bytes w32 (length first) ++ first) ++ frames others) (0 ∷ []))
+
+-- a write of the first byte, where there are entries
+module _ {D : Type 0} (seen : D → List ℕ) (may_leave : D → List ℕ → Type 0) (disk : D) (end : ℕ) where
+  -- the first gate is open
+  first_is : (entries : List (List ℕ)) → IsAtRest seen may_leave disk end entries → 0 < end → (rest : List ℕ) × (seen disk ≡ 1 ∷ rest)
+  first_is [] s some = absurd (omega (arith, s.place, some))
+  first_is (e ∷ entries) s some = (_, s.file)
+
+  pub clearing : (entries : List (List ℕ)) → IsAtRest seen may_leave disk end entries → 0 < end → (now : List ℕ → Type 0) → Follows (Torn 0 1) (may_leave disk) now → (c : List ℕ) → now c → StandsFor c entries ⊎ StandsFor c []
+  clearing entries s some now follows c left =
+      let from = follows c left in
+      let first = first_is entries s some in
+      let torn : Torn 0 1 (1 ∷ first.0) c = subst (λ f. Torn 0 1 f c) (s.durable from.0 from.1 ∙ first.1) from.2 in
+      let is : c ≡ get_or c 0 0 ∷ first.0 = one_byte 0 [] first.0 1 c (λ i. 0) torn in
+      by is first.1 (cases_eq (get_or c 0 0) 1)
+    where
+      by : {rest : List ℕ} → c ≡ get_or c 0 0 ∷ rest → seen disk ≡ 1 ∷ rest → (get_or c 0 0 ≡ 1) ⊎ (get_or c 0 0 ≢ 1) → StandsFor c entries ⊎ StandsFor c []
+      by {rest} is file (inl is_open) =
+          inl (subst (λ f. StandsFor f entries) (sym (is ∙ ap (λ (b : ℕ). b ∷ rest) is_open ∙ sym file ∙ s.file)) (stands_closed entries s.gate s.junk s.closed s.small))
+      by {rest} is file (inr closed) = inr (subst (λ f. StandsFor f []) (sym is) (stands_closed [] (get_or c 0 0) rest closed tt))
+
+  pub cleared : (entries : List (List ℕ)) (next : D) → IsAtRest seen may_leave disk end entries → 0 < end → Torn 0 1 (seen disk) (seen next) → Holds (seen next) 0 (0 ∷ []) → (junk : List ℕ) × (seen next ≡ 0 ∷ junk)
+  cleared entries next s some torn holds =
+      let first = first_is entries s some in
+      (first.0, one_byte_done 0 [] first.0 1 0 (seen next) (λ i. 0) (subst (λ f. Torn 0 1 f (seen next)) first.1 torn) holds)

@@ -1,0 +1,32 @@
+-- Entries are staged, and then their gate is opened.
+use Rattle.std.proofs.Common.{◌≡◌, ◌+◌, length, inl, sym, ◌∙◌, ap, subst, arith}
+use Rattle.update_journal.specs.Frames.{AreSmall, IsSmall}
+use Rattle.update_journal.specs.JournalState.{JournalState}
+use Rattle.update_journal.specs.Read.{contents}
+use Rattle.update_journal.specs.Settled.{IsAtRest, behind_gate}
+use Rattle.update_journal.proofs.Steps.{rests, rests_more}
+use Rattle.update_journal.proofs.journal.Journal.add.Goals as goal
+
+pub returns-then-not-is_ready-clause-crash : goal.returns-then-not-is_ready-clause-crash
+returns-then-not-is_ready-clause-crash g c = λ entries s file left. inl (rests g.D.Disk.seen g.D.Disk.may_leave c.args.self.now.disk c.args.self.now.end entries s file left)
+
+pub returns-then-first-clause-crash : goal.returns-then-first-clause-crash
+returns-then-first-clause-crash g c = λ entries s file left. inl (rests g.D.Disk.seen g.D.Disk.may_leave c.args.self.now.disk c.args.self.now.end entries s file left)
+
+pub returns-in_default-clause-crash : goal.returns-in_default-clause-crash
+returns-in_default-clause-crash g c = λ entries s file left. inl (rests g.D.Disk.seen g.D.Disk.may_leave c.args.self.now.disk c.args.self.now.end entries s file left)
+
+pub returns-then-len-ge-MAX_END-clause-crash : goal.returns-then-len-ge-MAX_END-clause-crash
+returns-then-len-ge-MAX_END-clause-crash g c = λ entries s file left. inl (rests g.D.Disk.seen g.D.Disk.may_leave c.args.self.now.disk c.args.self.now.end entries s file left)
+
+pub returns-in-Ok-write-clause-acknowledged : goal.returns-in-Ok-write-clause-acknowledged
+returns-in-Ok-write-clause-acknowledged g c = λ entries s.
+    let s' : IsAtRest g.D.Disk.seen g.D.Disk.may_leave c.self.inside.disk c.self.inside.end entries =
+    subst (λ (v : JournalState g.row.D.Denot). IsAtRest g.D.Disk.seen g.D.Disk.may_leave v.disk v.end entries) (sym c.self.view_is) s in
+    let are = c.deref.ensures.value ∙ c.in-Ok.ensures in
+    let first : IsSmall c.args.first.now = grind arith in
+    let others : AreSmall (contents c.args.others.now) = c.are_small.ensures.small c.if-not-are_small.false in
+    let size : c.len-in-Ok-write.result ≡ length (behind_gate c.args.first.now (contents c.args.others.now)) = grind (arith, ap length c.in-Ok.ensures) in
+    rests_more g.D.Disk.seen g.D.Disk.may_leave c.self.inside.disk c.self.inside.end entries c.args.first.now (contents c.args.others.now) c.write.new.disk _ s' (first, others)
+    (c.in-Ok-write.ensures.opened entries c.args.first.now (contents c.args.others.now) s' are)
+    (ap (λ k. c.self.inside.end + k) size)

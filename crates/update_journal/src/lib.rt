@@ -1,0 +1,16 @@
+//! A journal of entries in one file: each is on the disk before it is acknowledged, whole or not at all.
+#![tactic(auto)]
+
+mod error;
+mod generations;
+mod journal;
+pub mod laws;
+mod reading;
+mod recovering;
+mod writing;
+
+pub use error::JournalError;
+pub use generations::{generation, is_newer};
+pub use journal::Journal;
+pub use reading::Recovered;
+pub use recovering::recover;

@@ -1,9 +1,0 @@
-//! The handlers of the server's chains.
-
-use hickory_server::store::authoritative::AuthoritativeZone;
-use hickory_server::store::blocklist::BlocklistZoneHandler;
-use hickory_server::zone_store::Either;
-use std::rc::Rc;
-
-/// A handler of a chain: a zone, or the list of blocked names that all chains share.
-pub type Handler = Either<AuthoritativeZone, Rc<BlocklistZoneHandler>>;

@@ -1,0 +1,4 @@
+pub mod Results
+pub mod Streams
+pub mod Whole
+pub mod Written

@@ -1,0 +1,16 @@
+-- What holds where a call succeeded, and of what may not be there.
+use Rattle.std.proofs.Common.{◌≡◌, Bor, Err, IsNone, IsOk, None, Ok, OnOk, Option, Result, Some, option_map, refl, sym}
+use Rattle.std.proofs.lemmas.Bool.{false≢true}
+use Rattle.std.specs.Option.{option_copied}
+
+pub holds : {A E : Type 0} (result : Result A E) (P : Type 0) → IsOk result → OnOk result P → P
+holds (Ok a) P is p = p
+holds (Err e) P is p = absurd (false≢true is)
+
+pub none_is : {A : Type 0} (value : Option A) → IsNone value → value ≡ None
+none_is None is = refl
+none_is (Some a) is = absurd (false≢true (sym is))
+
+pub copied_map : {A B : Type 0} (f : A → B) (lent : Option (Bor A)) → option_map (λ (x : Bor A). f x.now) lent ≡ option_map f (option_copied lent)
+copied_map f None = refl
+copied_map f (Some x) = refl

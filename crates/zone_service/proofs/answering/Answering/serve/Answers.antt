@@ -1,0 +1,13 @@
+use Rattle.zone_service.proofs.answering.Answering.serve.Goals as goal
+
+pub returns-in-Ok-Replies-clause-ok : goal.returns-in-Ok-Replies-clause-ok
+returns-in-Ok-Replies-clause-ok g c = rw c.in-Ok-Replies.field-0-is at c.in-Ok-Replies.ensures.ok
+
+pub returns-in-Ok-Unreadable-clause-err : goal.returns-in-Ok-Unreadable-clause-err
+returns-in-Ok-Unreadable-clause-err g c = rw c.in-Ok-Unreadable.field-0-is at c.in-Ok-Unreadable.ensures.ok
+
+pub returns-in-Err-Memory-clause-err : goal.returns-in-Err-Memory-clause-err
+returns-in-Err-Memory-clause-err g c = rw c.in-Err-Memory.field-0-is at c.in-Err-Memory.ensures.err
+
+pub returns-in-Err-MemoryAfterHandling-clause-err : goal.returns-in-Err-MemoryAfterHandling-clause-err
+returns-in-Err-MemoryAfterHandling-clause-err g c = rw c.in-Err-MemoryAfterHandling.field-0-is at c.in-Err-MemoryAfterHandling.ensures.err

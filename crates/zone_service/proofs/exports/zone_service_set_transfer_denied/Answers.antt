@@ -1,0 +1,11 @@
+use Rattle.std.proofs.Common.{◌∷◌, []}
+use Rattle.access_control.specs.Access.{Inserts, Network}
+use Rattle.zone_service.specs.declared.service.Service.{Service}
+use Rattle.zone_service.proofs.Results.{holds}
+use Rattle.zone_service.proofs.exports.zone_service_set_transfer_denied.Goals as goal
+
+pub returns : goal.returns
+returns c =
+    let before : Service = c.service-service.result.now in
+    let after : Service = c.deny_transfer.new.self in
+    record { made = λ done. rw c.service-service.ensures.value at (holds c.deny_transfer.result ((network : Network) × Inserts before.answering.server.rules.transfers.deny (network ∷ []) after.answering.server.rules.transfers.deny) (c.told.ensures.done.0 done) c.deny_transfer.ensures.ok) }

@@ -1,0 +1,249 @@
+//! What becomes of messages and of streams: replies behind their lengths, and those that wait for room.
+
+ghost use Rattle.std.specs.Prelude.{◌≡◌, ◌<◌, ◌≤◌, ◌⊎◌, [], ℕ, List, IfErr, IfOk, IfSome, IsNone, length};
+ghost use Rattle.hickory_catalog.specs.Server.{server_of};
+ghost use Rattle.hickory_server.specs.ServedBy.{BytesServed};
+ghost use Rattle.hickory_server.specs.declared.server.answer.Answer.TheVariants.{Replies};
+ghost use Rattle.zone_service.specs.Frames.{ArePut, BeginsWith, IsCutShort};
+
+use crate::frames::{MOST_FRAME, put_frames, whole_message};
+use hickory_server::proto::{Items, Octets, Protocol};
+use hickory_server::server::serve::ServeError;
+use hickory_server::server::{Answer, Server};
+use hickory_server::zone_handler::{ReplySigner, ZoneHandler};
+use std::alloc::Global;
+use std::net::SocketAddr;
+
+/// Why a message has no reply.
+#[derive(Clone, Copy, Debug, PartialEq, Eq)]
+pub enum Refusal {
+    /// Its address may not use the server.
+    Denied,
+    /// It is itself a response.
+    Response,
+    /// Its bytes begin with no message (RFC 1035 section 4.1).
+    Unreadable,
+    /// Memory was refused; the server is as before.
+    Memory,
+    /// Memory was refused for the replies to a message that was handled.
+    MemoryAfterHandling,
+}
+
+/// What became of the messages at the front of a stream's bytes.
+#[derive(Clone, Copy, Debug, PartialEq, Eq)]
+pub struct StreamAnswer {
+    /// How many bytes they are, with their lengths.
+    pub consumed: usize,
+    /// How many bytes of replies were written.
+    pub written: usize,
+    /// Why the last of them has no reply.
+    pub refusal: Option<Refusal>,
+}
+
+/// A server, and the replies to its last message that wait for room.
+#[derive(Drop)]
+pub struct Answering<S: ReplySigner, H: ZoneHandler> {
+    pub(crate) server: Server<S, H>,
+    pending: Items<Octets>,
+    taken: usize,
+}
+
+impl<S: ReplySigner, H: ZoneHandler> Answering<S, H> {
+    ghost use Rattle.zone_service.specs.Serving.{IsAnsweredStream, IsAtEnd, IsRefused, IsStreamStep, waiting_in};
+
+    /// A server, with no reply that waits.
+    pub(crate) fn new(alloc: Global, server: Server<S, H>) -> Answering<S, H>
+        ensures server { result.server ≡ server }
+        ensures waiting { waiting_in result ≡ [] }
+    {
+        Answering {
+            server,
+            pending: Items::new(alloc),
+            taken: 0,
+        }
+    }
+
+    /// Serves a message: its replies wait to be taken. Those to the message before it that still wait are let go, unless this one is refused.
+    fn serve(
+        &mut self,
+        alloc: Global,
+        bytes: &[u8],
+        source: SocketAddr,
+        protocol: Protocol,
+        now: u64,
+    ) -> Result<(), Refusal>
+        ensures rules { self.new.server.rules ≡ self.old.server.rules }
+        ensures others { self.new.server.catalog ≡ record self.old.server.catalog { zones = self.new.server.catalog.zones } }
+        ensures ok { IfOk result (λ _. BytesServed self.old.server.rules (server_of H.ZoneHandler S.signature_for self.old.server.catalog) bytes.now source protocol now (Replies self.new.pending) self.new.server.catalog.zones) }
+        ensures start { IfOk result (λ _. self.new.taken ≡ 0) }
+        ensures err { IfErr result (λ refusal. IsRefused self.old.server.rules (server_of H.ZoneHandler S.signature_for self.old.server.catalog) bytes.now source protocol now refusal self.new.server.catalog.zones) }
+        ensures kept { IfErr result (λ _. waiting_in self.new ≡ waiting_in self.old) }
+    {
+        match self.server.serve(alloc, bytes, source, protocol, now) {
+            Ok(Answer::Replies(replies)) => {
+                self.pending = replies;
+                self.taken = 0;
+                Ok(())
+            }
+            Ok(Answer::Denied) => Err(Refusal::Denied),
+            Ok(Answer::Response) => Err(Refusal::Response),
+            Ok(Answer::Unreadable) => Err(Refusal::Unreadable),
+            Err(ServeError::Memory) => Err(Refusal::Memory),
+            Err(ServeError::MemoryAfterHandling) => Err(Refusal::MemoryAfterHandling),
+        }
+    }
+
+    /// How many replies wait.
+    pub fn waiting(&self) -> usize
+        ensures { result ≡ length (waiting_in self.now) }
+    {
+        self.pending.len().saturating_sub(self.taken)
+    }
+
+    /// Writes replies that wait at this place, each behind its length, as many as there is room for: the place behind them.
+    fn take_at(&mut self, out: &mut [u8], at: usize) -> usize
+        requires { at ≤ length out.old }
+        ensures others { self.new ≡ record self.old { taken = self.new.taken } }
+        ensures put { ArePut (waiting_in self.old) out.old at out.new result (waiting_in self.new) }
+    {
+        if self.taken >= self.pending.len() {
+            return at;
+        }
+        let (end, count) = put_frames(out, at, &self.pending.as_slice()[self.taken..]);
+        self.taken += count;
+        end
+    }
+
+    /// Writes replies that wait, each behind its length, as many as there is room for: how many bytes they take.
+    pub fn take(&mut self, out: &mut [u8]) -> usize
+        ensures others { self.new ≡ record self.old { taken = self.new.taken } }
+        ensures put { ArePut (waiting_in self.old) out.old 0 out.new result (waiting_in self.new) }
+    {
+        self.take_at(out, 0)
+    }
+
+    /// Answers a message at this place: writes its replies as `take_at` does. Those to the message before it that still wait are let go,
+    /// unless this one is refused.
+    fn answer_at(
+        &mut self,
+        alloc: Global,
+        bytes: &[u8],
+        source: SocketAddr,
+        protocol: Protocol,
+        now: u64,
+        out: &mut [u8],
+        at: usize,
+    ) -> Result<usize, Refusal>
+        requires { at ≤ length out.old }
+        ensures rules { self.new.server.rules ≡ self.old.server.rules }
+        ensures others { self.new.server.catalog ≡ record self.old.server.catalog { zones = self.new.server.catalog.zones } }
+        ensures ok { IfOk result (λ end. (sent : List (List ℕ)) ×
+            BytesServed self.old.server.rules (server_of H.ZoneHandler S.signature_for self.old.server.catalog) bytes.now source protocol now (Replies sent) self.new.server.catalog.zones ×
+            ArePut sent out.old at out.new end (waiting_in self.new)) }
+        ensures err { IfErr result (λ refusal. IsRefused self.old.server.rules (server_of H.ZoneHandler S.signature_for self.old.server.catalog) bytes.now source protocol now refusal self.new.server.catalog.zones) }
+        ensures kept { IfErr result (λ _. (waiting_in self.new ≡ waiting_in self.old) × (out.new ≡ out.old)) }
+    {
+        match self.serve(alloc, bytes, source, protocol, now) {
+            Ok(()) => Ok(self.take_at(out, at)),
+            Err(refusal) => Err(refusal),
+        }
+    }
+
+    /// Answers a message: writes its replies as `take` does, and says how many bytes they take. Those to the message before it that still
+    /// wait are let go, unless this one is refused.
+    pub fn answer(
+        &mut self,
+        alloc: Global,
+        bytes: &[u8],
+        source: SocketAddr,
+        protocol: Protocol,
+        now: u64,
+        out: &mut [u8],
+    ) -> Result<usize, Refusal>
+        ensures rules { self.new.server.rules ≡ self.old.server.rules }
+        ensures others { self.new.server.catalog ≡ record self.old.server.catalog { zones = self.new.server.catalog.zones } }
+        ensures ok { IfOk result (λ end. (sent : List (List ℕ)) ×
+            BytesServed self.old.server.rules (server_of H.ZoneHandler S.signature_for self.old.server.catalog) bytes.now source protocol now (Replies sent) self.new.server.catalog.zones ×
+            ArePut sent out.old 0 out.new end (waiting_in self.new)) }
+        ensures err { IfErr result (λ refusal. IsRefused self.old.server.rules (server_of H.ZoneHandler S.signature_for self.old.server.catalog) bytes.now source protocol now refusal self.new.server.catalog.zones) }
+        ensures kept { IfErr result (λ _. (waiting_in self.new ≡ waiting_in self.old) × (out.new ≡ out.old)) }
+    {
+        self.answer_at(alloc, bytes, source, protocol, now, out, 0)
+    }
+
+    /// The message that is to be answered next, which stands at the front of these bytes, if no reply waits and there is room for one of any
+    /// size.
+    fn next_message<'a>(&self, bytes: &'a [u8], room: usize) -> Option<&'a [u8]>
+        ensures some { IfSome result (λ message. BeginsWith bytes.now message.now × (waiting_in self.now ≡ [])) }
+        ensures none { IsNone result → waiting_in self.now ≡ [] → IsCutShort bytes.now ⊎ (room < 65537) }
+    {
+        if self.waiting() > 0 || room < MOST_FRAME {
+            return None;
+        }
+        whole_message(bytes)
+    }
+
+    /// Answers whole messages of a stream, where no reply waits.
+    fn answer_whole(
+        &mut self,
+        alloc: Global,
+        bytes: &[u8],
+        source: SocketAddr,
+        now: u64,
+        out: &mut [u8],
+    ) -> StreamAnswer
+        requires { waiting_in self.old ≡ [] }
+        ensures rules { self.new.server.rules ≡ self.old.server.rules }
+        ensures others { self.new.server.catalog ≡ record self.old.server.catalog { zones = self.new.server.catalog.zones } }
+        ensures answered { IsAnsweredStream self.old.server.rules (server_of H.ZoneHandler S.signature_for self.old.server.catalog) bytes.now source now result out.new (waiting_in self.new) self.new.server.catalog.zones }
+        ensures at_end { IsNone result.refusal → waiting_in self.new ≡ [] → IsAtEnd bytes.now result.consumed (length out.new) result.written }
+    {
+        let mut consumed = 0;
+        let mut written = 0;
+        // Each turn takes two bytes at least.
+        for _ in 0..bytes.len() {
+            let Some(message) = self.next_message(&bytes[consumed..], out.len() - written) else {
+                return StreamAnswer {
+                    consumed,
+                    written,
+                    refusal: None,
+                };
+            };
+            consumed += 2 + message.len();
+            match self.answer_at(alloc, message, source, Protocol::Tcp, now, out, written) {
+                Ok(end) => written = end,
+                Err(refusal) => {
+                    return StreamAnswer {
+                        consumed,
+                        written,
+                        refusal: Some(refusal),
+                    };
+                }
+            }
+        }
+        StreamAnswer {
+            consumed,
+            written,
+            refusal: None,
+        }
+    }
+
+    /// Answers the messages that stand whole at the front of a stream's bytes, each behind its length (RFC 1035 section 4.2.2), one after the
+    /// other, while there is room for a reply of any size and none waits. It ends behind one that is refused. Replies that waited before it
+    /// are let go.
+    pub fn answer_stream(
+        &mut self,
+        alloc: Global,
+        bytes: &[u8],
+        source: SocketAddr,
+        now: u64,
+        out: &mut [u8],
+    ) -> StreamAnswer
+        ensures rules { self.new.server.rules ≡ self.old.server.rules }
+        ensures others { self.new.server.catalog ≡ record self.old.server.catalog { zones = self.new.server.catalog.zones } }
+        ensures step { IsStreamStep (server_of H.ZoneHandler S.signature_for self.old.server.catalog) self.old bytes.now source now result out.new self.new }
+    {
+        self.taken = self.pending.len();
+        self.answer_whole(alloc, bytes, source, now, out)
+    }
+}

@@ -1,0 +1,107 @@
+//! What a server is told before its first message, and why it is not taken.
+
+use hickory_server::access::{IpNet, IpNetTextError};
+use hickory_server::proto::{Name, NameError};
+use hickory_server::store::blocklist::BlocklistZoneHandler;
+use served_zones::chains::apex;
+use served_zones::identifier::IdentifierFault;
+use served_zones::lists;
+use served_zones::zones::ZoneFault;
+use std::alloc::{AllocError, AllocFailed, Global};
+use std::rc::Rc;
+use std::str;
+use thiserror::Error;
+
+/// Why a setting is not taken.
+#[derive(Clone, Copy, Debug, PartialEq, Eq, Error)]
+pub enum SettingFault {
+    /// A name is none.
+    #[error("not the name of a zone")]
+    ZoneName,
+    /// There is a zone of this name.
+    #[error("a zone of this name is there")]
+    ZoneTwice,
+    /// A zone file is not taken.
+    #[error("{0}")]
+    Zone(ZoneFault),
+    /// A list of blocked names blocks nothing: it is empty, or another kind of text.
+    #[error("no line of the list gives a name")]
+    NoNames,
+    /// A network is none.
+    #[error("{0}")]
+    Network(IpNetTextError),
+    /// A bound is no number of bytes that a reply over UDP may always have (RFC 1035 section 4.2.1).
+    #[error("not a number from 512 to 65535")]
+    MaxUdp,
+    /// An identifier has more bytes than an option holds (RFC 6891 section 6.1.2).
+    #[error("the identifier is too long")]
+    LongIdentifier,
+    /// A text is not UTF-8.
+    #[error("not UTF-8")]
+    NotUtf8,
+    /// Memory was refused.
+    #[error("no memory")]
+    Memory,
+}
+
+impl From<AllocError> for SettingFault {
+    fn from(_e: AllocError) -> SettingFault {
+        SettingFault::Memory
+    }
+}
+
+impl<T: Drop> From<AllocFailed<T>> for SettingFault {
+    fn from(_e: AllocFailed<T>) -> SettingFault {
+        SettingFault::Memory
+    }
+}
+
+impl From<ZoneFault> for SettingFault {
+    fn from(e: ZoneFault) -> SettingFault {
+        match e {
+            ZoneFault::Memory => SettingFault::Memory,
+            other => SettingFault::Zone(other),
+        }
+    }
+}
+
+impl From<IdentifierFault> for SettingFault {
+    fn from(e: IdentifierFault) -> SettingFault {
+        match e {
+            IdentifierFault::Long => SettingFault::LongIdentifier,
+            IdentifierFault::Memory => SettingFault::Memory,
+        }
+    }
+}
+
+/// The name that a text spells, with or without a dot at its end; the root is a dot alone.
+pub(crate) fn zone_name(alloc: Global, text: &[u8]) -> Result<Name, SettingFault> {
+    let Ok(text) = str::from_utf8(text) else {
+        return Err(SettingFault::NotUtf8);
+    };
+    match apex(alloc, text) {
+        Ok(name) => Ok(name),
+        Err(NameError::Text) => Err(SettingFault::ZoneName),
+        Err(_) => Err(SettingFault::Memory),
+    }
+}
+
+/// The network that a text spells.
+pub(crate) fn network(text: &[u8]) -> Result<IpNet, SettingFault> {
+    let Ok(text) = str::from_utf8(text) else {
+        return Err(SettingFault::NotUtf8);
+    };
+    text.parse::<IpNet>().map_err(SettingFault::Network)
+}
+
+/// The list of the names in a text.
+pub(crate) fn blocklist(
+    alloc: Global,
+    text: &[u8],
+) -> Result<Rc<BlocklistZoneHandler>, SettingFault> {
+    let mut list = lists::blocklist(alloc)?;
+    if lists::add_names(alloc, &mut list, text)?.taken() == 0 {
+        return Err(SettingFault::NoNames);
+    }
+    Ok(Rc::new(alloc, list)?)
+}

@@ -1,5 +1,0 @@
-use Rattle.zone_text.specs.RecordText.SpellsType.{mnemonic}
-use Rattle.zone_text.proofs.data.table.type_of.Goals as goal
-
-pub returns-in-Some : goal.returns-in-Some
-returns-in-Some c = (c.if-word.false, rw c.new.ensures (mnemonic c.in-Some.ensures))

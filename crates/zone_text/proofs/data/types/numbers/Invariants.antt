@@ -1,6 +1,0 @@
-use Rattle.std.proofs.Common.{take}
-use Rattle.zone_text.specs.RecordText.{AreTypes}
-use Rattle.zone_text.proofs.data.types.numbers.Given as goal
-
-abbrev pub invariant-loop-word : goal.invariant-loop-word
-invariant-loop-word l = AreTypes (take l.word-index l.words) l.numbers.items

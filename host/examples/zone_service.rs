@@ -1,0 +1,236 @@
+//! A server of DNS zones without a socket, proved: the safe way to call it from Rust, over std alone, and the only unsafe code.
+//!
+//! What `zone_service.h` asks of a caller is kept here: a server has one owner, is lent to one call at a time and stays in its thread
+//! (it is neither `Send` nor `Sync`), slices are what they say, and what is written to overlaps nothing else.
+
+use std::ffi::c_void;
+use std::fmt;
+use std::net::{IpAddr, SocketAddr};
+use std::ptr;
+
+/// A reply is at most so long, with its length before it. A buffer of this size takes at least one.
+pub const FRAME: usize = 65_537;
+
+#[repr(C)]
+struct Raw {
+    at: *mut c_void,
+}
+
+type Set = unsafe extern "C" fn(*mut Raw, *const u8, usize, *mut u8, usize, *mut usize) -> u32;
+
+#[rustfmt::skip]
+unsafe extern "C" {
+    fn zone_service_create(at: *mut *mut c_void) -> u32;
+    fn zone_service_free(service: Raw);
+    fn zone_service_set_blocklist(service: *mut Raw, text: *const u8, len: usize, fault: *mut u8, room: usize, length: *mut usize) -> u32;
+    fn zone_service_add_zone(service: *mut Raw, name: *const u8, name_len: usize, text: *const u8, len: usize, fault: *mut u8, room: usize, length: *mut usize) -> u32;
+    fn zone_service_set_allowed(service: *mut Raw, network: *const u8, len: usize, fault: *mut u8, room: usize, length: *mut usize) -> u32;
+    fn zone_service_set_denied(service: *mut Raw, network: *const u8, len: usize, fault: *mut u8, room: usize, length: *mut usize) -> u32;
+    fn zone_service_set_transfer_allowed(service: *mut Raw, network: *const u8, len: usize, fault: *mut u8, room: usize, length: *mut usize) -> u32;
+    fn zone_service_set_transfer_denied(service: *mut Raw, network: *const u8, len: usize, fault: *mut u8, room: usize, length: *mut usize) -> u32;
+    fn zone_service_set_max_udp(service: *mut Raw, size: u16, fault: *mut u8, room: usize, length: *mut usize) -> u32;
+    fn zone_service_set_identifier(service: *mut Raw, text: *const u8, len: usize, fault: *mut u8, room: usize, length: *mut usize) -> u32;
+    fn zone_service_answer(service: *mut Raw, message: *const u8, len: usize, source: *const u8, source_len: usize, port: u16, stream: bool, now: u64,
+        out: *mut u8, room: usize, written: *mut usize, waiting: *mut usize) -> u32;
+    fn zone_service_answer_stream(service: *mut Raw, bytes: *const u8, len: usize, source: *const u8, source_len: usize, port: u16, now: u64,
+        out: *mut u8, room: usize, taken: *mut usize, written: *mut usize, waiting: *mut usize) -> u32;
+    fn zone_service_take(service: *mut Raw, out: *mut u8, room: usize, waiting: *mut usize) -> usize;
+}
+
+/// Why a setting is not taken, as a text.
+#[derive(Debug, Clone, PartialEq, Eq)]
+pub struct SettingFault(pub String);
+
+impl fmt::Display for SettingFault {
+    fn fmt(&self, f: &mut fmt::Formatter<'_>) -> fmt::Result {
+        f.write_str(&self.0)
+    }
+}
+
+impl std::error::Error for SettingFault {}
+
+/// Why a message has no reply.
+#[derive(Debug, Clone, Copy, PartialEq, Eq)]
+pub enum Refusal {
+    /// Its address may not use the server.
+    Denied,
+    /// It is itself a response.
+    Response,
+    /// Its bytes begin with no message (RFC 1035 section 4.1).
+    Unreadable,
+    /// Memory was refused; the zones are as before.
+    Memory,
+    /// Memory was refused for the replies to a message that was handled.
+    MemoryAfterHandling,
+}
+
+/// What was written: replies, each behind its length in two bytes (RFC 1035 section 4.2.2).
+#[derive(Debug, Clone, Copy, PartialEq, Eq)]
+pub struct Written {
+    /// How many bytes.
+    pub len: usize,
+    /// How many replies are left for `take`.
+    pub waiting: usize,
+}
+
+/// What became of the front of a stream.
+#[derive(Debug, Clone, Copy, PartialEq, Eq)]
+pub struct Streamed {
+    /// How many bytes were taken: whole messages, each with its length.
+    pub taken: usize,
+    /// What was written of their replies.
+    pub written: Written,
+    /// Why the last of them has none.
+    pub refusal: Option<Refusal>,
+}
+
+/// How a message came.
+#[derive(Debug, Clone, Copy, PartialEq, Eq)]
+pub enum Transport {
+    Datagram,
+    Stream,
+}
+
+/// The bytes of an address, in the front of so many.
+fn octets(address: IpAddr) -> ([u8; 16], usize) {
+    match address {
+        IpAddr::V4(a) => {
+            let mut octets = [0; 16];
+            octets[..4].copy_from_slice(&a.octets());
+            (octets, 4)
+        }
+        IpAddr::V6(a) => (a.octets(), 16),
+    }
+}
+
+/// What a number says.
+fn refusal(told: u32) -> Option<Refusal> {
+    match told {
+        0 => None,
+        1 => Some(Refusal::Denied),
+        2 => Some(Refusal::Response),
+        3 => Some(Refusal::Unreadable),
+        5 => Some(Refusal::MemoryAfterHandling),
+        _ => Some(Refusal::Memory),
+    }
+}
+
+/// A server.
+pub struct ZoneService(Raw);
+
+impl Drop for ZoneService {
+    fn drop(&mut self) {
+        // SAFETY: it was made by `zone_service_create`, and this is its end.
+        unsafe { zone_service_free(Raw { at: self.0.at }) }
+    }
+}
+
+impl ZoneService {
+    /// A server without zones, which everybody may use; `None` without memory.
+    pub fn new() -> Option<ZoneService> {
+        let mut at = ptr::null_mut();
+        // SAFETY: `at` is a pointer of ours.
+        (unsafe { zone_service_create(&mut at) } == 0).then_some(ZoneService(Raw { at }))
+    }
+
+    fn told(set: u32, fault: &[u8], length: usize) -> Result<(), SettingFault> {
+        match set {
+            0 => Ok(()),
+            _ => Err(SettingFault(String::from_utf8_lossy(&fault[..length]).into_owned())),
+        }
+    }
+
+    fn set(&mut self, call: Set, text: &[u8]) -> Result<(), SettingFault> {
+        let (mut fault, mut length) = ([0; 256], 0);
+        // SAFETY: the server is ours alone, and the slices are apart.
+        let set = unsafe { call(&mut self.0, text.as_ptr(), text.len(), fault.as_mut_ptr(), fault.len(), &mut length) };
+        Self::told(set, &fault, length)
+    }
+
+    /// Has the names that a text lists blocked in each zone that is added later.
+    pub fn set_blocklist(&mut self, text: &[u8]) -> Result<(), SettingFault> {
+        self.set(zone_service_set_blocklist, text)
+    }
+
+    /// Lets the addresses of a network use the server.
+    pub fn allow(&mut self, network: &str) -> Result<(), SettingFault> {
+        self.set(zone_service_set_allowed, network.as_bytes())
+    }
+
+    /// Keeps the addresses of a network from the server.
+    pub fn deny(&mut self, network: &str) -> Result<(), SettingFault> {
+        self.set(zone_service_set_denied, network.as_bytes())
+    }
+
+    /// Lets the addresses of a network have transfers.
+    pub fn allow_transfer(&mut self, network: &str) -> Result<(), SettingFault> {
+        self.set(zone_service_set_transfer_allowed, network.as_bytes())
+    }
+
+    /// Keeps transfers from the addresses of a network.
+    pub fn deny_transfer(&mut self, network: &str) -> Result<(), SettingFault> {
+        self.set(zone_service_set_transfer_denied, network.as_bytes())
+    }
+
+    /// Sets what identifies the server to clients that ask (RFC 5001).
+    pub fn set_identifier(&mut self, text: &[u8]) -> Result<(), SettingFault> {
+        self.set(zone_service_set_identifier, text)
+    }
+
+    /// Sets how many bytes a reply over UDP has at most, from 512 on.
+    pub fn set_max_udp(&mut self, size: u16) -> Result<(), SettingFault> {
+        let (mut fault, mut length) = ([0; 256], 0);
+        // SAFETY: the server is ours alone, and the slices are apart.
+        let set = unsafe { zone_service_set_max_udp(&mut self.0, size, fault.as_mut_ptr(), fault.len(), &mut length) };
+        Self::told(set, &fault, length)
+    }
+
+    /// Serves the zone of this name from the text of its file.
+    #[rustfmt::skip]
+    pub fn add_zone(&mut self, name: &str, text: &[u8]) -> Result<(), SettingFault> {
+        let (mut fault, mut length) = ([0; 256], 0);
+        // SAFETY: the server is ours alone, and the slices are apart.
+        let set = unsafe {
+            zone_service_add_zone(&mut self.0, name.as_ptr(), name.len(), text.as_ptr(), text.len(), fault.as_mut_ptr(), fault.len(), &mut length)
+        };
+        Self::told(set, &fault, length)
+    }
+
+    /// Answers a message that came at a moment in seconds since 1970: writes its replies, as many as there is room for.
+    #[rustfmt::skip]
+    pub fn answer(&mut self, message: &[u8], source: SocketAddr, transport: Transport, now: u64, out: &mut [u8]) -> Result<Written, Refusal> {
+        let (octets, count) = octets(source.ip());
+        let (mut len, mut waiting) = (0, 0);
+        // SAFETY: the server is ours alone, and the slices are apart.
+        let told = unsafe {
+            zone_service_answer(&mut self.0, message.as_ptr(), message.len(), octets.as_ptr(), count, source.port(),
+                transport == Transport::Stream, now, out.as_mut_ptr(), out.len(), &mut len, &mut waiting)
+        };
+        match refusal(told) {
+            None => Ok(Written { len, waiting }),
+            Some(refusal) => Err(refusal),
+        }
+    }
+
+    /// Answers the messages that stand whole at the front of a stream's bytes, each behind its length, while `out` has room for a reply of
+    /// any size and none waits, up to one that has no reply. Replies that waited before are let go.
+    #[rustfmt::skip]
+    pub fn answer_stream(&mut self, bytes: &[u8], source: SocketAddr, now: u64, out: &mut [u8]) -> Streamed {
+        let (octets, count) = octets(source.ip());
+        let (mut taken, mut len, mut waiting) = (0, 0, 0);
+        // SAFETY: the server is ours alone, and the slices are apart.
+        let told = unsafe {
+            zone_service_answer_stream(&mut self.0, bytes.as_ptr(), bytes.len(), octets.as_ptr(), count, source.port(), now,
+                out.as_mut_ptr(), out.len(), &mut taken, &mut len, &mut waiting)
+        };
+        Streamed { taken, written: Written { len, waiting }, refusal: refusal(told) }
+    }
+
+    /// Writes more of the replies that wait.
+    pub fn take(&mut self, out: &mut [u8]) -> Written {
+        let mut waiting = 0;
+        // SAFETY: the server is ours alone, and the slices are apart.
+        let len = unsafe { zone_service_take(&mut self.0, out.as_mut_ptr(), out.len(), &mut waiting) };
+        Written { len, waiting }
+    }
+}

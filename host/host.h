@@ -1,0 +1,60 @@
+/* What the parts of the host share. */
+#ifndef HOST_H
+#define HOST_H
+
+#include "zone_service.h"
+
+#include <sys/socket.h>
+
+#define MOST_ADDRESSES 16
+#define MOST_TEXTS 1024
+#define NETWORK_KINDS 4
+
+struct texts {
+    const char *at[MOST_TEXTS];
+    int count;
+};
+
+struct settings {
+    struct texts addresses, zones;        /* ADDRESS@PORT; NAME=FILE */
+    struct texts networks[NETWORK_KINDS]; /* of each kind, in this order: allowed, denied, and the same for transfers */
+    const char *blocklist, *identifier, *user;
+    int max_udp, workers;               /* bytes of a reply over UDP; processes that serve */
+    int tcp_idle, tcp_most, tcp_client; /* seconds; connections a worker; connections a client and worker */
+};
+
+/* The sockets of a worker: one of each kind for each address. */
+struct sockets {
+    int udp[MOST_ADDRESSES], tcp[MOST_ADDRESSES], count;
+};
+
+/* load.c: the server that the settings ask for, read from their files. 0, or -1 with a line on the standard error. */
+int load(const struct settings *settings, zone_service *service);
+
+/* sockets.c */
+int open_sockets(const struct settings *settings, struct sockets *sockets);
+
+/* worker.c: serves until SIGTERM, then lets its connections end. */
+int work(const struct settings *settings, const struct sockets *sockets, zone_service *service);
+
+/* udp.c: answers what waits at a socket. */
+void udp_serve(int fd, zone_service *service, uint64_t now);
+
+/* tcp.c */
+void tcp_begin(const struct settings *settings, int epoll);
+void tcp_accept(int listener, uint64_t moment);
+void tcp_ready(void *connection, uint32_t events, zone_service *service, uint64_t now, uint64_t moment);
+int tcp_expire(uint64_t moment); /* milliseconds until the next connection is too old, or -1 */
+int tcp_count(void);
+
+/* The bytes of an address. */
+struct source {
+    const uint8_t *bytes;
+    size_t len;
+    uint16_t port;
+};
+struct source source_of(const struct sockaddr_storage *address);
+
+void complain(const char *format, ...) __attribute__((format(printf, 1, 2)));
+
+#endif

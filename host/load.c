@@ -1,0 +1,119 @@
+/* Reads the files that the settings name, and has the proved library make a server of them. */
+#include "host.h"
+
+#include <stdio.h>
+#include <stdlib.h>
+#include <string.h>
+
+/* The bytes of a file. */
+static uint8_t *read_file(const char *path, size_t *len)
+{
+    FILE *file = fopen(path, "rb");
+    uint8_t *bytes = NULL, *more = NULL;
+    size_t have = 0, room = 0, got = 1;
+    while (file != NULL && got > 0) {
+        if (have == room) {
+            if ((more = realloc(bytes, room = room * 2 + 65536)) == NULL)
+                break;
+            bytes = more;
+        }
+        got = fread(bytes + have, 1, room - have, file);
+        have += got;
+    }
+    int whole = got == 0 && !ferror(file);
+    if (file != NULL)
+        fclose(file);
+    if (!whole) {
+        complain("%s: cannot be read", path);
+        free(bytes);
+        return NULL;
+    }
+    *len = have;
+    return bytes;
+}
+
+/* What a setting came to. */
+static uint8_t fault[256];
+static size_t fault_len;
+
+static int told(const char *what, uint32_t set)
+{
+    if (set != ZONE_SERVICE_DONE)
+        complain("%s: %.*s", what, (int)fault_len, (const char *)fault);
+    return set == ZONE_SERVICE_DONE ? 0 : -1;
+}
+
+typedef uint32_t setter(zone_service *, const uint8_t *, size_t, uint8_t *, size_t, size_t *);
+
+static int set_text(setter *set, zone_service *service, const char *text)
+{
+    return told(text, set(service, (const uint8_t *)text, strlen(text), fault, sizeof fault, &fault_len));
+}
+
+static int set_blocklist(zone_service *service, const char *path)
+{
+    size_t len;
+    uint8_t *text = read_file(path, &len);
+    if (text == NULL)
+        return -1;
+    uint32_t set = zone_service_set_blocklist(service, text, len, fault, sizeof fault, &fault_len);
+    free(text);
+    return told(path, set);
+}
+
+/* Adds the zone of NAME=FILE. */
+static int add_zone(zone_service *service, const char *zone)
+{
+    const char *mark = strchr(zone, '=');
+    size_t len, name_len = mark == NULL ? 0 : (size_t)(mark - zone);
+    if (mark == NULL) {
+        complain("%s: not NAME=FILE", zone);
+        return -1;
+    }
+    uint8_t *text = read_file(mark + 1, &len);
+    if (text == NULL)
+        return -1;
+    uint32_t set = zone_service_add_zone(service, (const uint8_t *)zone, name_len, text, len, fault, sizeof fault, &fault_len);
+    free(text);
+    return told(zone, set);
+}
+
+static int set_networks(const struct settings *s, zone_service *service)
+{
+    static setter *const set[NETWORK_KINDS] = {zone_service_set_allowed, zone_service_set_denied, zone_service_set_transfer_allowed,
+                                               zone_service_set_transfer_denied};
+    for (int kind = 0; kind < NETWORK_KINDS; kind++)
+        for (int i = 0; i < s->networks[kind].count; i++)
+            if (set_text(set[kind], service, s->networks[kind].at[i]) != 0)
+                return -1;
+    return 0;
+}
+
+static int set_all(const struct settings *s, zone_service *service)
+{
+    if (s->blocklist != NULL && set_blocklist(service, s->blocklist) != 0)
+        return -1;
+    if (s->identifier != NULL && set_text(zone_service_set_identifier, service, s->identifier) != 0)
+        return -1;
+    if (told("--max-udp", zone_service_set_max_udp(service, (uint16_t)s->max_udp, fault, sizeof fault, &fault_len)) != 0)
+        return -1;
+    if (set_networks(s, service) != 0)
+        return -1;
+    for (int i = 0; i < s->zones.count; i++)
+        if (add_zone(service, s->zones.at[i]) != 0)
+            return -1;
+    return 0;
+}
+
+int load(const struct settings *settings, zone_service *service)
+{
+    service->at = NULL;
+    if (zone_service_create(&service->at) != 0) {
+        complain("no memory");
+        return -1;
+    }
+    if (set_all(settings, service) == 0)
+        return 0;
+    zone_service_free(*service);
+    return -1;
+}

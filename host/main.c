@@ -1,0 +1,253 @@
+/* zoned: sockets, processes and signals round the proved library zone_service. docs/ZONED.md says how it is started.
+ *
+ * The parent opens the sockets, lets its privileges go, has the library read the files, and forks the workers, which share what was
+ * read. It serves nothing itself. SIGHUP reads the files anew: where all are taken, new workers begin at the same sockets, and the old
+ * ones end with their connections; else the old ones go on. A worker that ends by itself is begun again. SIGTERM ends all. */
+#define _GNU_SOURCE
+#include "host.h"
+
+#include <errno.h>
+#include <grp.h>
+#include <pwd.h>
+#include <signal.h>
+#include <stdarg.h>
+#include <stddef.h>
+#include <stdio.h>
+#include <stdlib.h>
+#include <string.h>
+#include <sys/prctl.h>
+#include <sys/un.h>
+#include <sys/wait.h>
+#include <time.h>
+#include <unistd.h>
+
+#define MOST_WORKERS 64
+
+static struct settings settings = {.max_udp = 1232, .workers = 1, .tcp_idle = 10, .tcp_most = 1000, .tcp_client = 100};
+static struct sockets sockets[MOST_WORKERS];
+static pid_t workers[MOST_WORKERS];
+static time_t begun[MOST_WORKERS];
+static zone_service service;
+
+void complain(const char *format, ...)
+{
+    va_list rest;
+    va_start(rest, format);
+    fputs("zoned: ", stderr);
+    vfprintf(stderr, format, rest);
+    fputc('\n', stderr);
+    va_end(rest);
+}
+
+/* Tells systemd, where it asked (sd_notify(3)). */
+static void notify(const char *text)
+{
+    const char *path = getenv("NOTIFY_SOCKET");
+    struct sockaddr_un to = {.sun_family = AF_UNIX};
+    if (path == NULL || strlen(path) >= sizeof to.sun_path)
+        return;
+    strcpy(to.sun_path, path);
+    if (*path == '@')
+        to.sun_path[0] = 0;
+    int fd = socket(AF_UNIX, SOCK_DGRAM | SOCK_CLOEXEC, 0);
+    socklen_t len = (socklen_t)(offsetof(struct sockaddr_un, sun_path) + strlen(path));
+    if (fd >= 0) {
+        sendto(fd, text, strlen(text), MSG_NOSIGNAL, (struct sockaddr *)&to, len);
+        close(fd);
+    }
+}
+
+static void usage(void)
+{
+    complain("wrong arguments; zoned --help says how it is started");
+    exit(2);
+}
+
+/* Options with a number behind them, with a text, and with one of several texts. */
+static const struct {
+    const char *name, *says;
+    int *at, least, most;
+} numbers[] = {{"--max-udp", "bytes of a reply over UDP at most", &settings.max_udp, 512, 65535},
+               {"--workers", "processes that serve", &settings.workers, 1, MOST_WORKERS},
+               {"--tcp-idle", "seconds until a connection that does not get on is closed", &settings.tcp_idle, 1, 3600},
+               {"--tcp-most", "connections of a worker", &settings.tcp_most, 1, 100000},
+               {"--tcp-client", "connections of a client and worker", &settings.tcp_client, 1, 100000}};
+static const struct {
+    const char *name, *says, **at;
+} words[] = {{"--blocklist", "FILE of names that are blocked, a line each", &settings.blocklist},
+             {"--nsid", "TEXT that identifies this server", &settings.identifier},
+             {"--user", "NAME of the user that it becomes once its sockets are open", &settings.user}};
+static const struct {
+    const char *name, *says;
+    struct texts *at;
+    int most;
+} lists[] = {{"--listen", "ADDRESS[@PORT], over UDP and TCP; port 53", &settings.addresses, MOST_ADDRESSES},
+             {"--zone", "NAME=FILE: the zone at NAME, from a zone file", &settings.zones, MOST_TEXTS},
+             {"--allow", "NET that may ask", &settings.networks[0], MOST_TEXTS},
+             {"--deny", "NET that may not", &settings.networks[1], MOST_TEXTS},
+             {"--allow-transfer", "NET that may have zones transferred", &settings.networks[2], MOST_TEXTS},
+             {"--deny-transfer", "NET that may not", &settings.networks[3], MOST_TEXTS}};
+
+#define EACH(i, table) for (size_t i = 0; i < sizeof table / sizeof table[0]; i++) /* of a table of options */
+
+static void help(void)
+{
+    puts("zoned --listen ADDRESS[@PORT].. --zone NAME=FILE.. [OPTION]..\n"
+         "  --check           read the files, tell what is wrong with them, and end\n  --version, --help");
+    EACH (i, lists)
+        printf("  %-17s %s; up to %d times\n", lists[i].name, lists[i].says, lists[i].most);
+    EACH (i, words)
+        printf("  %-17s %s\n", words[i].name, words[i].says);
+    EACH (i, numbers)
+        printf("  %-17s %s: %d to %d; %d\n", numbers[i].name, numbers[i].says, numbers[i].least, numbers[i].most, *numbers[i].at);
+    exit(0);
+}
+
+static void put_option(const char *option, const char *text)
+{
+    EACH (i, numbers)
+        if (strcmp(option, numbers[i].name) == 0) {
+            char *rest;
+            long n = strtol(text, &rest, 10);
+            if (rest == text || *rest != 0 || n < numbers[i].least || n > numbers[i].most) {
+                complain("%s: not a number from %d to %d", text, numbers[i].least, numbers[i].most);
+                exit(2);
+            }
+            *numbers[i].at = (int)n;
+            return;
+        }
+    EACH (i, words)
+        if (strcmp(option, words[i].name) == 0) {
+            *words[i].at = text;
+            return;
+        }
+    EACH (i, lists)
+        if (strcmp(option, lists[i].name) == 0 && lists[i].at->count < lists[i].most) {
+            lists[i].at->at[lists[i].at->count++] = text;
+            return;
+        }
+    usage();
+}
+
+/* Reads the arguments. Whether the files are only to be read. */
+static int read_arguments(int argc, char **argv)
+{
+    int check = 0;
+    for (int i = 1; i < argc; i++) {
+        if (strcmp(argv[i], "--help") == 0 || strcmp(argv[i], "-h") == 0) {
+            help();
+        } else if (strcmp(argv[i], "--version") == 0) {
+            puts("zoned " ZONED_VERSION);
+            exit(0);
+        } else if (strcmp(argv[i], "--check") == 0) {
+            check = 1;
+        } else {
+            if (i + 1 == argc)
+                usage();
+            put_option(argv[i], argv[i + 1]);
+            i++;
+        }
+    }
+    if ((settings.addresses.count == 0 && !check) || settings.zones.count == 0)
+        usage();
+    return check;
+}
+
+static int let_privileges_go(void)
+{
+    if (settings.user != NULL) {
+        struct passwd *user = getpwnam(settings.user);
+        if (user == NULL || initgroups(user->pw_name, user->pw_gid) != 0 || setgid(user->pw_gid) != 0 || setuid(user->pw_uid) != 0) {
+            complain("%s: cannot become that user", settings.user);
+            return -1;
+        }
+    }
+    return prctl(PR_SET_NO_NEW_PRIVS, 1, 0, 0, 0);
+}
+
+static void begin(int worker)
+{
+    pid_t parent = getpid(), child = fork();
+    if (child == 0) {
+        prctl(PR_SET_PDEATHSIG, SIGTERM);
+        for (int i = 0; i < settings.workers; i++)
+            for (int j = 0; i != worker && j < sockets[i].count; j++)
+                close(sockets[i].udp[j]), close(sockets[i].tcp[j]);
+        _exit(getppid() == parent ? work(&settings, &sockets[worker], &service) : 0);
+    }
+    if (child < 0)
+        complain("cannot begin a worker: %s", strerror(errno));
+    workers[worker] = child;
+    begun[worker] = time(NULL);
+}
+
+static void reload(void)
+{
+    zone_service fresh;
+    notify("RELOADING=1\n");
+    if (load(&settings, &fresh) == 0) {
+        zone_service_free(service);
+        service = fresh;
+        for (int i = 0; i < settings.workers; i++) {
+            pid_t old = workers[i];
+            begin(i);
+            if (old > 0)
+                kill(old, SIGTERM);
+        }
+    }
+    notify("READY=1\n");
+}
+
+static void replace_ended(void)
+{
+    pid_t ended;
+    while ((ended = waitpid(-1, NULL, WNOHANG)) > 0)
+        for (int i = 0; i < settings.workers; i++)
+            if (workers[i] == ended) {
+                complain("worker %d ended", i);
+                if (time(NULL) - begun[i] < 2)
+                    sleep(1);
+                begin(i);
+            }
+}
+
+int main(int argc, char **argv)
+{
+    sigset_t signals;
+    sigemptyset(&signals);
+    sigaddset(&signals, SIGHUP);
+    sigaddset(&signals, SIGTERM);
+    sigaddset(&signals, SIGINT);
+    sigaddset(&signals, SIGCHLD);
+    sigprocmask(SIG_BLOCK, &signals, NULL);
+    if (read_arguments(argc, argv))
+        return load(&settings, &service) == 0 ? 0 : 1;
+    for (int i = 0; i < settings.workers; i++)
+        if (open_sockets(&settings, &sockets[i]) != 0)
+            return 1;
+    /* The files are read without privileges, as they will be at a reload. */
+    if (let_privileges_go() != 0 || load(&settings, &service) != 0)
+        return 1;
+    for (int i = 0; i < settings.workers; i++)
+        begin(i);
+    notify("READY=1\n");
+    for (;;) {
+        switch (sigwaitinfo(&signals, NULL)) {
+        case SIGHUP:
+            reload();
+            break;
+        case SIGCHLD:
+            replace_ended();
+            break;
+        case SIGTERM:
+        case SIGINT:
+            notify("STOPPING=1\n");
+            for (int i = 0; i < settings.workers; i++)
+                if (workers[i] > 0)
+                    kill(workers[i], SIGTERM);
+            while (wait(NULL) > 0)
+                ;
+            return 0;
+        }
+    }
+}

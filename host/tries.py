@@ -1,0 +1,358 @@
+#!/usr/bin/env python3
+"""tries.py ZONED: tries what zoned does with sockets, clients and signals, and each rule of a server, on loopback. The last line is
+'N passed, M failed'. PORT is the first of four ports that it uses."""
+import os
+import signal
+import socket
+import subprocess
+import sys
+import tempfile
+import time
+
+ZONED = os.path.abspath(sys.argv[1])
+PORT = int(os.environ.get("PORT", "16351"))
+SOA_AND_NS = "$TTL 60\n@ IN SOA ns admin 7 3600 1800 604800 86400\n@ IN NS ns\n"
+WWW = "www IN A 192.0.2.%d\n"
+passed = failed = 0
+
+
+def query(name, kind=1, i=0x1234, dns_class=1, payload=None, flags=b"\x01\x00"):
+    """A query of one question, with an OPT record that offers a payload, if it is given."""
+    labels = b"".join(bytes([len(l)]) + l.encode() for l in name.split("."))
+    head = i.to_bytes(2, "big") + flags + b"\x00\x01\0\0\0\0" + (b"\0\0" if payload is None else b"\0\1")
+    opt = b"" if payload is None else b"\0\0\x29" + payload.to_bytes(2, "big") + b"\0\0\0\0\0\0"
+    return head + labels + b"\0" + kind.to_bytes(2, "big") + dns_class.to_bytes(2, "big") + opt
+
+
+def code(message):
+    return message[3] % 16
+
+
+def answers(message):
+    return int.from_bytes(message[6:8], "big")
+
+
+def is_truncated(message):
+    return message[2] & 2 != 0
+
+
+def frame(message):
+    return len(message).to_bytes(2, "big") + message
+
+
+def udp(message, timeout=2.0, port=PORT, source="127.0.0.1"):
+    with socket.socket(socket.AF_INET, socket.SOCK_DGRAM) as s:
+        s.bind((source, 0))
+        s.settimeout(timeout)
+        s.sendto(message, ("127.0.0.1", port))
+        try:
+            return s.recv(65535)
+        except OSError:
+            return None
+
+
+def tcp(port=PORT, source="127.0.0.1"):
+    s = socket.create_connection(("127.0.0.1", port), source_address=(source, 0))
+    s.settimeout(10)
+    return s
+
+
+def read(stream):
+    length = stream.read(2)
+    return stream.read(int.from_bytes(length, "big")) if len(length) == 2 else None
+
+
+def over_tcp(message, source="127.0.0.1"):
+    with tcp(source=source) as s:
+        s.sendall(frame(message))
+        return read(s.makefile("rb"))
+
+
+def want(what, holds):
+    global passed, failed
+    passed, failed = passed + bool(holds), failed + (not holds)
+    print("ok  " if holds else "FAIL", what, flush=True)
+
+
+def children(pid):
+    return [int(c) for c in open(f"/proc/{pid}/task/{pid}/children").read().split()]
+
+
+def closes(s, within):
+    s.settimeout(within)
+    try:
+        return s.recv(1) == b""
+    except ConnectionError:
+        return True
+    except OSError:
+        return False
+
+
+def resident(pid):
+    return int([l for l in open(f"/proc/{pid}/status") if l.startswith("VmRSS")][0].split()[1])
+
+
+def start(words, port, address="127.0.0.1", **more):
+    return subprocess.Popen([ZONED, "--listen", f"{address}@{port}", *words], **more)
+
+
+def wait_for(port):
+    """Waits until the server at a port answers."""
+    for _ in range(200):
+        if udp(query("www.example.com"), 0.1, port) is not None:
+            return True
+        time.sleep(0.05)
+    return False
+
+
+def try_clients():
+    """What it does with datagrams, streams and connections."""
+    want("a datagram is answered", udp(query("www.example.com"))[-4:] == bytes([192, 0, 2, 1]))
+    want("a denied address has no reply", udp(query("www.example.com"), 0.3, source="127.0.0.9") is None)
+    s = tcp()
+    f = s.makefile("rb")
+    s.sendall(b"".join(frame(query("www.example.com", 1, i)) for i in range(1000)))
+    want("a thousand requests one behind the other", [int.from_bytes(read(f)[:2], "big") for _ in range(1000)] == list(range(1000)))
+    for b in frame(query("www.example.com")):
+        s.sendall(bytes([b]))
+        time.sleep(0.001)
+    want("a request byte by byte", read(f)[-4:] == bytes([192, 0, 2, 1]))
+    s.sendall(frame(query("example.com", 252)))
+    records = 0
+    while records < 20004:
+        records += answers(read(f))
+    want("a transfer of 20,004 records in several replies", records == 20004)
+    s.sendall(frame(query("www.example.com")))
+    want("and the connection goes on", read(f)[-4:] == bytes([192, 0, 2, 1]))
+    s.sendall(frame(query("example.com", 252)))
+    s.shutdown(socket.SHUT_WR)
+    records = 0
+    while reply := read(f):
+        records += answers(reply)
+    want("a client that sends no more still has its transfer", records == 20004)
+    s.close()
+
+
+def try_connections(worker):
+    """Which connections are closed, and what a client that does not read costs."""
+    s = tcp()
+    s.sendall(frame(b"this is no message"))
+    want("a stream with no message is closed", closes(s, 1))
+    s = tcp()
+    begun = time.time()
+    want("an idle connection is closed", closes(s, 4) and time.time() - begun > 1.5)
+    s, begun, closed = tcp(), time.time(), False
+    try:
+        for b in frame(query("www.example.com") * 100):
+            s.sendall(bytes([b]))
+            time.sleep(0.1)
+            if time.time() - begun > 6:
+                break
+    except OSError:
+        closed = True
+    want("a client that sends a byte at a time is closed", closed and time.time() - begun < 5)
+    many = [tcp() for _ in range(21)]
+    want("a client has so many connections", closes(many[20], 1))
+    many[0].sendall(frame(query("www.example.com")))
+    want("and the others go on", many[0].recv(100)[-4:] == bytes([192, 0, 2, 1]))
+    for m in many:
+        m.close()
+    before, s, sent, data = resident(worker), tcp(), 0, frame(query("example.com", 252)) * 50
+    s.setblocking(False)
+    try:
+        for _ in range(50):
+            sent += s.send(data)
+    except OSError:
+        pass
+    time.sleep(1.0)
+    want(f"a client that does not read holds little for {sent // 31} transfers", resident(worker) - before < 50000)
+    want("and others are answered", udp(query("www.example.com")) is not None)
+    s.close()
+
+
+def try_rules():
+    """Each rule of a server, over both transports."""
+    want("a datagram that is no message has no reply", udp(b"\0" * 2 + b"\1\0\0\1" + b"\xff" * 20, 0.3) is None)
+    want("a datagram shorter than a header has no reply", udp(b"\0" * 11, 0.3) is None)
+    s = tcp()
+    s.sendall(frame(b"\0" * 11))
+    want("nor has such a message over TCP", closes(s, 1))
+    want("a response has no reply", udp(query("www.example.com", flags=b"\x81\x00"), 0.3) is None)
+    s = tcp()
+    s.sendall(frame(query("www.example.com", flags=b"\x81\x00")))
+    want("nor has one over TCP", closes(s, 1))
+    reply = udp(query("large.example.com", 16, payload=4096))
+    want("a reply over UDP has at most 1,232 bytes, and TC", 12 < len(reply) <= 1232 and is_truncated(reply))
+    reply = udp(query("large.example.com", 16, payload=700))
+    want("and no more than the client takes", len(reply) <= 700 and is_truncated(reply))
+    reply = udp(query("large.example.com", 16))
+    want("which is 512 where it says nothing", len(reply) <= 512 and is_truncated(reply))
+    reply = udp(query("large.example.com", 16, payload=4096), port=PORT + 1)
+    want("with --max-udp 600 it has at most 600", len(reply) <= 600 and is_truncated(reply))
+    reply = over_tcp(query("large.example.com", 16))
+    want("and over TCP it is whole", len(reply) > 4000 and not is_truncated(reply))
+    for kind, name in ((252, "AXFR"), (251, "IXFR")):
+        reply = udp(query("example.com", kind))
+        want(f"{name} over UDP is answered with TC and no answers", is_truncated(reply) and answers(reply) == 0 and code(reply) == 0)
+    reply = over_tcp(query("example.com", 252), "127.0.0.8")
+    want("a transfer to an address that may have none is refused", code(reply) == 5 and answers(reply) == 0)
+    reply = udp(query("example.com", 252), source="127.0.0.8")
+    want("over UDP too", code(reply) == 5 and answers(reply) == 0 and not is_truncated(reply))
+    want("that address may ask", answers(udp(query("www.example.com"), source="127.0.0.8")) == 1)
+    for dns_class, name in ((3, "CH"), (4, "HS"), (254, "NONE"), (7, "no class")):
+        reply = udp(query("www.example.com", dns_class=dns_class))
+        want(f"a query of class {name} is refused", code(reply) == 5 and answers(reply) == 0)
+    want("one of class ANY is answered", answers(udp(query("www.example.com", dns_class=255))) == 1)
+    want("one of class CH over TCP is refused", code(over_tcp(query("www.example.com", dns_class=3))) == 5)
+
+
+def try_loop():
+    """Two servers whose replies are handed to each other: what the first says to a query, the second does not answer."""
+    count, message = 0, query("www.example.com")
+    for turn in range(10):
+        message = udp(message, 0.5, PORT + turn % 2)
+        if message is None:
+            break
+        count += 1
+    want("two servers that are handed each other's replies end at the first", count == 1)
+
+
+def try_signals(host, notified, zone):
+    """Reload, a worker that ends, and the end."""
+    open(zone, "w").write(SOA_AND_NS + WWW % 2)
+    host.send_signal(signal.SIGHUP)
+    want("systemd is told of a reload", notified.recv(100).startswith(b"RELOADING=1") and notified.recv(100) == b"READY=1\n")
+    time.sleep(0.3)
+    want("a changed zone is served", udp(query("www.example.com"))[-4:] == bytes([192, 0, 2, 2]))
+    open(zone, "w").write("nonsense")
+    host.send_signal(signal.SIGHUP)
+    notified.recv(100)
+    notified.recv(100)
+    time.sleep(0.3)
+    want("a bad zone is not taken, and the old one goes on", udp(query("www.example.com"))[-4:] == bytes([192, 0, 2, 2]))
+    os.kill(children(host.pid)[-1], signal.SIGKILL)
+    time.sleep(1.8)
+    want("a worker that is killed is begun again", udp(query("www.example.com"))[-4:] == bytes([192, 0, 2, 2]))
+    host.send_signal(signal.SIGTERM)
+    want("systemd is told of the end", notified.recv(100) == b"STOPPING=1\n")
+    want("it ends", host.wait(5) == 0)
+
+
+def status(words):
+    return subprocess.run([ZONED, *words], stdout=subprocess.DEVNULL, stderr=subprocess.DEVNULL).returncode
+
+
+def try_privileges(zone, port):
+    """That it is somebody else once its sockets are open. Only root may become so."""
+    if os.geteuid() != 0:
+        print("note: not root, so --user is not tried")
+        return
+    host = start(["--zone", f"example.com={zone}", "--user", "nobody", "--workers", "2"], port)
+    want("it starts as nobody", wait_for(port))
+    for pid in (host.pid, *children(host.pid)):
+        told = dict(l.split(":\t", 1) for l in open(f"/proc/{pid}/status") if ":\t" in l)
+        want("a process is nobody, in no other group, and may become nobody else", "0" not in told["Uid"].split() + told["Gid"].split() + told["Groups"].split() and told["NoNewPrivs"] == "1\n")
+    want("it has two workers", len(children(host.pid)) == 2)
+    host.terminate()
+    want("and ends", host.wait(15) == 0)
+
+
+def try_wildcards(zone, port):
+    """That a reply comes from the address that was asked, also where it listens at every one."""
+    host = start(["--listen", f"::@{port}", "--zone", f"example.com={zone}"], port, address="0.0.0.0")
+    want("it listens at every address", wait_for(port))
+    for family, address in ((socket.AF_INET, "127.0.0.2"), (socket.AF_INET6, "::1")):
+        with socket.socket(family, socket.SOCK_DGRAM) as s:
+            s.settimeout(2)
+            s.connect((address, port))
+            try:
+                s.send(query("www.example.com"))
+                want(f"and {address} answers as that address", s.recv(512)[-4:] == bytes([192, 0, 2, 1]))
+            except OSError as e:
+                want(f"and {address} answers as that address ({e})", False)
+    host.terminate()
+    want("and ends", host.wait(15) == 0)
+
+
+def has_ipv6():
+    try:
+        with socket.create_server(("::1", 0), family=socket.AF_INET6):
+            return True
+    except OSError:
+        return False
+
+
+def try_same(zone):
+    """What zone_serve answers, byte for byte: it has the same rules and zones, and other code around them."""
+    program = f"{os.path.dirname(os.path.dirname(os.path.abspath(__file__)))}/crates/zone_serve/out/zone_serve"
+    if not os.path.exists(program):
+        print("note: crates/zone_serve is not built, so nothing is compared with it")
+        return
+    names = ["www.example.com", "WWW.example.COM", "example.com", "no.example.com", "h1.example.com", "large.example.com", "other.org", "a.b.c.example.com"]
+    messages = [query(n, k, payload=p) for n in names for k in (1, 2, 6, 16, 28, 255) for p in (None, 600, 4096)]
+    messages += [query("example.com", 251), query("www.example.com", flags=b"\x29\x00"), query("www.example.com", flags=b"\x11\x00"), query("www.example.com", dns_class=3)]
+    messages += [query("www.example.com") + b"\0", query("www.example.com")[:-3], b"\x12\x34" + bytes(10), query("example.com", 41)]
+
+    def serve(word, data):
+        return subprocess.run([program, "--zone", f"example.com={zone}", word], input=data, stdout=subprocess.PIPE, stderr=subprocess.DEVNULL).stdout
+
+    want(f"{len(messages)} datagrams are answered as by zone_serve", all((udp(m, 0.3) or b"") == serve("udp", m) for m in messages))
+    with tcp() as s:
+        s.sendall(b"".join(frame(m) for m in messages[:150]))
+        f = s.makefile("rb")
+        want("and 150 messages of a connection", b"".join(frame(read(f)) for _ in range(150)) == serve("tcp", b"".join(frame(m) for m in messages[:150])))
+
+
+def try_arguments(zone, bad):
+    named = subprocess.run([ZONED, "--version"], stdout=subprocess.PIPE, text=True)
+    want("--version tells it", named.returncode == 0 and named.stdout.startswith("zoned 0."))
+    want("--check takes a good file", status(["--check", "--zone", f"example.com={zone}"]) == 0)
+    want("and not a bad one", status(["--check", "--zone", f"example.com={bad}"]) == 1)
+    want("a wrong option is told", status(["--zones"]) == 2 and status(["--max-udp", "511"]) == 2 and status(["--listen", "127.0.0.1"]) == 2)
+    want("a wrong network is told", status(["--check", "--zone", f"example.com={zone}", "--allow", "1.2.3"]) == 1)
+
+
+def main():
+    folder = tempfile.mkdtemp()
+    os.chmod(folder, 0o755)
+    zone, bad = os.path.join(folder, "zone"), os.path.join(folder, "bad")
+    large = "".join(f'large IN TXT "{i:03}{"x" * 200}"\n' for i in range(24))
+    records = "".join(f'h{i} IN TXT "{"x" * 200}"\n' for i in range(20000 - 24))
+    open(zone, "w").write(SOA_AND_NS + WWW % 1 + large + records)
+    open(bad, "w").write("nonsense")
+    try_arguments(zone, bad)
+    notified = socket.socket(socket.AF_UNIX, socket.SOCK_DGRAM)
+    notified.bind(os.path.join(folder, "notify"))
+    notified.settimeout(60)
+    words = ["--zone", f"example.com={zone}", "--tcp-idle", "2", "--tcp-client", "20", "--deny", "127.0.0.9", "--deny-transfer", "127.0.0.8"]
+    host = start(words, PORT, env={**os.environ, "NOTIFY_SOCKET": os.path.join(folder, "notify")})
+    other = start(["--zone", f"example.com={zone}", "--max-udp", "600"], PORT + 1)
+    try:
+        want("systemd is told that it is ready", notified.recv(100) == b"READY=1\n")
+        want("the second is ready", wait_for(PORT + 1))
+        try_clients()
+        try_same(zone)
+        try_connections(children(host.pid)[0])
+        try_rules()
+        try_loop()
+        try_signals(host, notified, zone)
+    finally:
+        for it in (host, other):
+            if it.poll() is None:
+                it.terminate()
+                try:
+                    it.wait(15)
+                except subprocess.TimeoutExpired:
+                    it.kill()
+    want("the second ends", other.returncode == 0)
+    open(zone, "w").write(SOA_AND_NS + WWW % 1)
+    try_privileges(zone, PORT + 2)
+    if has_ipv6():
+        try_wildcards(zone, PORT + 3)
+    else:
+        print("note: there is no IPv6 here, so no wildcard address is tried")
+
+
+main()
+print(f"{passed} passed, {failed} failed")
+sys.exit(failed != 0)

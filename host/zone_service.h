@@ -1,0 +1,97 @@
+/* zone_service.h: a server of DNS zones without a socket, proved (crates/zone_service).
+ *
+ * What is proved: each call is safe on every input that keeps what stands below, and returns; zone_service_answer makes of a message what
+ * the rules of a server and its zones make of it, out begins with its replies, each behind its length, and the numbers are those told
+ * below; zone_service_answer_stream does so of each message that it takes; and no call for a message changes the rules. What a caller owes,
+ * and nothing checks:
+ *
+ *  - A handle is one that zone_service_create put, and that zone_service_free did not take. It is given to one call at a time, and
+ *    stays in the thread or process that it was made in; a forked child of a process without threads may go on with its own copy.
+ *    Servers share nothing: each thread may have one of its own.
+ *  - A pointer with a length is to so many bytes, never NULL, which nobody else changes during the call; what is written to
+ *    (out, fault, length, taken, written, waiting) overlaps nothing else that is passed.
+ *  - No call from a signal handler. malloc, realloc and free come from one allocator that aligns as C says.
+ *
+ * Calls that may fail answer one of these numbers: */
+#ifndef ZONE_SERVICE_H
+#define ZONE_SERVICE_H
+
+#include <stdbool.h>
+#include <stddef.h>
+#include <stdint.h>
+
+enum {
+    ZONE_SERVICE_DONE = 0,
+    ZONE_SERVICE_DENIED = 1,       /* the address may not use the server; nobody looked at the bytes */
+    ZONE_SERVICE_RESPONSE = 2,     /* the message is itself a response, and gets none */
+    ZONE_SERVICE_UNREADABLE = 3,   /* the bytes begin with no message, or are fewer than a header has (RFC 1035 section 4.1) */
+    ZONE_SERVICE_MEMORY = 4,       /* memory was refused; the zones are as before */
+    ZONE_SERVICE_MEMORY_AFTER = 5, /* memory was refused for the replies to a message that was handled */
+    ZONE_SERVICE_NO_ADDRESS = 6,   /* the source is no address of 4 or 16 bytes */
+    ZONE_SERVICE_FAULT = 7         /* a setting is not taken; fault tells why */
+};
+
+/* A reply is at most so long, with its length before it. A buffer of this size takes at least one. */
+#define ZONE_SERVICE_FRAME 65537
+
+/* A server, as its address. Nobody but these functions looks at it. It may be moved and copied as a pointer may, but only one
+ * copy of it is used. */
+typedef struct zone_service {
+    void *at;
+} zone_service;
+
+/* Makes a server without zones, which everybody may use and have transfers of. *at is its address afterwards, and some address or
+ * NULL before:
+ *     zone_service service = {NULL};
+ *     if (zone_service_create(&service.at) == ZONE_SERVICE_DONE) ..
+ * DONE, or MEMORY. */
+uint32_t zone_service_create(void **at);
+
+/* Frees a server, which is then gone. */
+void zone_service_free(zone_service service);
+
+/* Settings, made before the first message, in any order but that a list of blocked names is for the zones that are added behind it.
+ * Each answers DONE; or FAULT or MEMORY, and puts a text that tells it into fault, of at most room bytes and with no zero behind it; *length
+ * is how many they are, 0 after DONE. After these the server is to be freed: a list of networks may be as before or not, and
+ * zone_service_add_zone may have let a zone of that name go.
+ *
+ * zone_service_set_blocklist: the names of a list, a line each; a second list takes the place of the first.
+ * zone_service_add_zone: the zone at a name (with or without a dot at its end), from the bytes of its zone file.
+ * zone_service_set_allowed, .._denied: a network, as 192.0.2.0/24, whose addresses may use the server, or may not; one more by each call.
+ * zone_service_set_transfer_allowed, .._denied: the same for transfers (AXFR, IXFR) by those who may use the server.
+ * zone_service_set_max_udp: how many bytes a reply over UDP has at most, from 512 to 65,535; 1,232 where it is not called.
+ * zone_service_set_identifier: what identifies the server to clients that ask (RFC 5001), up to 65,531 bytes. */
+uint32_t zone_service_set_blocklist(zone_service *service, const uint8_t *text, size_t len, uint8_t *fault, size_t room, size_t *length);
+uint32_t zone_service_add_zone(zone_service *service, const uint8_t *name, size_t name_len, const uint8_t *text, size_t len,
+                               uint8_t *fault, size_t room, size_t *length);
+uint32_t zone_service_set_allowed(zone_service *service, const uint8_t *network, size_t len, uint8_t *fault, size_t room, size_t *length);
+uint32_t zone_service_set_denied(zone_service *service, const uint8_t *network, size_t len, uint8_t *fault, size_t room, size_t *length);
+uint32_t zone_service_set_transfer_allowed(zone_service *service, const uint8_t *network, size_t len, uint8_t *fault, size_t room,
+                                           size_t *length);
+uint32_t zone_service_set_transfer_denied(zone_service *service, const uint8_t *network, size_t len, uint8_t *fault, size_t room,
+                                          size_t *length);
+uint32_t zone_service_set_max_udp(zone_service *service, uint16_t size, uint8_t *fault, size_t room, size_t *length);
+uint32_t zone_service_set_identifier(zone_service *service, const uint8_t *text, size_t len, uint8_t *fault, size_t room, size_t *length);
+
+/* Answers a message that came from an address (4 or 16 bytes, the first one highest) and port, over a stream or as a datagram, at a moment
+ * in seconds since 1970. DONE where it has replies: they are written to the front of out, each behind its length in two bytes (RFC 1035
+ * section 4.2.2), as many as there is room for; *written is how many bytes they take, and *waiting how many replies are left for
+ * zone_service_take. The next message that has replies lets those go. Any other number but FAULT: it has none, *written is 0, out is as it
+ * was, and replies that waited wait still. */
+uint32_t zone_service_answer(zone_service *service, const uint8_t *message, size_t len, const uint8_t *source, size_t source_len,
+                             uint16_t port, bool stream, uint64_t now, uint8_t *out, size_t room, size_t *written, size_t *waiting);
+
+/* Answers the messages that stand whole at the front of a stream's bytes, each behind its length, one after the other, as
+ * zone_service_answer does, up to one that has no reply, whose number it answers. Replies that waited before it are let go. *taken is how
+ * many bytes the messages are, with their lengths, *written how many bytes of replies were written, and *waiting how many replies to the last
+ * are left for zone_service_take. DONE: it went on while a whole message was there, out had room for a reply of any size
+ * (ZONE_SERVICE_FRAME), and no reply waited; so where none waits and *written is at most room - ZONE_SERVICE_FRAME, nothing whole is left. */
+uint32_t zone_service_answer_stream(zone_service *service, const uint8_t *bytes, size_t len, const uint8_t *source, size_t source_len,
+                                    uint16_t port, uint64_t now, uint8_t *out, size_t room, size_t *taken, size_t *written,
+                                    size_t *waiting);
+
+/* Writes more of the replies that wait to the front of out, as zone_service_answer does, and says how many bytes they take: 0 only where
+ * none waits, or out has no room for the next. */
+size_t zone_service_take(zone_service *service, uint8_t *out, size_t room, size_t *waiting);
+
+#endif
