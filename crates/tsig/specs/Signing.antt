@@ -114,7 +114,7 @@ abbrev pub next_of : List Key → Judgement → List ℕ → List ℕ → ℕ �
 next_of keys (Signed s Good) prior message now = next_by (key_of keys s.name) s prior (reply_data s.rdata Good now (id_of message)) message
 next_of keys other prior message now = Some (plain message)
 
--- What a call that puts a reply behind other bytes returns is the MAC of that reply; that its key is missing is told exactly where there is none.
+-- What a call that puts a reply behind other bytes returns is the MAC of that reply. Without the key there is an error, and only then it may tell that.
 abbrev pub Puts : Option Reply → List ℕ → List ℕ → Result (List ℕ) SigningError → Type 0
 Puts (Some reply) old new (Ok mac) = (mac ≡ reply.mac) × (new ≡ old ++ reply.bytes)
 Puts (Some reply) old new (Err e) = e ≢ signing_error.Key

@@ -310,9 +310,9 @@ fn put_plain(alloc: Global, message: &[u8], out: &mut Vec<u8>) -> Result<Octets,
 /// and the server's time as other data) or its MAC too short for local policy. For a wrong key or MAC the record tells the
 /// error without a MAC. Where the request had no TSIG record, or one without its form, the message is put as it is.
 ///
-/// Errors: `Message` where a record is needed and the bytes have no header, or count 65535 additional records; `Key` exactly where
-/// the key is not among these. After an error nothing is promised of `out`. It hashes the message once, and takes
-/// memory for a copy of it.
+/// Errors: `Message` where a record is needed and the bytes have no header, or count 65535 additional records; `Key` only where
+/// the key is not among these, and then there is an error. After an error nothing is promised of `out`. It hashes the
+/// message once, and takes memory for a copy of it.
 pub fn sign(
     alloc: Global,
     keys: &Keys,
