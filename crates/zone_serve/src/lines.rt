@@ -1,11 +1,12 @@
 //! Messages and what becomes of them, as lines of text.
 
-ghost use Rattle.std.specs.Prelude.{◌≡◌, ◌++◌, ◌∷◌, [], IfOk, IfSome, OnOk, Ok};
+ghost use Rattle.std.specs.Prelude.{◌≡◌, ◌++◌, ◌∷◌, [], IfOk, IfSome, Ok};
 ghost use Rattle.hex.specs.Hex.{decode_of};
-ghost use Rattle.zone_serve.specs.Lines.{AreWords, IsLineOf, IsTransport, hex_line, hex_lines, answer_lines};
+ghost use Rattle.hex_lines.specs.Lines.{hex_lines};
+ghost use Rattle.zone_serve.specs.Lines.{AreWords, IsLineOf, IsTransport, answer_lines};
 
 use crate::peer;
-use hex::FromHexError;
+use hex_lines::{bytes_of, lines_of};
 use hickory_server::proto::{Octets, Protocol};
 use hickory_server::server::Answer;
 use std::alloc::{AllocError, Global};
@@ -37,17 +38,6 @@ fn transport_named(name: &str) -> Option<Protocol>
     }
 }
 
-/// The bytes that hex digits stand for, or `None` where there is something else.
-fn bytes_of(alloc: Global, digits: &str) -> Result<Option<Vec<u8>>, AllocError>
-    ensures { IfOk result (λ bytes. IfSome bytes (λ it. decode_of digits.now ≡ Ok it.items)) }
-{
-    match hex::decode(alloc, digits.as_bytes()) {
-        Ok(bytes) => Ok(Some(bytes)),
-        Err(FromHexError::OutOfMemory) => Err(AllocError),
-        Err(_) => Ok(None),
-    }
-}
-
 /// The words of a text that has three.
 fn three_words(text: &str) -> Option<(&str, &str, &str)>
     ensures { IfSome result (λ words. AreWords text.now words.0.now words.1.now words.2.now) }
@@ -75,7 +65,7 @@ fn message_of(
     else {
         return Ok(None);
     };
-    match bytes_of(alloc, digits)? {
+    match bytes_of(alloc, digits.as_bytes())? {
         None => Ok(None),
         Some(bytes) => Ok(Some(LineMessage {
             protocol,
@@ -99,31 +89,11 @@ pub fn read_line(alloc: Global, line: &[u8]) -> Result<Option<LineMessage>, Allo
     message_of(alloc, transport, address, digits)
 }
 
-/// Puts a line of hex digits for some bytes behind others.
-fn put_line(alloc: Global, lines: &mut Vec<u8>, bytes: &[u8]) -> Result<(), AllocError>
-    ensures { OnOk result (lines.new.items ≡ lines.old.items ++ hex_line bytes.now) }
-{
-    lines.extend_from_slice(hex::encode(alloc, bytes)?.as_bytes())?;
-    lines.push(b'\n')?;
-    Ok(())
-}
-
-/// A line of hex digits for each of some texts.
-fn hex_lines(alloc: Global, texts: &[Octets]) -> Result<Vec<u8>, AllocError>
-    ensures { IfOk result (λ lines. lines.items ≡ hex_lines texts.now) }
-{
-    let mut lines = Vec::new(alloc);
-    for bytes in texts {
-        put_line(alloc, &mut lines, bytes.as_slice())?;
-    }
-    Ok(lines)
-}
-
 /// A line of hex digits for each of some replies, and an empty one.
 fn reply_lines(alloc: Global, replies: &[Octets]) -> Result<Vec<u8>, AllocError>
     ensures { IfOk result (λ lines. lines.items ≡ hex_lines replies.now ++ 10 ∷ []) }
 {
-    let mut lines = hex_lines(alloc, replies)?;
+    let mut lines = lines_of(alloc, replies)?;
     lines.push(b'\n')?;
     Ok(lines)
 }
