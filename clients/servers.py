@@ -9,7 +9,9 @@ import time
 
 import replies
 
-PACKAGES = {"nsd": "nsd", "knotd": "knot", "named": "bind9", "unbound": "unbound", "ip": "iproute2"}
+PACKAGES = {
+    "nsd": "nsd", "knotd": "knot", "named": "bind9", "unbound": "unbound", "ip": "iproute2", "named-compilezone": "bind9-utils", "kzonecheck": "knot-dnssecutils",
+}
 
 # How long a server may take to have its zones, and a reply to come, in seconds.
 SECONDS = 20
