@@ -1,0 +1,3 @@
+pub mod Lookups
+pub mod SameNames
+pub mod Walks
