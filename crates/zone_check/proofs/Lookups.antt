@@ -16,8 +16,9 @@ use Rattle.wire_messages.specs.declared.rr.rr_key.RrKey.{RrKey}
 use Rattle.wire_names.proofs.lemmas.rr.domain.SameNames.{same_order, lower_same}
 use Rattle.wire_names.specs.rr.domain.DomainName.{DomainName}
 use Rattle.wire_names.specs.rr.domain.NameOrder.{SameName, lower_name, name_cmp, name_eq}
-use Rattle.zone_check.specs.CheckedZones.{Records, is_of, is_data_of, is_data_type}
-use Rattle.zone_check.specs.Indexes.{HasData, HasFirsts, Points}
+use Rattle.zone_check.specs.CheckedZones.{Records, ancestor, is_of, is_data_of, is_data_type, is_wild_address, is_wild_address_of}
+use Rattle.zone_check.specs.Indexes.{HasData, HasFirsts, HasWilds, Points}
+use Rattle.zone_check.proofs.SameNames.{same_ancestor}
 
 eq_by_tests : (a b : ℕ) (below same : Bool) → nat_lt a b ≡ below → (a == b) ≡ same → is_eq (cond below Less (cond same Equal Greater)) ≡ same
 eq_by_tests a b true true e f = absurd (grind (arith, nat_tests))
@@ -47,6 +48,10 @@ key_is r q =
 -- and its name what is of its name
 pub name_is : (r : Record RData) (q : DomainName) → is_eq (name_cmp (lower_name r.name) q) ≡ name_eq r.name q
 name_is r q = ap is_eq (same_order (lower_name r.name) q r.name q (lower_same r.name) (itself q))
+
+-- and the name above it what is of that name
+pub above_is : (r : Record RData) (q : DomainName) → is_eq (name_cmp (ancestor (lower_name r.name) 1) q) ≡ name_eq (ancestor r.name 1) q
+above_is r q = ap is_eq (same_order (ancestor (lower_name r.name) 1) q (ancestor r.name 1) q (same_ancestor r.name 1) (itself q))
 
 and_true : (b : Bool) → (b && true) ≡ b
 and_true true = refl
@@ -88,6 +93,20 @@ module _ (records : Records) (behind : ℕ) (r : Record RData) (some : 0 < behin
       → HasData records (drop behind records) old → HasData records (drop (behind - 1) records) new
   one_more_data old new is_data updates kept q =
       rw (updates.0 q ∙ ap (λ b. cond b (Some (behind - 1)) (get name_cmp old q)) (name_is r q ∙ sym (data_test q is_data))) (put_in_front (is_data_of q) (get name_cmp old q) (kept q))
+
+  wild_test : (q : DomainName) → is_wild_address r ≡ true → is_wild_address_of q r ≡ name_eq (ancestor r.name 1) q
+  wild_test q is_wild = ap (λ b. name_eq (ancestor r.name 1) q && b) is_wild ∙ and_true (name_eq (ancestor r.name 1) q)
+
+  pub one_more_wild : (old new : BTreeMap DomainName ℕ) → is_wild_address r ≡ true → Updates name_cmp old new (ancestor (lower_name r.name) 1) (Some (behind - 1))
+      → HasWilds records (drop behind records) old → HasWilds records (drop (behind - 1) records) new
+  one_more_wild old new is_wild updates kept q =
+      rw (updates.0 q ∙ ap (λ b. cond b (Some (behind - 1)) (get name_cmp old q)) (above_is r q ∙ sym (wild_test q is_wild))) (put_in_front (is_wild_address_of q) (get name_cmp old q) (kept q))
+
+  pub no_wild_more : (wilds : BTreeMap DomainName ℕ) → is_wild_address r ≡ false → HasWilds records (drop behind records) wilds → HasWilds records (drop (behind - 1) records) wilds
+  no_wild_more wilds no_wild kept q =
+      let fails : is_wild_address_of q r ≡ false = ap (λ b. name_eq (ancestor r.name 1) q && b) no_wild ∙ and_false (name_eq (ancestor r.name 1) q) in
+      let more : Points records (drop (behind - 1) records) (is_wild_address_of q) (cond (is_wild_address_of q r) (Some (behind - 1)) (get name_cmp wilds q)) = put_in_front (is_wild_address_of q) (get name_cmp wilds q) (kept q) in
+      rw fails at more
 
   pub no_data_more : (others : BTreeMap DomainName ℕ) → is_data_type (type_of r.rdata) ≡ false → HasData records (drop behind records) others → HasData records (drop (behind - 1) records) others
   no_data_more others no_data kept q =

@@ -9,7 +9,7 @@ use Rattle.wire_messages.specs.declared.rr.record.Record.{Record}
 use Rattle.wire_names.proofs.lemmas.rr.domain.SameNames.{same_order, lower_same, lower_labels-twice}
 use Rattle.wire_names.specs.rr.domain.DomainName.{DomainName}
 use Rattle.wire_names.specs.rr.domain.NameOrder.{Encloses, SameName, lower_label, lower_labels, lower_name, name_eq}
-use Rattle.zone_check.specs.CheckedZones.{CheckedZone, IsBelowApex, IsCut, IsDnameOwner, IsInZone, Owns, Records, ancestor, is_data_of, is_data_type, is_of}
+use Rattle.zone_check.specs.CheckedZones.{CheckedZone, HasWildAddress, IsBelowApex, IsCut, IsDnameOwner, IsInZone, Owns, Records, ancestor, is_data_of, is_data_type, is_of, is_wild_address, is_wild_address_of}
 
 find_alike : (p q : Record RData → Bool) (rs : Records) → ((r : Record RData) → p r ≡ q r) → find p rs ≡ find q rs
 find_alike p q [] same = refl
@@ -37,6 +37,9 @@ first_lower rs name t = first_alike rs (lower_name name) name t (lower_same name
 pub data_lower : (rs : Records) (name : DomainName) → find (is_data_of (lower_name name)) rs ≡ find (is_data_of name) rs
 data_lower rs name = data_alike rs (lower_name name) name (lower_same name)
 
+pub wild_alike : (rs : Records) (a b : DomainName) → SameName a b → find (is_wild_address_of a) rs ≡ find (is_wild_address_of b) rs
+wild_alike rs a b s = find_alike (is_wild_address_of a) (is_wild_address_of b) rs (λ r. ap (λ e. e && is_wild_address r) (ap is_eq (same_order (ancestor r.name 1) a (ancestor r.name 1) b (itself (ancestor r.name 1)) s)))
+
 pub same_ancestor : (name : DomainName) (k : ℕ) → SameName (ancestor (lower_name name) k) (ancestor name k)
 same_ancestor name k = record { labels = ap lower_labels (drop-map lower_label k name.labels) ∙ lower_labels-twice (drop k name.labels); marks = refl }
 
@@ -56,6 +59,9 @@ module _ (zone : CheckedZone) (a b : DomainName) (s : SameName a b) where
 
   pub cut_alike : IsCut zone a → IsCut zone b
   cut_alike cut = record { below = below_alike cut.below; servers = owns_alike zone a b s 2 cut.servers }
+
+  pub has_wild_alike : HasWildAddress zone a → HasWildAddress zone b
+  has_wild_alike has = subst (λ (o : _). IsSome o) (wild_alike zone.records a b s) has
 
   pub dname_alike : IsDnameOwner zone a → IsDnameOwner zone b
   dname_alike dname = record { within = within_alike zone a b s dname.within; owner = owns_alike zone a b s 39 dname.owner }

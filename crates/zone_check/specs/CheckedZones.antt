@@ -2,7 +2,7 @@
 use Rattle.std.specs.Prelude.{◌<◌, ◌≤◌, ◌==◌, ◌&&◌, ◌||◌, ◌⊎◌, ℕ, Bool, true, not, IsSome, List, drop, length, Option}
 use Rattle.std.specs.List.{find}
 use Rattle.wire_names.specs.rr.domain.DomainName.{DomainName}
-use Rattle.wire_names.specs.rr.domain.NameOrder.{Encloses, name_eq}
+use Rattle.wire_names.specs.rr.domain.NameOrder.{Encloses, is_wildcard, name_eq}
 use Rattle.wire_messages.specs.rr.RecordData.{type_of}
 use Rattle.wire_messages.specs.declared.rr.rdata.RData.{RData}
 use Rattle.wire_messages.specs.declared.rr.record.Record.{Record}
@@ -88,6 +88,18 @@ OwnsData zone name = IsSome (find (is_data_of name) zone.records)
 abbrev pub ancestor : DomainName → ℕ → DomainName
 ancestor name k = record name { labels = drop k name.labels }
 
+-- whether the record is an address of a wildcard, whose first label is `*` (RFC 4592 section 2.1.1)
+abbrev pub is_wild_address : Record RData → Bool
+is_wild_address r = is_wildcard r.name.labels && (type_of r.rdata == type_a || type_of r.rdata == type_aaaa)
+
+-- the record is an address of the wildcard right below this name
+abbrev pub is_wild_address_of : DomainName → Record RData → Bool
+is_wild_address_of name r = name_eq (ancestor r.name 1) name && is_wild_address r
+
+-- The wildcard right below the name owns an address.
+abbrev pub HasWildAddress : CheckedZone → DomainName → Type 0
+HasWildAddress zone name = IsSome (find (is_wild_address_of name) zone.records)
+
 -- The name is the apex or below it.
 abbrev pub IsInZone : CheckedZone → DomainName → Type 0
 IsInZone zone name = Encloses zone.origin.labels name.labels
@@ -125,3 +137,10 @@ pub record IsBelowDname (zone : CheckedZone) (name : DomainName) : Type 0 where
   pub above : 0 < count
   pub is_ancestor : count ≤ length name.labels
   pub dname : IsDnameOwner zone (ancestor name count)
+
+-- Below a name above the name there is a wildcard with an address (RFC 4592 section 2.1.1), from which the name may be given one.
+pub record IsBelowWildcard (zone : CheckedZone) (name : DomainName) : Type 0 where
+  pub count : ℕ
+  pub above : 0 < count
+  pub is_ancestor : count ≤ length name.labels
+  pub wild : HasWildAddress zone (ancestor name count)

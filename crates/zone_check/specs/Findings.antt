@@ -1,6 +1,7 @@
 -- What a careful operator asks of a zone before it is served, and what is found where the zone does not answer.
-use Rattle.std.specs.Prelude.{◌≡◌, ◌≢◌, ◌<◌, ◌≤◌, ◌+◌, ◌-◌, ◌^◌, ◌⊎◌, ℕ, zero, suc, List, [], ◌∷◌, ◌++◌, length, map, Option, Some, None, MatchOption}
+use Rattle.std.specs.Prelude.{◌≡◌, ◌≢◌, ◌<◌, ◌≤◌, ◌+◌, ◌-◌, ◌*◌, ◌==◌, ◌||◌, ◌^◌, ◌⊎◌, ℕ, zero, suc, List, [], ◌∷◌, ◌++◌, length, map, if◌then◌else◌, Bool, false, Option, Some, None, MatchOption}
 use Rattle.std.specs.List.{slice_get}
+use Rattle.std.specs.Option.{option_map}
 use Rattle.wire_names.specs.rr.domain.DomainName.{DomainName}
 use Rattle.wire_names.specs.rr.domain.NameOrder.{Encloses}
 use Rattle.wire_messages.specs.rr.RecordData.{type_of}
@@ -9,8 +10,8 @@ use Rattle.wire_messages.specs.declared.rr.rdata.RData.{RData}
 use Rattle.wire_messages.specs.declared.rr.rdata.RData.TheVariants as rdata
 use Rattle.wire_messages.specs.declared.rr.rdata.SOA.{SOA}
 use Rattle.wire_messages.specs.declared.rr.record.Record.{Record}
-use Rattle.zone_check.specs.CheckedZones.{CheckedZone, IsApex, IsBelowApex, IsBelowCut, IsBelowDname, IsCut, IsInZone, Owns, OwnsAddress, OwnsData, first_of}
-use Rattle.zone_check.specs.CheckedZones.{type_a, type_aaaa, type_cname, type_dname, type_ds, type_ns, type_nsec3param, type_soa}
+use Rattle.zone_check.specs.CheckedZones.{CheckedZone, IsApex, IsBelowApex, IsBelowCut, IsBelowDname, IsBelowWildcard, IsCut, IsInZone, Owns, OwnsAddress, OwnsData, first_of}
+use Rattle.zone_check.specs.CheckedZones.{type_rrsig, type_a, type_aaaa, type_cname, type_dname, type_ds, type_ns, type_nsec, type_nsec3param, type_soa}
 use Rattle.zone_check.specs.declared.finding.Finding.{Finding}
 use Rattle.zone_check.specs.declared.finding.Kind.{Kind}
 use Rattle.zone_check.specs.declared.finding.Kind.TheVariants as kind
@@ -60,6 +61,15 @@ pub record IsDataBelowCut (zone : CheckedZone) (r : Record RData) : Type 0 where
   pub not_aaaa : ¬ (type_of r.rdata ≡ type_aaaa)
   pub below : IsBelowCut zone r.name
 
+-- whether records of the type may stand at a cut: the name servers, what DNSSEC has there (RFC 4035 sections 2.3 and 2.4), and addresses, which may be glue
+abbrev pub is_cut_type : ℕ → Bool
+is_cut_type t = t == type_ns || t == type_ds || t == type_rrsig || t == type_nsec || t == type_a || t == type_aaaa
+
+-- Other data at a cut are no data of the zone (RFC 1034 section 4.2.1).
+pub record IsDataAtCut (zone : CheckedZone) (r : Record RData) : Type 0 where
+  pub typed : is_cut_type (type_of r.rdata) ≡ false
+  pub cut : IsCut zone r.name
+
 -- The TTL is another than that of the first record of the RRset (RFC 2181 section 5.2).
 abbrev pub HasOtherTtl : CheckedZone → Record RData → Type 0
 HasOtherTtl zone r = OfFirst (λ first. first.ttl ≢ r.ttl) zone r
@@ -80,11 +90,12 @@ pub record IsOwn (zone : CheckedZone) (name : DomainName) : Type 0 where
   pub uncut : ¬ (IsCut zone name)
   pub not_below : ¬ (IsBelowCut zone name)
 
--- The zone itself has to have the host's addresses, and has none, nor an alias (RFC 1035 section 3.3.9, RFC 1912 section 2.8).
+-- The zone itself has to have the host's addresses, and has none, nor an alias, nor a wildcard that may give it one (RFC 1035 section 3.3.9, RFC 1912 section 2.8).
 pub record IsWithoutAddress (zone : CheckedZone) (host : DomainName) : Type 0 where
   pub own : IsOwn zone host
   pub no_address : ¬ (OwnsAddress zone host)
   pub no_alias : ¬ (Owns zone host type_cname)
+  pub no_wildcard : ¬ (IsBelowWildcard zone host)
 
 -- The host of an NS or MX record is an alias (RFC 2181 section 10.3).
 pub record IsAliased (zone : CheckedZone) (host : DomainName) : Type 0 where
@@ -106,6 +117,10 @@ pub record LacksGlue (zone : CheckedZone) (r : Record RData) (host : DomainName)
 abbrev pub soa_of : RData → Option SOA
 soa_of (rdata.SOA soa) = Some soa
 soa_of other = None
+
+-- the serial of an SOA record
+abbrev pub serial_of : Record RData → Option ℕ
+serial_of r = option_map (λ (soa : SOA). soa.serial) (soa_of r.rdata)
 
 -- The record is an SOA record, of whose data what is said holds.
 abbrev pub OfSoa : (SOA → Type 0) → RData → Type 0
@@ -145,6 +160,20 @@ pub record IsNsec3paramBelowApex (zone : CheckedZone) (r : Record RData) : Type 
   pub typed : type_of r.rdata ≡ type_nsec3param
   pub below : IsBelowApex zone r.name
 
+-- the first two octets as a number
+abbrev pub first_word : List ℕ → Option ℕ
+first_word (a ∷ b ∷ octets) = Some (a * 256 + b)
+first_word octets = None
+
+-- the type that an RRSIG record covers (RFC 4034 section 3.1.1)
+abbrev pub covered_of : RData → Option ℕ
+covered_of (rdata.Unknown code octets) = if code == type_rrsig then first_word octets else None
+covered_of other = None
+
+-- An RRSIG record covers a type of which the name has no records (RFC 4035 section 2.2).
+abbrev pub CoversNothing : CheckedZone → Record RData → Type 0
+CoversNothing zone r = MatchOption (covered_of r.rdata) ⊥ (λ t. ¬ (Owns zone r.name t))
+
 -- What is found of a record, by kind.
 abbrev pub IsFoundOf : Kind → CheckedZone → Record RData → Type 0
 IsFoundOf kind.NoSoa zone r = ⊥
@@ -155,6 +184,7 @@ IsFoundOf kind.Second zone r = IsSecond zone r
 IsFoundOf kind.CnameBesideData zone r = IsCnameBesideData zone r
 IsFoundOf kind.BelowDname zone r = IsUnderDname zone r
 IsFoundOf kind.BelowCut zone r = IsDataBelowCut zone r
+IsFoundOf kind.AtCut zone r = IsDataAtCut zone r
 IsFoundOf kind.OtherTtl zone r = HasOtherTtl zone r
 IsFoundOf kind.NoAddress zone r = OfHost (IsWithoutAddress zone) r.rdata
 IsFoundOf kind.NoGlue zone r = OfHost (LacksGlue zone r) r.rdata
@@ -166,6 +196,7 @@ IsFoundOf kind.Expire zone r = OfSoa HasOddExpire r.rdata
 IsFoundOf kind.Minimum zone r = OfSoa HasOddMinimum r.rdata
 IsFoundOf kind.DsAtApex zone r = IsDsAtApex zone r
 IsFoundOf kind.Nsec3paramBelowApex zone r = IsNsec3paramBelowApex zone r
+IsFoundOf kind.CoversNothing zone r = CoversNothing zone r
 
 -- What is found of the zone as a whole, by kind.
 abbrev pub IsFoundOfZone : Kind → CheckedZone → Type 0
@@ -180,8 +211,8 @@ Holds zone finding = MatchOption finding.place (IsFoundOfZone finding.kind zone)
 -- all kinds of findings of a record, in their order
 abbrev pub kinds_of_records : List Kind
 kinds_of_records =
-    kind.Outside ∷ kind.SoaBelowApex ∷ kind.Second ∷ kind.CnameBesideData ∷ kind.BelowDname ∷ kind.BelowCut ∷ kind.OtherTtl ∷ kind.NoAddress ∷ kind.NoGlue ∷ kind.HostIsAlias
-    ∷ kind.SerialNotAbove ∷ kind.Refresh ∷ kind.Retry ∷ kind.Expire ∷ kind.Minimum ∷ kind.DsAtApex ∷ kind.Nsec3paramBelowApex ∷ []
+    kind.Outside ∷ kind.SoaBelowApex ∷ kind.Second ∷ kind.CnameBesideData ∷ kind.BelowDname ∷ kind.BelowCut ∷ kind.AtCut ∷ kind.OtherTtl ∷ kind.NoAddress ∷ kind.NoGlue ∷ kind.HostIsAlias
+    ∷ kind.SerialNotAbove ∷ kind.Refresh ∷ kind.Retry ∷ kind.Expire ∷ kind.Minimum ∷ kind.DsAtApex ∷ kind.Nsec3paramBelowApex ∷ kind.CoversNothing ∷ []
 
 abbrev pub at_place : ℕ → Kind → Finding
 at_place place k = record { place = Some place; kind = k }

@@ -39,6 +39,9 @@ pub enum Kind {
     /// The record stands below a cut and is no address (RFC 1034 section 4.2.1).
     #[error("below a cut, which hides it")]
     BelowCut,
+    /// The record stands at a cut, and is neither an NS record, nor of DNSSEC, nor an address (RFC 1034 section 4.2.1).
+    #[error("at a cut, which hides it")]
+    AtCut,
     /// The TTL is not that of the first record of the RRset (RFC 2181 section 5.2).
     #[error("another TTL than the first record of its RRset")]
     OtherTtl,
@@ -72,6 +75,9 @@ pub enum Kind {
     /// An NSEC3PARAM record stands below the apex (RFC 5155 section 4).
     #[error("an NSEC3PARAM record below the apex")]
     Nsec3paramBelowApex,
+    /// An RRSIG record covers a type of which the name has no records (RFC 4035 section 2.2).
+    #[error("it covers a type of which the name has no records")]
+    CoversNothing,
 }
 
 impl Kind {
@@ -92,11 +98,13 @@ impl Kind {
             | Kind::DsAtApex
             | Kind::Nsec3paramBelowApex => Severity::Fault,
             Kind::BelowCut
+            | Kind::AtCut
             | Kind::OtherTtl
             | Kind::Refresh
             | Kind::Retry
             | Kind::Expire
-            | Kind::Minimum => Severity::Warning,
+            | Kind::Minimum
+            | Kind::CoversNothing => Severity::Warning,
         }
     }
 }

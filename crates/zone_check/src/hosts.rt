@@ -13,7 +13,7 @@ use wire_names::rr::domain::name::Name;
 
 /// The host that an NS or MX record names.
 fn host_of(record: &Record) -> Option<&Name>
-    ensures { option_copied result ≡ host_of record.now.rdata }
+    ensures { option_copied result ≡ host_of «record».now.rdata }
 {
     match &record.rdata {
         RData::NS(host) => Some(host),
@@ -32,14 +32,18 @@ fn is_own(alloc: Global, zone: &Subject<'_>, name: &Name) -> Result<bool, AllocE
     Ok(!zone.is_below_cut(alloc, name)?)
 }
 
-/// Whether a host of the zone's own data has neither an address nor an alias.
+/// Whether a host of the zone's own data has neither an address nor an alias, and no wildcard gives it an address.
 fn is_without_address(alloc: Global, zone: &Subject<'_>, host: &Name) -> Result<bool, AllocError>
     ensures { IfOk result (λ is. IsTrue is ↔ IsWithoutAddress zone.now host.now) }
 {
     if !is_own(alloc, zone, host)? || zone.owns_address(alloc, host)? {
         return Ok(false);
     }
-    Ok(!zone.owns(alloc, host, RecordType::CNAME)?)
+    if zone.owns(alloc, host, RecordType::CNAME)? {
+        return Ok(false);
+    }
+    let is_below = zone.is_below_wildcard(alloc, host)?;
+    Ok(!is_below)
 }
 
 /// Whether a host of the zone's own data is an alias.
@@ -59,7 +63,7 @@ fn is_server_below(
     record: &Record,
     host: &Name,
 ) -> Result<bool, AllocError>
-    ensures { IfOk result (λ is. IsTrue is ↔ IsServerBelow zone.now record.now host.now) }
+    ensures { IfOk result (λ is. IsTrue is ↔ IsServerBelow zone.now «record».now host.now) }
 {
     if record.rdata.record_type() != RecordType::NS || !record.name.zone_of(host) {
         return Ok(false);
@@ -74,7 +78,7 @@ fn lacks_glue(
     record: &Record,
     host: &Name,
 ) -> Result<bool, AllocError>
-    ensures { IfOk result (λ is. IsTrue is ↔ LacksGlue zone.now record.now host.now) }
+    ensures { IfOk result (λ is. IsTrue is ↔ LacksGlue zone.now «record».now host.now) }
 {
     if !is_server_below(alloc, zone, record, host)? {
         return Ok(false);
@@ -88,7 +92,7 @@ pub(crate) fn has_no_address(
     zone: &Subject<'_>,
     record: &Record,
 ) -> Result<bool, AllocError>
-    ensures { IfOk result (λ is. IsTrue is ↔ OfHost (IsWithoutAddress zone.now) record.now.rdata) }
+    ensures { IfOk result (λ is. IsTrue is ↔ OfHost (IsWithoutAddress zone.now) «record».now.rdata) }
 {
     match host_of(record) {
         Some(host) => Ok(is_without_address(alloc, zone, host)?),
@@ -102,7 +106,7 @@ pub(crate) fn has_no_glue(
     zone: &Subject<'_>,
     record: &Record,
 ) -> Result<bool, AllocError>
-    ensures { IfOk result (λ is. IsTrue is ↔ OfHost (LacksGlue zone.now record.now) record.now.rdata) }
+    ensures { IfOk result (λ is. IsTrue is ↔ OfHost (LacksGlue zone.now «record».now) «record».now.rdata) }
 {
     match host_of(record) {
         Some(host) => Ok(lacks_glue(alloc, zone, record, host)?),
@@ -116,7 +120,7 @@ pub(crate) fn has_aliased_host(
     zone: &Subject<'_>,
     record: &Record,
 ) -> Result<bool, AllocError>
-    ensures { IfOk result (λ is. IsTrue is ↔ OfHost (IsAliased zone.now) record.now.rdata) }
+    ensures { IfOk result (λ is. IsTrue is ↔ OfHost (IsAliased zone.now) «record».now.rdata) }
 {
     match host_of(record) {
         Some(host) => Ok(is_aliased(alloc, zone, host)?),

@@ -1,12 +1,14 @@
 //! What a careful operator asks of the records of a zone before it is served.
 #![tactic(auto)]
 
-pub mod check;
 mod finding;
 mod hosts;
 mod index;
+mod looking;
 mod names;
 mod starts;
 mod subject;
 
 pub use finding::{Finding, Kind, Severity};
+pub use looking::check;
+pub use starts::apex_serial;

@@ -2,7 +2,7 @@
 
 ghost use Rattle.std.specs.Prelude.{◌≡◌, ◌↔◌, IfOk, IsTrue};
 ghost use Rattle.wire_messages.specs.rr.RecordSameness.{SameData};
-ghost use Rattle.zone_check.specs.Findings.{HasOtherTtl, IsCnameBesideData, IsDataBelowCut, IsDsAtApex, IsNsec3paramBelowApex, IsOutside, IsSecond, IsSingle, IsSoaBelowApex, OfFirst};
+ghost use Rattle.zone_check.specs.Findings.{CoversNothing, HasOtherTtl, IsCnameBesideData, IsDataAtCut, IsDataBelowCut, IsDsAtApex, IsNsec3paramBelowApex, IsOutside, IsSecond, IsSingle, IsSoaBelowApex, OfFirst, covered_of, first_word, is_cut_type};
 
 use crate::subject::{DNAME, Subject};
 use std::alloc::{AllocError, Global};
@@ -13,14 +13,14 @@ use wire_messages::rr::record_type::RecordType;
 
 /// Whether the owner name is neither the apex nor below it.
 pub(crate) fn is_outside(zone: &Subject<'_>, record: &Record) -> bool
-    ensures { IsTrue result ↔ IsOutside zone.now record.now }
+    ensures { IsTrue result ↔ IsOutside zone.now «record».now }
 {
     !zone.is_in_zone(&record.name)
 }
 
 /// Whether it is an SOA record below the apex.
 pub(crate) fn is_soa_below_apex(zone: &Subject<'_>, record: &Record) -> bool
-    ensures { IsTrue result ↔ IsSoaBelowApex zone.now record.now }
+    ensures { IsTrue result ↔ IsSoaBelowApex zone.now «record».now }
 {
     record.rdata.record_type() == RecordType::SOA && zone.is_below_apex(&record.name)
 }
@@ -36,7 +36,7 @@ fn is_single(record_type: RecordType) -> bool
 
 /// Whether the data of two records are not the same.
 fn are_other_data(data: &RData, others: &RData) -> bool
-    ensures { IsTrue result ↔ (¬ (SameData data.now others.now)) }
+    ensures { IsTrue result ↔ (¬ (SameData «data».now others.now)) }
 {
     record_comparisons();
     data != others
@@ -48,7 +48,7 @@ fn differs_from_first(
     zone: &Subject<'_>,
     record: &Record,
 ) -> Result<bool, AllocError>
-    ensures { IfOk result (λ is. IsTrue is ↔ OfFirst (λ first. ¬ (SameData first.rdata record.now.rdata)) zone.now record.now) }
+    ensures { IfOk result (λ is. IsTrue is ↔ OfFirst (λ first. ¬ (SameData first.rdata «record».now.rdata)) zone.now «record».now) }
 {
     match zone.first_of(alloc, &record.name, record.rdata.record_type())? {
         Some(first) => Ok(are_other_data(&first.rdata, &record.rdata)),
@@ -62,7 +62,7 @@ pub(crate) fn is_second(
     zone: &Subject<'_>,
     record: &Record,
 ) -> Result<bool, AllocError>
-    ensures { IfOk result (λ is. IsTrue is ↔ IsSecond zone.now record.now) }
+    ensures { IfOk result (λ is. IsTrue is ↔ IsSecond zone.now «record».now) }
 {
     if !is_single(record.rdata.record_type()) {
         return Ok(false);
@@ -77,7 +77,7 @@ pub(crate) fn is_cname_beside_data(
     zone: &Subject<'_>,
     record: &Record,
 ) -> Result<bool, AllocError>
-    ensures { IfOk result (λ is. IsTrue is ↔ IsCnameBesideData zone.now record.now) }
+    ensures { IfOk result (λ is. IsTrue is ↔ IsCnameBesideData zone.now «record».now) }
 {
     if record.rdata.record_type() != RecordType::CNAME {
         return Ok(false);
@@ -91,7 +91,7 @@ pub(crate) fn is_data_below_cut(
     zone: &Subject<'_>,
     record: &Record,
 ) -> Result<bool, AllocError>
-    ensures { IfOk result (λ is. IsTrue is ↔ IsDataBelowCut zone.now record.now) }
+    ensures { IfOk result (λ is. IsTrue is ↔ IsDataBelowCut zone.now «record».now) }
 {
     let record_type = record.rdata.record_type();
     if record_type == RecordType::A || record_type == RecordType::AAAA {
@@ -100,13 +100,40 @@ pub(crate) fn is_data_below_cut(
     zone.is_below_cut(alloc, &record.name)
 }
 
+/// Whether records of the type may stand at a cut.
+fn is_cut_type(record_type: RecordType) -> bool
+    ensures { result ≡ is_cut_type record_type }
+{
+    record_type == RecordType::NS
+        || record_type == RecordType::DS
+        || record_type == RecordType::RRSIG
+        || record_type == RecordType::NSEC
+        || record_type == RecordType::A
+        || record_type == RecordType::AAAA
+}
+
+/// Whether it stands at a cut, and is of a type that may not.
+pub(crate) fn is_data_at_cut(
+    alloc: Global,
+    zone: &Subject<'_>,
+    record: &Record,
+) -> Result<bool, AllocError>
+    ensures { IfOk result (λ is. IsTrue is ↔ IsDataAtCut zone.now «record».now) }
+{
+    if is_cut_type(record.rdata.record_type()) {
+        return Ok(false);
+    }
+    let is_cut = zone.is_cut(alloc, &record.name)?;
+    Ok(is_cut)
+}
+
 /// Whether its TTL is another than that of the first record of its RRset.
 pub(crate) fn has_other_ttl(
     alloc: Global,
     zone: &Subject<'_>,
     record: &Record,
 ) -> Result<bool, AllocError>
-    ensures { IfOk result (λ is. IsTrue is ↔ HasOtherTtl zone.now record.now) }
+    ensures { IfOk result (λ is. IsTrue is ↔ HasOtherTtl zone.now «record».now) }
 {
     match zone.first_of(alloc, &record.name, record.rdata.record_type())? {
         Some(first) => Ok(first.ttl != record.ttl),
@@ -116,14 +143,57 @@ pub(crate) fn has_other_ttl(
 
 /// Whether it is a DS record at the apex.
 pub(crate) fn is_ds_at_apex(zone: &Subject<'_>, record: &Record) -> bool
-    ensures { IsTrue result ↔ IsDsAtApex zone.now record.now }
+    ensures { IsTrue result ↔ IsDsAtApex zone.now «record».now }
 {
     record.rdata.record_type() == RecordType::DS && zone.is_apex(&record.name)
 }
 
 /// Whether it is an NSEC3PARAM record below the apex.
 pub(crate) fn is_nsec3param_below_apex(zone: &Subject<'_>, record: &Record) -> bool
-    ensures { IsTrue result ↔ IsNsec3paramBelowApex zone.now record.now }
+    ensures { IsTrue result ↔ IsNsec3paramBelowApex zone.now «record».now }
 {
     record.rdata.record_type() == RecordType::NSEC3PARAM && zone.is_below_apex(&record.name)
+}
+
+/// The first two bytes as the number of a type.
+fn first_word(bytes: &[u8]) -> Option<RecordType>
+    ensures { result ≡ first_word bytes.now }
+{
+    match bytes {
+        [high, low, ..] => Some(RecordType::new(u16::from(*high) * 256 + u16::from(*low))),
+        _ => None,
+    }
+}
+
+/// The type that an RRSIG record covers.
+fn covered_of(record: &Record) -> Option<RecordType>
+    ensures { result ≡ covered_of «record».now.rdata }
+{
+    match &record.rdata {
+        RData::Unknown { code, bytes } => {
+            if *code == RecordType::RRSIG {
+                first_word(bytes.as_slice())
+            } else {
+                None
+            }
+        }
+        _ => None,
+    }
+}
+
+/// Whether it is an RRSIG record over a type of which the name has no records.
+pub(crate) fn covers_nothing(
+    alloc: Global,
+    zone: &Subject<'_>,
+    record: &Record,
+) -> Result<bool, AllocError>
+    ensures { IfOk result (λ is. IsTrue is ↔ CoversNothing zone.now «record».now) }
+{
+    match covered_of(record) {
+        Some(covered) => {
+            let owns = zone.owns(alloc, &record.name, covered)?;
+            Ok(!owns)
+        }
+        None => Ok(false),
+    }
 }

@@ -2,11 +2,14 @@
 
 ghost use Rattle.std.specs.Prelude.{◌≡◌, ◌↔◌, IsTrue};
 ghost use Rattle.std.specs.Option.{option_copied};
-ghost use Rattle.zone_check.specs.Findings.{HasOddExpire, HasOddMinimum, HasOddRefresh, HasOddRetry, IsAbove, IsNotAbove, OfSoa, soa_of};
+ghost use Rattle.zone_check.specs.CheckedZones.{is_of, type_soa};
+ghost use Rattle.zone_check.specs.Findings.{HasOddExpire, HasOddMinimum, HasOddRefresh, HasOddRetry, IsAbove, IsNotAbove, OfSoa, serial_of, soa_of};
 
 use crate::subject::Subject;
 use wire_messages::rr::rdata::{RData, SOA};
 use wire_messages::rr::record::Record;
+use wire_messages::rr::record_type::RecordType;
+use wire_names::rr::domain::name::Name;
 
 /// Half of all serials: by so many at most one is above another (RFC 1982 section 3.2).
 const HALF: u32 = 0x8000_0000;
@@ -63,7 +66,7 @@ fn is_odd_minimum(soa: &SOA) -> bool
 
 /// The data of an SOA record.
 fn soa_of(record: &Record) -> Option<&SOA>
-    ensures { option_copied result ≡ soa_of record.now.rdata }
+    ensures { option_copied result ≡ soa_of «record».now.rdata }
 {
     match &record.rdata {
         RData::SOA(soa) => Some(soa.get()),
@@ -73,7 +76,7 @@ fn soa_of(record: &Record) -> Option<&SOA>
 
 /// Whether it is an SOA record with a serial that is not above that of the zone before, if that is known.
 pub(crate) fn has_low_serial(zone: &Subject<'_>, record: &Record) -> bool
-    ensures { IsTrue result ↔ OfSoa (IsNotAbove zone.now) record.now.rdata }
+    ensures { IsTrue result ↔ OfSoa (IsNotAbove zone.now) «record».now.rdata }
 {
     match soa_of(record) {
         Some(soa) => is_not_above(zone, soa),
@@ -83,7 +86,7 @@ pub(crate) fn has_low_serial(zone: &Subject<'_>, record: &Record) -> bool
 
 /// Whether it is an SOA record with a refresh time below 20 minutes or above 12 hours.
 pub(crate) fn has_odd_refresh(record: &Record) -> bool
-    ensures { IsTrue result ↔ OfSoa HasOddRefresh record.now.rdata }
+    ensures { IsTrue result ↔ OfSoa HasOddRefresh «record».now.rdata }
 {
     match soa_of(record) {
         Some(soa) => is_odd_refresh(soa),
@@ -93,7 +96,7 @@ pub(crate) fn has_odd_refresh(record: &Record) -> bool
 
 /// Whether it is an SOA record with a retry time that is not below the refresh time.
 pub(crate) fn has_odd_retry(record: &Record) -> bool
-    ensures { IsTrue result ↔ OfSoa HasOddRetry record.now.rdata }
+    ensures { IsTrue result ↔ OfSoa HasOddRetry «record».now.rdata }
 {
     match soa_of(record) {
         Some(soa) => is_odd_retry(soa),
@@ -103,7 +106,7 @@ pub(crate) fn has_odd_retry(record: &Record) -> bool
 
 /// Whether it is an SOA record with an expire time that is not from 2 to 4 weeks, or not above refresh and retry times together.
 pub(crate) fn has_odd_expire(record: &Record) -> bool
-    ensures { IsTrue result ↔ OfSoa HasOddExpire record.now.rdata }
+    ensures { IsTrue result ↔ OfSoa HasOddExpire «record».now.rdata }
 {
     match soa_of(record) {
         Some(soa) => is_odd_expire(soa),
@@ -113,10 +116,36 @@ pub(crate) fn has_odd_expire(record: &Record) -> bool
 
 /// Whether it is an SOA record with a minimum by which a denial may be kept for more than one day.
 pub(crate) fn has_odd_minimum(record: &Record) -> bool
-    ensures { IsTrue result ↔ OfSoa HasOddMinimum record.now.rdata }
+    ensures { IsTrue result ↔ OfSoa HasOddMinimum «record».now.rdata }
 {
     match soa_of(record) {
         Some(soa) => is_odd_minimum(soa),
         None => false,
+    }
+}
+
+/// Whether a record is an SOA record of the apex.
+fn is_start(origin: &Name, record: &Record) -> bool
+    ensures { result ≡ is_of origin.now type_soa «record».now }
+{
+    record.name == *origin && record.rdata.record_type() == RecordType::SOA
+}
+
+/// The serial in the data of an SOA record.
+fn serial_of(record: &Record) -> Option<u32>
+    ensures { result ≡ serial_of «record».now }
+{
+    match soa_of(record) {
+        Some(soa) => Some(soa.serial),
+        None => None,
+    }
+}
+
+/// The serial of a zone: that of its first SOA record at the apex, which is fully qualified as names in zone files are. None where there
+/// is no such record. The time is by the records.
+pub fn apex_serial(origin: &Name, records: &[Record]) -> Option<u32> {
+    match records.iter().find(|it| is_start(origin, it)) {
+        Some(record) => serial_of(record),
+        None => None,
     }
 }

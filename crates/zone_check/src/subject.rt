@@ -4,7 +4,7 @@ ghost use Rattle.std.specs.Prelude.{◌≡◌, ◌↔◌, Some, IfOk, IsTrue, tr
 ghost use Rattle.std.specs.List.{find, slice_get};
 ghost use Rattle.std.specs.Option.{option_copied};
 ghost use Rattle.wire_names.specs.rr.domain.NameOrder.{lower_name};
-ghost use Rattle.zone_check.specs.CheckedZones.{IsApex, IsBelowApex, IsBelowCut, IsBelowDname, IsCut, IsDnameOwner, IsInZone, Owns, OwnsAddress, OwnsData, first_of, is_data_of};
+ghost use Rattle.zone_check.specs.CheckedZones.{HasWildAddress, IsApex, IsBelowApex, IsBelowCut, IsBelowDname, IsBelowWildcard, IsCut, IsDnameOwner, IsInZone, Owns, OwnsAddress, OwnsData, first_of, is_data_of, is_wild_address_of};
 
 use crate::index;
 use std::alloc::{AllocError, Global};
@@ -26,17 +26,19 @@ pub(crate) struct Subject<'z> {
     firsts: BTreeMap<RrKey, usize>,
     // The place of the first record of each name that may not stand beside a CNAME.
     others: BTreeMap<LowerName, usize>,
+    // The place of the first address of the wildcard right below each name.
+    wilds: BTreeMap<LowerName, usize>,
 }
 
 impl<'z> Model for Subject<'z> {
     ghost use Rattle.zone_check.specs.CheckedZones.{CheckedZone};
-    ghost use Rattle.zone_check.specs.Indexes.{HasData, HasFirsts};
+    ghost use Rattle.zone_check.specs.Indexes.{HasData, HasFirsts, HasWilds};
 
     ghost Value = { CheckedZone };
 
     ghost view = { λ s. record { origin = s.origin; records = s.records.now; previous = s.previous } };
 
-    ghost invariant = { λ s. HasFirsts s.records.now s.records.now s.firsts × HasData s.records.now s.records.now s.others };
+    ghost invariant = { λ s. HasFirsts s.records.now s.records.now s.firsts × HasData s.records.now s.records.now s.others × HasWilds s.records.now s.records.now s.wilds };
 }
 
 impl<'z> Subject<'z> {
@@ -57,6 +59,7 @@ impl<'z> Subject<'z> {
             previous,
             firsts: index::firsts_of(alloc, records)?,
             others: index::data_of(alloc, records)?,
+            wilds: index::wilds_of(alloc, records)?,
         })
     }
 
@@ -194,6 +197,34 @@ impl<'z> Subject<'z> {
         'above: while !key.name.as_name().as_wire().is_empty() {
             key.name.remove_first_label();
             if self.is_cut_at(&key) {
+                return Ok(true);
+            }
+        }
+        Ok(false)
+    }
+
+    /// The first address of the wildcard right below a name in lower case.
+    fn wild_under(&self, name: &LowerName) -> Option<&Record>
+        ensures { option_copied result ≡ find (is_wild_address_of name.now) self.now.records }
+    {
+        index::wild_under(self.records, &self.wilds, name)
+    }
+
+    /// Whether the wildcard right below a name in lower case owns an address.
+    fn has_wild_address(&self, name: &LowerName) -> bool
+        ensures { IsTrue result ↔ HasWildAddress self.now name.now }
+    {
+        self.wild_under(name).is_some()
+    }
+
+    /// Whether there is a wildcard with an address below a name above a name.
+    pub(crate) fn is_below_wildcard(&self, alloc: Global, name: &Name) -> Result<bool, AllocError>
+        ensures { IfOk result (λ is. IsTrue is ↔ IsBelowWildcard self.now name.now) }
+    {
+        let mut here = LowerName::new(alloc, name)?;
+        'above: while !here.as_name().as_wire().is_empty() {
+            here.remove_first_label();
+            if self.has_wild_address(&here) {
                 return Ok(true);
             }
         }

@@ -1,4 +1,4 @@
-use Rattle.zone_check.proofs.check.is_of_record.Goals as goal
+use Rattle.zone_check.proofs.looking.is_of_record.Goals as goal
 
 pub returns-in-BelowDname : goal.returns-in-BelowDname
 returns-in-BelowDname c = rw c.in-BelowDname.is c.is_below_dname.ensures
@@ -14,3 +14,6 @@ returns-in-NoGlue c = rw c.in-NoGlue.is c.has_no_glue.ensures
 
 pub returns-in-HostIsAlias : goal.returns-in-HostIsAlias
 returns-in-HostIsAlias c = rw c.in-HostIsAlias.is c.has_aliased_host.ensures
+
+pub returns-in-AtCut : goal.returns-in-AtCut
+returns-in-AtCut c = rw c.in-AtCut.is c.is_data_at_cut.ensures

@@ -8,8 +8,8 @@ ghost use Rattle.zone_check.specs.declared.finding.Finding.{Finding as FindingOf
 use crate::finding::{Finding, Kind};
 use crate::hosts::{has_aliased_host, has_no_address, has_no_glue};
 use crate::names::{
-    has_other_ttl, is_cname_beside_data, is_data_below_cut, is_ds_at_apex,
-    is_nsec3param_below_apex, is_outside, is_second, is_soa_below_apex,
+    covers_nothing, has_other_ttl, is_cname_beside_data, is_data_at_cut, is_data_below_cut,
+    is_ds_at_apex, is_nsec3param_below_apex, is_outside, is_second, is_soa_below_apex,
 };
 use crate::starts::{
     has_low_serial, has_odd_expire, has_odd_minimum, has_odd_refresh, has_odd_retry,
@@ -50,7 +50,7 @@ fn is_of_record(
     record: &Record,
     kind: Kind,
 ) -> Result<bool, AllocError>
-    ensures { IfOk result (λ is. IsTrue is ↔ IsFoundOf kind zone.now record.now) }
+    ensures { IfOk result (λ is. IsTrue is ↔ IsFoundOf kind zone.now «record».now) }
 {
     match kind {
         Kind::NoSoa | Kind::NoServers => Ok(false),
@@ -60,6 +60,7 @@ fn is_of_record(
         Kind::CnameBesideData => is_cname_beside_data(alloc, zone, record),
         Kind::BelowDname => zone.is_below_dname(alloc, &record.name),
         Kind::BelowCut => is_data_below_cut(alloc, zone, record),
+        Kind::AtCut => is_data_at_cut(alloc, zone, record),
         Kind::OtherTtl => has_other_ttl(alloc, zone, record),
         Kind::NoAddress => has_no_address(alloc, zone, record),
         Kind::NoGlue => has_no_glue(alloc, zone, record),
@@ -71,6 +72,7 @@ fn is_of_record(
         Kind::Minimum => Ok(has_odd_minimum(record)),
         Kind::DsAtApex => Ok(is_ds_at_apex(zone, record)),
         Kind::Nsec3paramBelowApex => Ok(is_nsec3param_below_apex(zone, record)),
+        Kind::CoversNothing => covers_nothing(alloc, zone, record),
     }
 }
 
@@ -105,13 +107,14 @@ fn look_for(
 }
 
 /// All kinds of findings of a record, in the order in which they are told.
-const KINDS: [Kind; 17] = [
+const KINDS: [Kind; 19] = [
     Kind::Outside,
     Kind::SoaBelowApex,
     Kind::Second,
     Kind::CnameBesideData,
     Kind::BelowDname,
     Kind::BelowCut,
+    Kind::AtCut,
     Kind::OtherTtl,
     Kind::NoAddress,
     Kind::NoGlue,
@@ -123,6 +126,7 @@ const KINDS: [Kind; 17] = [
     Kind::Minimum,
     Kind::DsAtApex,
     Kind::Nsec3paramBelowApex,
+    Kind::CoversNothing,
 ];
 
 /// Puts what is found of the record at a place behind other findings, by these kinds.
