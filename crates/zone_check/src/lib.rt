@@ -4,6 +4,7 @@
 mod finding;
 mod hosts;
 mod index;
+pub mod laws;
 mod looking;
 mod names;
 mod starts;
