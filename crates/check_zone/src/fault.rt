@@ -1,0 +1,44 @@
+//! Why the program ends before anything is found.
+
+use std::alloc::{AllocError, AllocFailed};
+use thiserror::Error;
+
+/// Why the program ends before anything is found.
+#[derive(Clone, Copy, Debug, PartialEq, Eq, Error)]
+pub enum Fault {
+    /// An argument is no text.
+    #[error("an argument is not UTF-8")]
+    Arguments,
+    /// The name of the apex is none.
+    #[error("not the name of a zone")]
+    Origin,
+    /// Memory was refused.
+    #[error("no memory")]
+    Memory,
+    /// The output takes nothing.
+    #[error("the output cannot be written")]
+    Write,
+}
+
+impl Fault {
+    /// The status that tells it.
+    pub fn status(self) -> u8 {
+        match self {
+            Fault::Arguments | Fault::Origin => 2,
+            Fault::Memory => 3,
+            Fault::Write => 4,
+        }
+    }
+}
+
+impl From<AllocError> for Fault {
+    fn from(_e: AllocError) -> Fault {
+        Fault::Memory
+    }
+}
+
+impl<T: Drop> From<AllocFailed<T>> for Fault {
+    fn from(_e: AllocFailed<T>) -> Fault {
+        Fault::Memory
+    }
+}

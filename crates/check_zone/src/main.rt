@@ -1,0 +1,164 @@
+//! What is found of a zone file before it is served: `check_zone ORIGIN FILE [--previous FILE]` prints a line for each finding on the standard
+//! output. `check_zone --version` prints its name and version, and `check_zone --help` how it is started.
+//!
+//! The status is 0 where nothing is found, 1 where all that is found are warnings, 2 for wrong arguments, 3 without memory, 4 where the output
+//! fails, and 5 where a fault is found or a file is not taken, which is told on the standard error.
+#![tactic(auto)]
+
+mod fault;
+mod files;
+mod lines;
+
+use crate::fault::Fault;
+use crate::files::{FileFault, read_records};
+use crate::lines::{status_of, tell_findings};
+use clap::{Arg, ArgMatches, Command, Error};
+use std::alloc::{AllocError, Global};
+use std::process::ExitCode;
+use std::rt::{Env, Files};
+use std::{env, io};
+use wire_names::error::NameError;
+use wire_names::rr::domain::name::Name;
+use zone_check::{apex_serial, check};
+
+/// The version of this program.
+const VERSION: &str = "0.1.0";
+
+/// The arguments that the program takes.
+fn command<'a>(alloc: Global) -> Result<Command<'a>, AllocError> {
+    let origin = Arg::new(alloc, "ORIGIN").required(true).help(
+        "the name of the zone's apex, with or without a dot at its end",
+    );
+    let file = Arg::new(alloc, "FILE").required(true).help("the zone file");
+    let previous = Arg::new(alloc, "previous")
+        .long("previous")
+        .value_name("FILE")
+        .help("the zone file that is served today, whose serial must be below");
+    Command::new(alloc, "check_zone")
+        .version(VERSION)
+        .about("Tells what is wrong with a zone before it is served")
+        .arg(origin)?
+        .arg(file)?
+        .arg(previous)
+}
+
+/// The name of the apex, with or without a dot at its end; the root is a dot alone.
+fn apex_of(alloc: Global, text: &str) -> Result<Name, Fault> {
+    if text == "." {
+        return Ok(Name::root());
+    }
+    match Name::from_ascii(alloc, text) {
+        Ok(mut name) => {
+            name.set_fqdn(true);
+            Ok(name)
+        }
+        Err(NameError::Text) => Err(Fault::Origin),
+        Err(_) => Err(Fault::Memory),
+    }
+}
+
+/// The serial of a zone file, if one is given.
+fn serial_of<R: Files + Alloc<A = Global>>(
+    rt: &R,
+    origin: &Name,
+    file: Option<&str>,
+) -> Result<Option<u32>, FileFault> {
+    let Some(file) = file else {
+        return Ok(None);
+    };
+    let records = read_records(rt, origin, file)?;
+    match apex_serial(origin, records.as_slice()) {
+        Some(serial) => Ok(Some(serial)),
+        None => Err(FileFault::NoSerial),
+    }
+}
+
+/// Tells why a file is not taken on the standard error, and gives the status.
+fn tell_of_file<R: Eprint>(rt: &R, file: &str, fault: FileFault) -> u8 {
+    let _ = eprintln!(rt; "check_zone: {file}: {fault}");
+    fault.status()
+}
+
+/// Tells why the program ends on the standard error, and gives the status. That it cannot be told changes nothing.
+fn tell<R: Eprint>(rt: &R, fault: Fault) -> u8 {
+    let _ = eprintln!(rt; "check_zone: {fault}");
+    fault.status()
+}
+
+/// Prints what is found of a zone file, and gives the status.
+fn print_findings<R: Files + Print + Eprint + Alloc<A = Global>>(
+    rt: &R,
+    origin: &Name,
+    file: &str,
+    previous: Option<u32>,
+) -> u8 {
+    let records = match read_records(rt, origin, file) {
+        Ok(records) => records,
+        Err(fault) => return tell_of_file(rt, file, fault),
+    };
+    let Ok(findings) = check(rt.alloc(), origin, records.as_slice(), previous) else {
+        return tell(rt, Fault::Memory);
+    };
+    match tell_findings(rt, file, origin, records.as_slice(), findings.as_slice()) {
+        Ok(()) => status_of(findings.as_slice()),
+        Err(_) => tell(rt, Fault::Write),
+    }
+}
+
+/// Runs the program with these words, and gives its status.
+fn run_matches<R: Files + Print + Eprint + Alloc<A = Global>>(
+    rt: &R,
+    matches: &ArgMatches<'_>,
+) -> u8 {
+    let (Some(text), Some(file)) = (matches.get_str("ORIGIN"), matches.get_str("FILE")) else {
+        return tell(rt, Fault::Arguments);
+    };
+    let origin = match apex_of(rt.alloc(), text) {
+        Ok(origin) => origin,
+        Err(fault) => return tell(rt, fault),
+    };
+    let previous = matches.get_str("previous");
+    match serial_of(rt, &origin, previous) {
+        Ok(serial) => print_findings(rt, &origin, file, serial),
+        Err(fault) => tell_of_file(rt, previous.unwrap_or(file), fault),
+    }
+}
+
+/// Prints what is said of the arguments, which may be the help that they ask for, and gives the status.
+fn print_of_arguments<R: Print + Eprint>(rt: &R, error: &Error) -> u8 {
+    match error.print(rt) {
+        Ok(()) if error.exit_code() == 0 => 0,
+        Ok(()) => 2,
+        Err(_) => tell(rt, Fault::Write),
+    }
+}
+
+/// The words behind which the program stands, its own name first.
+fn given_words<R: Env + Alloc<A = Global>>(rt: &R) -> Result<Vec<String>, Fault> {
+    match env::args(rt) {
+        Ok(words) => Ok(words.collect(rt.alloc())?),
+        Err(e) => match e.kind() {
+            io::ErrorKind::OutOfMemory => Err(Fault::Memory),
+            _ => Err(Fault::Arguments),
+        },
+    }
+}
+
+/// Runs the program, and gives its status.
+fn run<R: Files + Env + Print + Eprint + Alloc<A = Global>>(rt: &R) -> u8 {
+    let words = match given_words(rt) {
+        Ok(words) => words,
+        Err(fault) => return tell(rt, fault),
+    };
+    let Ok(command) = command(rt.alloc()) else {
+        return tell(rt, Fault::Memory);
+    };
+    match command.try_get_matches_from(words.as_slice()) {
+        Ok(matches) => run_matches(rt, &matches),
+        Err(error) => print_of_arguments(rt, &error),
+    }
+}
+
+fn main(rt: HostRuntime) -> ExitCode {
+    ExitCode::from(run(&rt))
+}

@@ -1,0 +1,4 @@
+pub mod Lookups
+pub mod SameNames
+pub mod Walks
+pub mod Selections

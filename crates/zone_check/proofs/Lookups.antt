@@ -1,0 +1,122 @@
+-- What maps from names and types to places say of the records there.
+use Rattle.std.proofs.Common.{◌≡◌, ◌==◌, ◌&&◌, ◌<◌, ℕ, Bool, true, false, cond, ◌∷◌, length, drop, get_or, suc, refl, sym, ap, ◌∙◌, ◌-◌, ◌≤◌, subst, arith, nat_lt, Option, Some, None}
+use Rattle.std.proofs.Math.Seq.{drop-cons}
+use Rattle.std.proofs.lemmas.Bool.Decides.{nat_tests}
+use Rattle.std.proofs.lemmas.Option.{slice_get_read}
+use Rattle.std.specs.List.{find, slice_get}
+use Rattle.std.specs.Ordering.{is_eq, nat_cmp, ordering_then}
+use Rattle.std.specs.BTreeMap.{BTreeMap, Updates, get}
+use Rattle.std.specs.declared.cmp.Ordering.{Ordering}
+use Rattle.std.specs.declared.cmp.Ordering.TheVariants.{Less, Equal, Greater}
+use Rattle.wire_messages.specs.rr.RecordData.{type_of}
+use Rattle.wire_messages.specs.rr.RrKeys.{key_cmp}
+use Rattle.wire_messages.specs.declared.rr.rdata.RData.{RData}
+use Rattle.wire_messages.specs.declared.rr.record.Record.{Record}
+use Rattle.wire_messages.specs.declared.rr.rr_key.RrKey.{RrKey}
+use Rattle.wire_names.proofs.lemmas.rr.domain.SameNames.{same_order, lower_same}
+use Rattle.wire_names.specs.rr.domain.DomainName.{DomainName}
+use Rattle.wire_names.specs.rr.domain.NameOrder.{SameName, lower_name, name_cmp, name_eq}
+use Rattle.zone_check.specs.CheckedZones.{Records, ancestor, is_of, is_data_of, is_data_type, is_wild_address, is_wild_address_of}
+use Rattle.zone_check.specs.Indexes.{HasData, HasFirsts, HasWilds, Points}
+use Rattle.zone_check.proofs.SameNames.{same_ancestor}
+
+eq_by_tests : (a b : ℕ) (below same : Bool) → nat_lt a b ≡ below → (a == b) ≡ same → is_eq (cond below Less (cond same Equal Greater)) ≡ same
+eq_by_tests a b true true e f = absurd (grind (arith, nat_tests))
+eq_by_tests a b true false e f = refl
+eq_by_tests a b false true e f = refl
+eq_by_tests a b false false e f = refl
+
+eq_numbers : (a b : ℕ) → is_eq (nat_cmp a b) ≡ (a == b)
+eq_numbers a b = eq_by_tests a b (nat_lt a b) (a == b) refl refl
+
+eq_then : (o p : Ordering) → is_eq (ordering_then o p) ≡ (is_eq o && is_eq p)
+eq_then Less p = refl
+eq_then Equal p = refl
+eq_then Greater p = refl
+
+itself : (name : DomainName) → SameName name name
+itself name = record { labels = refl; marks = refl }
+
+-- the key of a record finds what is of its name and type
+pub key_is : (r : Record RData) (q : RrKey) → is_eq (key_cmp (record { name = lower_name r.name; record_type = type_of r.rdata }) q) ≡ is_of q.name q.record_type r
+key_is r q =
+    let order : name_cmp (lower_name r.name) q.name ≡ name_cmp r.name q.name = same_order (lower_name r.name) q.name r.name q.name (lower_same r.name) (itself q.name) in
+    eq_then (name_cmp (lower_name r.name) q.name) (nat_cmp (type_of r.rdata) q.record_type)
+    ∙ ap (λ o. is_eq o && is_eq (nat_cmp (type_of r.rdata) q.record_type)) order
+    ∙ ap (λ b. is_eq (name_cmp r.name q.name) && b) (eq_numbers (type_of r.rdata) q.record_type)
+
+-- and its name what is of its name
+pub name_is : (r : Record RData) (q : DomainName) → is_eq (name_cmp (lower_name r.name) q) ≡ name_eq r.name q
+name_is r q = ap is_eq (same_order (lower_name r.name) q r.name q (lower_same r.name) (itself q))
+
+-- and the name above it what is of that name
+pub above_is : (r : Record RData) (q : DomainName) → is_eq (name_cmp (ancestor (lower_name r.name) 1) q) ≡ name_eq (ancestor r.name 1) q
+above_is r q = ap is_eq (same_order (ancestor (lower_name r.name) 1) q (ancestor r.name 1) q (same_ancestor r.name 1) (itself q))
+
+and_true : (b : Bool) → (b && true) ≡ b
+and_true true = refl
+and_true false = refl
+
+and_false : (b : Bool) → (b && false) ≡ false
+and_false true = refl
+and_false false = refl
+
+at_first : (records rest : Records) (place : ℕ) (r : Record RData) (test : Record RData → Bool) (old : Option ℕ) (passes : Bool) → test r ≡ passes → slice_get records place ≡ Some r
+    → Points records rest test old → Points records (r ∷ rest) test (cond passes (Some place) old)
+at_first records rest place r test old true is at kept = at ∙ ap (λ b. cond b (Some r) (find test rest)) (sym is)
+at_first records rest place r test None false is at kept = ap (λ b. cond b (Some r) (find test rest)) is ∙ kept
+at_first records rest place r test (Some k) false is at kept = kept ∙ ap (λ b. cond b (Some r) (find test rest)) (sym is)
+
+module _ (records : Records) (behind : ℕ) (r : Record RData) (some : 0 < behind) (within : behind ≤ length records) (is : r ≡ get_or records (behind - 1) r) where
+  front : drop (behind - 1) records ≡ r ∷ drop behind records
+  front =
+      let inside : behind - 1 < length records = omega arith in
+      let next : suc (behind - 1) ≡ behind = omega arith in
+      drop-cons records (behind - 1) r inside ∙ ap (λ x. x ∷ drop (suc (behind - 1)) records) (sym is) ∙ ap (λ n. r ∷ drop n records) next
+
+  at : slice_get records (behind - 1) ≡ Some r
+  at = let inside : behind - 1 < length records = omega arith in slice_get_read records (length records) (behind - 1) r refl inside is
+
+  -- one record more at the front: where it passes, its place is that of the first
+  pub put_in_front : (test : Record RData → Bool) (old : Option ℕ) → Points records (drop behind records) test old → Points records (drop (behind - 1) records) test (cond (test r) (Some (behind - 1)) old)
+  put_in_front test old kept = rw front (at_first records (drop behind records) (behind - 1) r test old (test r) refl at kept)
+
+  pub one_more_first : (old new : BTreeMap RrKey ℕ) → Updates key_cmp old new (record { name = lower_name r.name; record_type = type_of r.rdata }) (Some (behind - 1))
+      → HasFirsts records (drop behind records) old → HasFirsts records (drop (behind - 1) records) new
+  one_more_first old new updates kept q =
+      rw (updates.0 q ∙ ap (λ b. cond b (Some (behind - 1)) (get key_cmp old q)) (key_is r q)) (put_in_front (is_of q.name q.record_type) (get key_cmp old q) (kept q))
+
+  data_test : (q : DomainName) → is_data_type (type_of r.rdata) ≡ true → is_data_of q r ≡ name_eq r.name q
+  data_test q is_data = ap (λ b. name_eq r.name q && b) is_data ∙ and_true (name_eq r.name q)
+
+  pub one_more_data : (old new : BTreeMap DomainName ℕ) → is_data_type (type_of r.rdata) ≡ true → Updates name_cmp old new (lower_name r.name) (Some (behind - 1))
+      → HasData records (drop behind records) old → HasData records (drop (behind - 1) records) new
+  one_more_data old new is_data updates kept q =
+      rw (updates.0 q ∙ ap (λ b. cond b (Some (behind - 1)) (get name_cmp old q)) (name_is r q ∙ sym (data_test q is_data))) (put_in_front (is_data_of q) (get name_cmp old q) (kept q))
+
+  wild_test : (q : DomainName) → is_wild_address r ≡ true → is_wild_address_of q r ≡ name_eq (ancestor r.name 1) q
+  wild_test q is_wild = ap (λ b. name_eq (ancestor r.name 1) q && b) is_wild ∙ and_true (name_eq (ancestor r.name 1) q)
+
+  pub one_more_wild : (old new : BTreeMap DomainName ℕ) → is_wild_address r ≡ true → Updates name_cmp old new (ancestor (lower_name r.name) 1) (Some (behind - 1))
+      → HasWilds records (drop behind records) old → HasWilds records (drop (behind - 1) records) new
+  one_more_wild old new is_wild updates kept q =
+      rw (updates.0 q ∙ ap (λ b. cond b (Some (behind - 1)) (get name_cmp old q)) (above_is r q ∙ sym (wild_test q is_wild))) (put_in_front (is_wild_address_of q) (get name_cmp old q) (kept q))
+
+  pub no_wild_more : (wilds : BTreeMap DomainName ℕ) → is_wild_address r ≡ false → HasWilds records (drop behind records) wilds → HasWilds records (drop (behind - 1) records) wilds
+  no_wild_more wilds no_wild kept q =
+      let fails : is_wild_address_of q r ≡ false = ap (λ b. name_eq (ancestor r.name 1) q && b) no_wild ∙ and_false (name_eq (ancestor r.name 1) q) in
+      let more : Points records (drop (behind - 1) records) (is_wild_address_of q) (cond (is_wild_address_of q r) (Some (behind - 1)) (get name_cmp wilds q)) = put_in_front (is_wild_address_of q) (get name_cmp wilds q) (kept q) in
+      rw fails at more
+
+  pub no_data_more : (others : BTreeMap DomainName ℕ) → is_data_type (type_of r.rdata) ≡ false → HasData records (drop behind records) others → HasData records (drop (behind - 1) records) others
+  no_data_more others no_data kept q =
+      let fails : is_data_of q r ≡ false = ap (λ b. name_eq r.name q && b) no_data ∙ and_false (name_eq r.name q) in
+      let more : Points records (drop (behind - 1) records) (is_data_of q) (cond (is_data_of q r) (Some (behind - 1)) (get name_cmp others q)) = put_in_front (is_data_of q) (get name_cmp others q) (kept q) in
+      rw fails at more
+
+-- where a map points to, and where it points nowhere
+pub pointed : (records : Records) (test : Record RData → Bool) (found : Option ℕ) (place : ℕ) → Points records records test found → found ≡ Some place → slice_get records place ≡ find test records
+pointed records test found place points is = subst (Points records records test) is points
+
+pub pointed_nowhere : (records : Records) (test : Record RData → Bool) (found : Option ℕ) → Points records records test found → found ≡ None → find test records ≡ None
+pointed_nowhere records test found points is = subst (Points records records test) is points

@@ -1,0 +1,19 @@
+use Rattle.zone_check.proofs.looking.is_of_record.Goals as goal
+
+pub returns-in-BelowDname : goal.returns-in-BelowDname
+returns-in-BelowDname c = rw c.in-BelowDname.is c.is_below_dname.ensures
+
+pub returns-in-BelowCut : goal.returns-in-BelowCut
+returns-in-BelowCut c = rw c.in-BelowCut.is c.is_data_below_cut.ensures
+
+pub returns-in-NoAddress : goal.returns-in-NoAddress
+returns-in-NoAddress c = rw c.in-NoAddress.is c.has_no_address.ensures
+
+pub returns-in-NoGlue : goal.returns-in-NoGlue
+returns-in-NoGlue c = rw c.in-NoGlue.is c.has_no_glue.ensures
+
+pub returns-in-HostIsAlias : goal.returns-in-HostIsAlias
+returns-in-HostIsAlias c = rw c.in-HostIsAlias.is c.has_aliased_host.ensures
+
+pub returns-in-AtCut : goal.returns-in-AtCut
+returns-in-AtCut c = rw c.in-AtCut.is c.is_data_at_cut.ensures

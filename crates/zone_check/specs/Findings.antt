@@ -1,0 +1,244 @@
+-- What a careful operator asks of a zone before it is served, and what is found where the zone does not answer.
+use Rattle.std.specs.Prelude.{◌≡◌, ◌≢◌, ◌<◌, ◌≤◌, ◌+◌, ◌-◌, ◌*◌, ◌==◌, ◌||◌, ◌^◌, ◌⊎◌, ℕ, zero, suc, List, [], ◌∷◌, ◌++◌, length, map, if◌then◌else◌, Bool, false, Option, Some, None, MatchOption}
+use Rattle.std.specs.List.{slice_get}
+use Rattle.std.specs.Option.{option_map}
+use Rattle.wire_names.specs.rr.domain.DomainName.{DomainName}
+use Rattle.wire_names.specs.rr.domain.NameOrder.{Encloses}
+use Rattle.wire_messages.specs.rr.RecordData.{type_of}
+use Rattle.wire_messages.specs.rr.RecordSameness.{SameData}
+use Rattle.wire_messages.specs.declared.rr.rdata.RData.{RData}
+use Rattle.wire_messages.specs.declared.rr.rdata.RData.TheVariants as rdata
+use Rattle.wire_messages.specs.declared.rr.rdata.SOA.{SOA}
+use Rattle.wire_messages.specs.declared.rr.record.Record.{Record}
+use Rattle.zone_check.specs.CheckedZones.{CheckedZone, IsApex, IsBelowApex, IsBelowCut, IsBelowDname, IsBelowWildcard, IsCut, IsInZone, Owns, OwnsAddress, OwnsData, first_of}
+use Rattle.zone_check.specs.CheckedZones.{type_rrsig, type_a, type_aaaa, type_cname, type_dname, type_ds, type_ns, type_nsec, type_nsec3param, type_soa}
+use Rattle.zone_check.specs.declared.finding.Finding.{Finding}
+use Rattle.zone_check.specs.declared.finding.Kind.{Kind}
+use Rattle.zone_check.specs.declared.finding.Kind.TheVariants as kind
+
+-- The apex has no SOA record (RFC 1035 section 5.2).
+abbrev pub LacksSoa : CheckedZone → Type 0
+LacksSoa zone = ¬ (Owns zone zone.origin type_soa)
+
+-- The apex has no NS record (RFC 1034 section 4.2.1).
+abbrev pub LacksServers : CheckedZone → Type 0
+LacksServers zone = ¬ (Owns zone zone.origin type_ns)
+
+-- The owner name is neither the apex nor below it (RFC 1035 section 5.2).
+abbrev pub IsOutside : CheckedZone → Record RData → Type 0
+IsOutside zone r = ¬ (IsInZone zone r.name)
+
+-- An SOA record stands below the apex, the top of the zone (RFC 1034 section 4.2.1, RFC 1035 section 5.2).
+pub record IsSoaBelowApex (zone : CheckedZone) (r : Record RData) : Type 0 where
+  pub typed : type_of r.rdata ≡ type_soa
+  pub below : IsBelowApex zone r.name
+
+-- a type of which a name owns one record: SOA (RFC 1035 section 5.2), CNAME (RFC 2181 section 10.1), DNAME (RFC 6672 section 2.4)
+abbrev pub IsSingle : ℕ → Type 0
+IsSingle t = (t ≡ type_soa) ⊎ (t ≡ type_cname) ⊎ (t ≡ type_dname)
+
+-- What is said holds of the first record of the same name and type.
+abbrev pub OfFirst : (Record RData → Type 0) → CheckedZone → Record RData → Type 0
+OfFirst Is zone r = MatchOption (first_of zone r.name (type_of r.rdata)) ⊥ Is
+
+-- The name owns another record of a type of which it may own one: the data of the first are others.
+pub record IsSecond (zone : CheckedZone) (r : Record RData) : Type 0 where
+  pub single : IsSingle (type_of r.rdata)
+  pub differs : OfFirst (λ first. ¬ (SameData first.rdata r.rdata)) zone r
+
+-- A CNAME stands beside other data (RFC 1034 section 3.6.2, RFC 2181 section 10.1), a DNAME among them (RFC 6672 section 2.4).
+pub record IsCnameBesideData (zone : CheckedZone) (r : Record RData) : Type 0 where
+  pub typed : type_of r.rdata ≡ type_cname
+  pub beside : OwnsData zone r.name
+
+-- The record stands below a DNAME of the zone (RFC 6672 section 2.4).
+abbrev pub IsUnderDname : CheckedZone → Record RData → Type 0
+IsUnderDname zone r = IsBelowDname zone r.name
+
+-- Data below a cut are no data of the zone; addresses may be glue (RFC 1034 section 4.2.1).
+pub record IsDataBelowCut (zone : CheckedZone) (r : Record RData) : Type 0 where
+  pub not_a : ¬ (type_of r.rdata ≡ type_a)
+  pub not_aaaa : ¬ (type_of r.rdata ≡ type_aaaa)
+  pub below : IsBelowCut zone r.name
+
+-- whether records of the type may stand at a cut: the name servers, what DNSSEC has there (RFC 4035 sections 2.3 and 2.4), and addresses, which may be glue
+abbrev pub is_cut_type : ℕ → Bool
+is_cut_type t = t == type_ns || t == type_ds || t == type_rrsig || t == type_nsec || t == type_a || t == type_aaaa
+
+-- Other data at a cut are no data of the zone (RFC 1034 section 4.2.1).
+pub record IsDataAtCut (zone : CheckedZone) (r : Record RData) : Type 0 where
+  pub typed : is_cut_type (type_of r.rdata) ≡ false
+  pub cut : IsCut zone r.name
+
+-- The TTL is another than that of the first record of the RRset (RFC 2181 section 5.2).
+abbrev pub HasOtherTtl : CheckedZone → Record RData → Type 0
+HasOtherTtl zone r = OfFirst (λ first. first.ttl ≢ r.ttl) zone r
+
+-- the host that an NS or MX record names (RFC 1035 sections 3.3.9 and 3.3.11)
+abbrev pub host_of : RData → Option DomainName
+host_of (rdata.NS host) = Some host
+host_of (rdata.MX mx) = Some mx.exchange
+host_of other = None
+
+-- The record names a host, of which what is said holds.
+abbrev pub OfHost : (DomainName → Type 0) → RData → Type 0
+OfHost Is content = MatchOption (host_of content) ⊥ Is
+
+-- The name is of the zone's own data: in the zone, and neither at a cut nor below one.
+pub record IsOwn (zone : CheckedZone) (name : DomainName) : Type 0 where
+  pub within : IsInZone zone name
+  pub uncut : ¬ (IsCut zone name)
+  pub not_below : ¬ (IsBelowCut zone name)
+
+-- The zone itself has to have the host's addresses, and has none, nor an alias, nor a wildcard that may give it one (RFC 1035 section 3.3.9, RFC 1912 section 2.8).
+pub record IsWithoutAddress (zone : CheckedZone) (host : DomainName) : Type 0 where
+  pub own : IsOwn zone host
+  pub no_address : ¬ (OwnsAddress zone host)
+  pub no_alias : ¬ (Owns zone host type_cname)
+  pub no_wildcard : ¬ (IsBelowWildcard zone host)
+
+-- The host of an NS or MX record is an alias (RFC 2181 section 10.3).
+pub record IsAliased (zone : CheckedZone) (host : DomainName) : Type 0 where
+  pub own : IsOwn zone host
+  pub alias : Owns zone host type_cname
+
+-- An NS record at a cut names a host at the cut or below it, whose address is needed as glue (RFC 1034 section 4.2.1, RFC 9471 section 2.1).
+pub record IsServerBelow (zone : CheckedZone) (r : Record RData) (host : DomainName) : Type 0 where
+  pub typed : type_of r.rdata ≡ type_ns
+  pub cut : IsCut zone r.name
+  pub below : Encloses r.name.labels host.labels
+
+-- That glue is not there.
+pub record LacksGlue (zone : CheckedZone) (r : Record RData) (host : DomainName) : Type 0 where
+  pub server : IsServerBelow zone r host
+  pub no_address : ¬ (OwnsAddress zone host)
+
+-- the data of an SOA record (RFC 1035 section 3.3.13)
+abbrev pub soa_of : RData → Option SOA
+soa_of (rdata.SOA soa) = Some soa
+soa_of other = None
+
+-- the serial of an SOA record
+abbrev pub serial_of : Record RData → Option ℕ
+serial_of r = option_map (λ (soa : SOA). soa.serial) (soa_of r.rdata)
+
+-- The record is an SOA record, of whose data what is said holds.
+abbrev pub OfSoa : (SOA → Type 0) → RData → Type 0
+OfSoa Is content = MatchOption (soa_of content) ⊥ Is
+
+-- The serial is above the other (RFC 1982 section 3.2).
+abbrev pub IsAbove : ℕ → ℕ → Type 0
+IsAbove serial other = (other < serial × serial - other < 2 ^ 31) ⊎ (serial < other × 2 ^ 31 < other - serial)
+
+-- The serial is not above that of the zone before, if that is given (RFC 1982 section 3.2, RFC 1912 section 2.2).
+abbrev pub IsNotAbove : CheckedZone → SOA → Type 0
+IsNotAbove zone soa = MatchOption zone.previous ⊥ (λ previous. ¬ (IsAbove soa.serial previous))
+
+-- The refresh time is below 20 minutes or above 12 hours (RFC 1912 section 2.2).
+abbrev pub HasOddRefresh : SOA → Type 0
+HasOddRefresh soa = (soa.refresh < 1200) ⊎ (43200 < soa.refresh)
+
+-- The retry time is not below the refresh time, of which it is to be a fraction (RFC 1912 section 2.2).
+abbrev pub HasOddRetry : SOA → Type 0
+HasOddRetry soa = soa.refresh ≤ soa.retry
+
+-- The expire time is not above refresh and retry times together, or not of 2 to 4 weeks (RFC 1912 section 2.2).
+abbrev pub HasOddExpire : SOA → Type 0
+HasOddExpire soa = (soa.expire ≤ soa.refresh + soa.retry) ⊎ (soa.expire < 1209600) ⊎ (2419200 < soa.expire)
+
+-- The time that a denial may be kept is above one day (RFC 2308 section 5).
+abbrev pub HasOddMinimum : SOA → Type 0
+HasOddMinimum soa = 86400 < soa.minimum
+
+-- A DS record stands at the apex (RFC 4035 section 2.4).
+pub record IsDsAtApex (zone : CheckedZone) (r : Record RData) : Type 0 where
+  pub typed : type_of r.rdata ≡ type_ds
+  pub apex : IsApex zone r.name
+
+-- An NSEC3PARAM record stands below the apex (RFC 5155 section 4).
+pub record IsNsec3paramBelowApex (zone : CheckedZone) (r : Record RData) : Type 0 where
+  pub typed : type_of r.rdata ≡ type_nsec3param
+  pub below : IsBelowApex zone r.name
+
+-- the first two octets as a number
+abbrev pub first_word : List ℕ → Option ℕ
+first_word (a ∷ b ∷ octets) = Some (a * 256 + b)
+first_word octets = None
+
+-- the type that an RRSIG record covers (RFC 4034 section 3.1.1)
+abbrev pub covered_of : RData → Option ℕ
+covered_of (rdata.Unknown code octets) = if code == type_rrsig then first_word octets else None
+covered_of other = None
+
+-- An RRSIG record covers a type of which the name has no records (RFC 4035 section 2.2).
+abbrev pub CoversNothing : CheckedZone → Record RData → Type 0
+CoversNothing zone r = MatchOption (covered_of r.rdata) ⊥ (λ t. ¬ (Owns zone r.name t))
+
+-- What is found of a record, by kind.
+abbrev pub IsFoundOf : Kind → CheckedZone → Record RData → Type 0
+IsFoundOf kind.NoSoa zone r = ⊥
+IsFoundOf kind.NoServers zone r = ⊥
+IsFoundOf kind.Outside zone r = IsOutside zone r
+IsFoundOf kind.SoaBelowApex zone r = IsSoaBelowApex zone r
+IsFoundOf kind.Second zone r = IsSecond zone r
+IsFoundOf kind.CnameBesideData zone r = IsCnameBesideData zone r
+IsFoundOf kind.BelowDname zone r = IsUnderDname zone r
+IsFoundOf kind.BelowCut zone r = IsDataBelowCut zone r
+IsFoundOf kind.AtCut zone r = IsDataAtCut zone r
+IsFoundOf kind.OtherTtl zone r = HasOtherTtl zone r
+IsFoundOf kind.NoAddress zone r = OfHost (IsWithoutAddress zone) r.rdata
+IsFoundOf kind.NoGlue zone r = OfHost (LacksGlue zone r) r.rdata
+IsFoundOf kind.HostIsAlias zone r = OfHost (IsAliased zone) r.rdata
+IsFoundOf kind.SerialNotAbove zone r = OfSoa (IsNotAbove zone) r.rdata
+IsFoundOf kind.Refresh zone r = OfSoa HasOddRefresh r.rdata
+IsFoundOf kind.Retry zone r = OfSoa HasOddRetry r.rdata
+IsFoundOf kind.Expire zone r = OfSoa HasOddExpire r.rdata
+IsFoundOf kind.Minimum zone r = OfSoa HasOddMinimum r.rdata
+IsFoundOf kind.DsAtApex zone r = IsDsAtApex zone r
+IsFoundOf kind.Nsec3paramBelowApex zone r = IsNsec3paramBelowApex zone r
+IsFoundOf kind.CoversNothing zone r = CoversNothing zone r
+
+-- What is found of the zone as a whole, by kind.
+abbrev pub IsFoundOfZone : Kind → CheckedZone → Type 0
+IsFoundOfZone kind.NoSoa zone = LacksSoa zone
+IsFoundOfZone kind.NoServers zone = LacksServers zone
+IsFoundOfZone other zone = ⊥
+
+-- What is found holds, of the zone as a whole or of the record at this place, which is counted from 0.
+abbrev pub Holds : CheckedZone → Finding → Type 0
+Holds zone finding = MatchOption finding.place (IsFoundOfZone finding.kind zone) (λ place. MatchOption (slice_get zone.records place) ⊥ (IsFoundOf finding.kind zone))
+
+-- all kinds of findings of a record, in their order
+abbrev pub kinds_of_records : List Kind
+kinds_of_records =
+    kind.Outside ∷ kind.SoaBelowApex ∷ kind.Second ∷ kind.CnameBesideData ∷ kind.BelowDname ∷ kind.BelowCut ∷ kind.AtCut ∷ kind.OtherTtl ∷ kind.NoAddress ∷ kind.NoGlue ∷ kind.HostIsAlias
+    ∷ kind.SerialNotAbove ∷ kind.Refresh ∷ kind.Retry ∷ kind.Expire ∷ kind.Minimum ∷ kind.DsAtApex ∷ kind.Nsec3paramBelowApex ∷ kind.CoversNothing ∷ []
+
+abbrev pub at_place : ℕ → Kind → Finding
+at_place place k = record { place = Some place; kind = k }
+
+abbrev pub of_zone : Kind → Finding
+of_zone k = record { place = None; kind = k }
+
+-- all that could be found of the zone as a whole
+abbrev pub of_whole : List Finding
+of_whole = of_zone kind.NoSoa ∷ of_zone kind.NoServers ∷ []
+
+-- all that could be found of so many records, record by record, and of each by kind
+abbrev pub of_records : ℕ → List Finding
+of_records zero = []
+of_records (suc place) = of_records place ++ map (at_place place) kinds_of_records
+
+-- all that could be found of a zone of so many records, in the order in which it is told
+abbrev pub all_findings : ℕ → List Finding
+all_findings count = of_whole ++ of_records count
+
+-- The selected are those of all findings that hold of the zone, in their order, each once and no other.
+pub data Selects (zone : CheckedZone) : List Finding → List Finding → Type 0 where
+  none : Selects zone [] []
+  holds : {all selected : List Finding} (finding : Finding) → Selects zone all selected → Holds zone finding → Selects zone (all ++ finding ∷ []) (selected ++ finding ∷ [])
+  fails : {all selected : List Finding} (finding : Finding) → Selects zone all selected → ¬ (Holds zone finding) → Selects zone (all ++ finding ∷ []) selected
+
+-- What is found of the zone: all that could be found and holds.
+abbrev pub AreFindings : CheckedZone → List Finding → Type 0
+AreFindings zone findings = Selects zone (all_findings (length zone.records)) findings

@@ -1,0 +1,3 @@
+pub mod CheckedZones
+pub mod Findings
+pub mod Indexes

@@ -1,0 +1,119 @@
+//! What can be found of a zone.
+
+use thiserror::Error;
+
+/// How grave a finding is.
+#[derive(Clone, Copy, Debug, PartialEq, Eq)]
+pub enum Severity {
+    /// The zone can be served as it is, and does not say what it should.
+    Warning,
+    /// A standard forbids it: servers refuse such a zone, or leave out some of its records.
+    Fault,
+}
+
+/// What is found. The text is what is told of the record.
+#[derive(Clone, Copy, Debug, PartialEq, Eq, Error)]
+pub enum Kind {
+    /// The apex has no SOA record (RFC 1035 section 5.2).
+    #[error("the apex has no SOA record")]
+    NoSoa,
+    /// The apex has no NS record (RFC 1034 section 4.2.1).
+    #[error("the apex has no NS record")]
+    NoServers,
+    /// The owner name is neither the apex nor below it (RFC 1035 section 5.2).
+    #[error("the owner name is outside the zone")]
+    Outside,
+    /// An SOA record stands below the apex (RFC 1035 section 5.2).
+    #[error("an SOA record below the apex")]
+    SoaBelowApex,
+    /// The name has another record of a type of which it may have one: SOA, CNAME or DNAME (RFC 1035 section 5.2, RFC 2181 section
+    /// 10.1, RFC 6672 section 2.4).
+    #[error("another record of a type of which a name has one")]
+    Second,
+    /// A CNAME stands beside other data (RFC 1034 section 3.6.2, RFC 2181 section 10.1).
+    #[error("a CNAME beside other data")]
+    CnameBesideData,
+    /// The record stands below a DNAME of the zone (RFC 6672 section 2.4).
+    #[error("below a DNAME, which hides it")]
+    BelowDname,
+    /// The record stands below a cut and is no address (RFC 1034 section 4.2.1).
+    #[error("below a cut, which hides it")]
+    BelowCut,
+    /// The record stands at a cut, and is neither an NS record, nor of DNSSEC, nor an address (RFC 1034 section 4.2.1).
+    #[error("at a cut, which hides it")]
+    AtCut,
+    /// The TTL is not that of the first record of the RRset (RFC 2181 section 5.2).
+    #[error("another TTL than the first record of its RRset")]
+    OtherTtl,
+    /// The host of an NS or MX record is in the zone and has no address there (RFC 1912 section 2.8).
+    #[error("its host is in the zone and has no address there")]
+    NoAddress,
+    /// An NS record names a host at its cut or below it, without an address in the zone (RFC 9471 section 2.1).
+    #[error("its host is below the cut and has no glue")]
+    NoGlue,
+    /// The host of an NS or MX record is an alias (RFC 2181 section 10.3).
+    #[error("its host is an alias")]
+    HostIsAlias,
+    /// The serial is not above that of the zone before (RFC 1982 section 3.2).
+    #[error("the serial is not above the previous one")]
+    SerialNotAbove,
+    /// The refresh time of the SOA is not from 20 minutes to 12 hours (RFC 1912 section 2.2).
+    #[error("the refresh time is not from 20 minutes to 12 hours")]
+    Refresh,
+    /// The retry time of the SOA is not below the refresh time (RFC 1912 section 2.2).
+    #[error("the retry time is not below the refresh time")]
+    Retry,
+    /// The expire time of the SOA is not above refresh and retry times together, or not from 2 to 4 weeks (RFC 1912 section 2.2).
+    #[error("the expire time is not from 2 to 4 weeks, or not above refresh and retry times together")]
+    Expire,
+    /// The last field of the SOA, how long a denial is kept, is above one day (RFC 2308 section 5).
+    #[error("the minimum, how long a denial is kept, is above one day")]
+    Minimum,
+    /// A DS record stands at the apex (RFC 4035 section 2.4).
+    #[error("a DS record at the apex")]
+    DsAtApex,
+    /// An NSEC3PARAM record stands below the apex (RFC 5155 section 4).
+    #[error("an NSEC3PARAM record below the apex")]
+    Nsec3paramBelowApex,
+    /// An RRSIG record covers a type of which the name has no records (RFC 4035 section 2.2).
+    #[error("it covers a type of which the name has no records")]
+    CoversNothing,
+}
+
+impl Kind {
+    /// How grave it is.
+    pub fn severity(self) -> Severity {
+        match self {
+            Kind::NoSoa
+            | Kind::NoServers
+            | Kind::Outside
+            | Kind::SoaBelowApex
+            | Kind::Second
+            | Kind::CnameBesideData
+            | Kind::BelowDname
+            | Kind::NoAddress
+            | Kind::NoGlue
+            | Kind::HostIsAlias
+            | Kind::SerialNotAbove
+            | Kind::DsAtApex
+            | Kind::Nsec3paramBelowApex => Severity::Fault,
+            Kind::BelowCut
+            | Kind::AtCut
+            | Kind::OtherTtl
+            | Kind::Refresh
+            | Kind::Retry
+            | Kind::Expire
+            | Kind::Minimum
+            | Kind::CoversNothing => Severity::Warning,
+        }
+    }
+}
+
+/// A finding: of a record, or of the zone as a whole.
+#[derive(Clone, Copy, Debug, PartialEq, Eq)]
+pub struct Finding {
+    /// The place of the record among those of the zone, from 0 on; none where it is of the zone as a whole.
+    pub place: Option<usize>,
+    /// What is found.
+    pub kind: Kind,
+}

@@ -1,0 +1,174 @@
+//! Records found by name and type.
+
+ghost use Rattle.std.specs.Prelude.{◌≡◌, IfOk};
+ghost use Rattle.std.specs.List.{find, slice_get};
+ghost use Rattle.std.specs.Option.{option_copied};
+ghost use Rattle.wire_messages.specs.rr.RecordData.{type_of};
+ghost use Rattle.wire_names.specs.rr.domain.NameOrder.{is_wildcard, lower_name};
+ghost use Rattle.zone_check.specs.CheckedZones.{ancestor, is_data_of, is_data_type, is_of, is_wild_address, is_wild_address_of};
+ghost use Rattle.zone_check.specs.Indexes.{HasData, HasFirsts, HasWilds};
+
+use std::alloc::{AllocError, Global};
+use std::collections::BTreeMap;
+use wire_messages::rr::record::Record;
+use wire_messages::rr::record_type::RecordType;
+use wire_messages::rr::rr_key::RrKey;
+use wire_names::rr::domain::lower_name::LowerName;
+use wire_names::rr::domain::name::Name;
+
+/// The key of a record.
+fn key_of(alloc: Global, record: &Record) -> Result<RrKey, AllocError>
+    ensures { IfOk result (λ key. key ≡ record { name = lower_name «record».now.name; record_type = type_of «record».now.rdata }) }
+{
+    let name = LowerName::new(alloc, &record.name)?;
+    Ok(RrKey::new(name, record.rdata.record_type()))
+}
+
+/// The place of the first record of each name and type.
+pub(crate) fn firsts_of(
+    alloc: Global,
+    records: &[Record],
+) -> Result<BTreeMap<RrKey, usize>, AllocError>
+    ensures { IfOk result (HasFirsts records.now records.now) }
+{
+    let mut firsts = BTreeMap::new(alloc);
+    let mut place = records.len();
+    while place > 0 {
+        place -= 1;
+        let key = key_of(alloc, &records[place])?;
+        let _ = firsts.insert(key, place)?;
+    }
+    Ok(firsts)
+}
+
+/// Whether records of the type may not stand beside a CNAME (RFC 1034 section 3.6.2, RFC 2181 section 10.1, RFC 4035 section 2.5).
+pub(crate) fn is_data_type(record_type: RecordType) -> bool
+    ensures { result ≡ is_data_type record_type }
+{
+    !(record_type == RecordType::CNAME
+        || record_type == RecordType::KEY
+        || record_type == RecordType::RRSIG
+        || record_type == RecordType::NSEC)
+}
+
+/// The place of the first record of each name that may not stand beside a CNAME.
+pub(crate) fn data_of(
+    alloc: Global,
+    records: &[Record],
+) -> Result<BTreeMap<LowerName, usize>, AllocError>
+    ensures { IfOk result (HasData records.now records.now) }
+{
+    let mut others = BTreeMap::new(alloc);
+    let mut place = records.len();
+    while place > 0 {
+        place -= 1;
+        let record = &records[place];
+        if is_data_type(record.rdata.record_type()) {
+            let name = LowerName::new(alloc, &record.name)?;
+            let _ = others.insert(name, place)?;
+        }
+    }
+    Ok(others)
+}
+
+/// Whether the first label of a name is `*` (RFC 4592 section 2.1.1).
+fn is_wildcard(name: &Name) -> bool
+    ensures { result ≡ is_wildcard name.now.labels }
+{
+    let wire = name.as_wire();
+    wire.len() > 1 && wire[0] == 1 && wire[1] == b'*'
+}
+
+/// Whether a record is an address of a wildcard.
+fn is_wild_address(record: &Record) -> bool
+    ensures { result ≡ is_wild_address «record».now }
+{
+    let record_type = record.rdata.record_type();
+    let is_address = record_type == RecordType::A || record_type == RecordType::AAAA;
+    is_wildcard(&record.name) && is_address
+}
+
+/// The name above that of a record, in lower case.
+fn above_of(alloc: Global, record: &Record) -> Result<LowerName, AllocError>
+    ensures { IfOk result (λ name. name ≡ ancestor (lower_name «record».now.name) 1) }
+{
+    let mut name = LowerName::new(alloc, &record.name)?;
+    name.remove_first_label();
+    Ok(name)
+}
+
+/// The place of the first address of the wildcard right below each name.
+pub(crate) fn wilds_of(
+    alloc: Global,
+    records: &[Record],
+) -> Result<BTreeMap<LowerName, usize>, AllocError>
+    ensures { IfOk result (HasWilds records.now records.now) }
+{
+    let mut wilds = BTreeMap::new(alloc);
+    let mut place = records.len();
+    while place > 0 {
+        place -= 1;
+        let record = &records[place];
+        if is_wild_address(record) {
+            let name = above_of(alloc, record)?;
+            let _ = wilds.insert(name, place)?;
+        }
+    }
+    Ok(wilds)
+}
+
+/// The record at a place, if there is one.
+pub(crate) fn record_at(records: &[Record], place: usize) -> Option<&Record>
+    ensures { option_copied result ≡ slice_get records.now place }
+{
+    if place < records.len() {
+        Some(&records[place])
+    } else {
+        None
+    }
+}
+
+/// The first record of a name in lower case and a type.
+pub(crate) fn first_under<'z>(
+    records: &'z [Record],
+    firsts: &BTreeMap<RrKey, usize>,
+    key: &RrKey,
+) -> Option<&'z Record>
+    requires { HasFirsts records.now records.now firsts.now }
+    ensures { option_copied result ≡ find (is_of key.now.name key.now.record_type) records.now }
+{
+    match firsts.get(key) {
+        Some(place) => record_at(records, *place),
+        None => None,
+    }
+}
+
+/// The first record of a name in lower case that may not stand beside a CNAME.
+pub(crate) fn data_under<'z>(
+    records: &'z [Record],
+    others: &BTreeMap<LowerName, usize>,
+    name: &LowerName,
+) -> Option<&'z Record>
+    requires { HasData records.now records.now others.now }
+    ensures { option_copied result ≡ find (is_data_of name.now) records.now }
+{
+    match others.get(name) {
+        Some(place) => record_at(records, *place),
+        None => None,
+    }
+}
+
+/// The first address of the wildcard right below a name in lower case.
+pub(crate) fn wild_under<'z>(
+    records: &'z [Record],
+    wilds: &BTreeMap<LowerName, usize>,
+    name: &LowerName,
+) -> Option<&'z Record>
+    requires { HasWilds records.now records.now wilds.now }
+    ensures { option_copied result ≡ find (is_wild_address_of name.now) records.now }
+{
+    match wilds.get(name) {
+        Some(place) => record_at(records, *place),
+        None => None,
+    }
+}

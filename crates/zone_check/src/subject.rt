@@ -1,0 +1,259 @@
+//! The zone that is checked, with its records found by name.
+
+ghost use Rattle.std.specs.Prelude.{◌≡◌, ◌↔◌, Some, IfOk, IsTrue, true};
+ghost use Rattle.std.specs.List.{find, slice_get};
+ghost use Rattle.std.specs.Option.{option_copied};
+ghost use Rattle.wire_names.specs.rr.domain.NameOrder.{lower_name};
+ghost use Rattle.zone_check.specs.CheckedZones.{HasWildAddress, IsApex, IsBelowApex, IsBelowCut, IsBelowDname, IsBelowWildcard, IsCut, IsDnameOwner, IsInZone, Owns, OwnsAddress, OwnsData, first_of, is_data_of, is_wild_address_of};
+
+use crate::index;
+use std::alloc::{AllocError, Global};
+use std::collections::BTreeMap;
+use std::marker::Model;
+use wire_messages::rr::record::Record;
+use wire_messages::rr::record_type::RecordType;
+use wire_messages::rr::rr_key::RrKey;
+use wire_names::rr::domain::lower_name::LowerName;
+use wire_names::rr::domain::name::Name;
+
+/// The zone that is checked, with its records found by name.
+#[derive(Drop)]
+pub(crate) struct Subject<'z> {
+    origin: Name,
+    records: &'z [Record],
+    previous: Option<u32>,
+    // The place of the first record of each name and type.
+    firsts: BTreeMap<RrKey, usize>,
+    // The place of the first record of each name that may not stand beside a CNAME.
+    others: BTreeMap<LowerName, usize>,
+    // The place of the first address of the wildcard right below each name.
+    wilds: BTreeMap<LowerName, usize>,
+}
+
+impl<'z> Model for Subject<'z> {
+    ghost use Rattle.zone_check.specs.CheckedZones.{CheckedZone};
+    ghost use Rattle.zone_check.specs.Indexes.{HasData, HasFirsts, HasWilds};
+
+    ghost Value = { CheckedZone };
+
+    ghost view = { λ s. record { origin = s.origin; records = s.records.now; previous = s.previous } };
+
+    ghost invariant = { λ s. HasFirsts s.records.now s.records.now s.firsts × HasData s.records.now s.records.now s.others × HasWilds s.records.now s.records.now s.wilds };
+}
+
+impl<'z> Subject<'z> {
+    /// The zone of this apex, which is taken as fully qualified, and these records.
+    pub(crate) fn new(
+        alloc: Global,
+        origin: &Name,
+        records: &'z [Record],
+        previous: Option<u32>,
+    ) -> Result<Subject<'z>, AllocError>
+        ensures { IfOk result (λ subject. subject ≡ record { origin = record origin.now { is_fqdn = true }; records = records.now; previous = previous }) }
+    {
+        let mut apex = origin.clone()?;
+        apex.set_fqdn(true);
+        Ok(Subject {
+            origin: apex,
+            records,
+            previous,
+            firsts: index::firsts_of(alloc, records)?,
+            others: index::data_of(alloc, records)?,
+            wilds: index::wilds_of(alloc, records)?,
+        })
+    }
+
+    /// The record at a place of its file, from 0 on, if there is one.
+    pub(crate) fn record_at(&self, place: usize) -> Option<&Record>
+        ensures { option_copied result ≡ slice_get self.now.records place }
+    {
+        index::record_at(self.records, place)
+    }
+
+    /// The serial of the zone before.
+    pub(crate) fn previous(&self) -> Option<u32>
+        ensures { result ≡ self.now.previous }
+    {
+        self.previous
+    }
+
+    /// The name of its apex.
+    pub(crate) fn origin(&self) -> &Name
+        ensures { result.now ≡ self.now.origin }
+    {
+        &self.origin
+    }
+
+    /// The first record of a name in lower case and a type.
+    fn first_under(&self, key: &RrKey) -> Option<&Record>
+        ensures { option_copied result ≡ first_of self.now key.now.name key.now.record_type }
+    {
+        index::first_under(self.records, &self.firsts, key)
+    }
+
+    /// The first record of a name and a type.
+    pub(crate) fn first_of(
+        &self,
+        alloc: Global,
+        name: &Name,
+        record_type: RecordType,
+    ) -> Result<Option<&Record>, AllocError>
+        ensures { IfOk result (λ first. option_copied first ≡ first_of self.now name.now record_type) }
+    {
+        let key = RrKey::new(LowerName::new(alloc, name)?, record_type);
+        Ok(self.first_under(&key))
+    }
+
+    /// Whether a name owns records of a type.
+    pub(crate) fn owns(
+        &self,
+        alloc: Global,
+        name: &Name,
+        record_type: RecordType,
+    ) -> Result<bool, AllocError>
+        ensures { IfOk result (λ owns. IsTrue owns ↔ Owns self.now name.now record_type) }
+    {
+        let first = self.first_of(alloc, name, record_type)?;
+        Ok(first.is_some())
+    }
+
+    /// Whether a name owns an address.
+    pub(crate) fn owns_address(&self, alloc: Global, name: &Name) -> Result<bool, AllocError>
+        ensures { IfOk result (λ owns. IsTrue owns ↔ OwnsAddress self.now name.now) }
+    {
+        if self.owns(alloc, name, RecordType::A)? {
+            return Ok(true);
+        }
+        self.owns(alloc, name, RecordType::AAAA)
+    }
+
+    /// The first record of a name in lower case that may not stand beside a CNAME.
+    fn data_under(&self, name: &LowerName) -> Option<&Record>
+        ensures { option_copied result ≡ find (is_data_of name.now) self.now.records }
+    {
+        index::data_under(self.records, &self.others, name)
+    }
+
+    /// The first record of a name that may not stand beside a CNAME.
+    fn data_of(&self, alloc: Global, name: &Name) -> Result<Option<&Record>, AllocError>
+        ensures { IfOk result (λ first. option_copied first ≡ find (is_data_of name.now) self.now.records) }
+    {
+        let lowered = LowerName::new(alloc, name)?;
+        Ok(self.data_under(&lowered))
+    }
+
+    /// Whether a name owns records that may not stand beside a CNAME.
+    pub(crate) fn owns_data(&self, alloc: Global, name: &Name) -> Result<bool, AllocError>
+        ensures { IfOk result (λ owns. IsTrue owns ↔ OwnsData self.now name.now) }
+    {
+        let first = self.data_of(alloc, name)?;
+        Ok(first.is_some())
+    }
+
+    /// Whether a name is the apex or below it.
+    pub(crate) fn is_in_zone(&self, name: &Name) -> bool
+        ensures { IsTrue result ↔ IsInZone self.now name.now }
+    {
+        self.origin.zone_of(name)
+    }
+
+    /// Whether a name is below the apex.
+    pub(crate) fn is_below_apex(&self, name: &Name) -> bool
+        ensures { IsTrue result ↔ IsBelowApex self.now name.now }
+    {
+        self.origin.zone_of(name) && !name.zone_of(&self.origin)
+    }
+
+    /// Whether a name is the apex.
+    pub(crate) fn is_apex(&self, name: &Name) -> bool
+        ensures { IsTrue result ↔ IsApex self.now name.now }
+    {
+        self.origin.zone_of(name) && name.zone_of(&self.origin)
+    }
+
+    /// Whether a zone is cut at the name of a key for NS records, which is in lower case.
+    fn is_cut_at(&self, key: &RrKey) -> bool
+        requires { key.now.record_type ≡ 2 }
+        ensures { IsTrue result ↔ IsCut self.now key.now.name }
+    {
+        self.is_below_apex(key.name.as_name()) && self.first_under(key).is_some()
+    }
+
+    /// Whether a zone is cut at a name.
+    pub(crate) fn is_cut(&self, alloc: Global, name: &Name) -> Result<bool, AllocError>
+        ensures { IfOk result (λ is. IsTrue is ↔ IsCut self.now name.now) }
+    {
+        if !self.is_below_apex(name) {
+            return Ok(false);
+        }
+        self.owns(alloc, name, RecordType::NS)
+    }
+
+    /// Whether a zone is cut above a name.
+    pub(crate) fn is_below_cut(&self, alloc: Global, name: &Name) -> Result<bool, AllocError>
+        ensures { IfOk result (λ is. IsTrue is ↔ IsBelowCut self.now name.now) }
+    {
+        let mut key = RrKey::new(LowerName::new(alloc, name)?, RecordType::NS);
+        'above: while !key.name.as_name().as_wire().is_empty() {
+            key.name.remove_first_label();
+            if self.is_cut_at(&key) {
+                return Ok(true);
+            }
+        }
+        Ok(false)
+    }
+
+    /// The first address of the wildcard right below a name in lower case.
+    fn wild_under(&self, name: &LowerName) -> Option<&Record>
+        ensures { option_copied result ≡ find (is_wild_address_of name.now) self.now.records }
+    {
+        index::wild_under(self.records, &self.wilds, name)
+    }
+
+    /// Whether the wildcard right below a name in lower case owns an address.
+    fn has_wild_address(&self, name: &LowerName) -> bool
+        ensures { IsTrue result ↔ HasWildAddress self.now name.now }
+    {
+        self.wild_under(name).is_some()
+    }
+
+    /// Whether there is a wildcard with an address below a name above a name.
+    pub(crate) fn is_below_wildcard(&self, alloc: Global, name: &Name) -> Result<bool, AllocError>
+        ensures { IfOk result (λ is. IsTrue is ↔ IsBelowWildcard self.now name.now) }
+    {
+        let mut here = LowerName::new(alloc, name)?;
+        'above: while !here.as_name().as_wire().is_empty() {
+            here.remove_first_label();
+            if self.has_wild_address(&here) {
+                return Ok(true);
+            }
+        }
+        Ok(false)
+    }
+
+    /// Whether the name of a key for DNAME records, which is in lower case, is in the zone and has such records.
+    fn is_dname_owner(&self, key: &RrKey) -> bool
+        requires { key.now.record_type ≡ 39 }
+        ensures { IsTrue result ↔ IsDnameOwner self.now key.now.name }
+    {
+        self.is_in_zone(key.name.as_name()) && self.first_under(key).is_some()
+    }
+
+    /// Whether a name of the zone above a name has DNAME records.
+    pub(crate) fn is_below_dname(&self, alloc: Global, name: &Name) -> Result<bool, AllocError>
+        ensures { IfOk result (λ is. IsTrue is ↔ IsBelowDname self.now name.now) }
+    {
+        let dname = RecordType::new(DNAME);
+        let mut key = RrKey::new(LowerName::new(alloc, name)?, dname);
+        'above: while !key.name.as_name().as_wire().is_empty() {
+            key.name.remove_first_label();
+            if self.is_dname_owner(&key) {
+                return Ok(true);
+            }
+        }
+        Ok(false)
+    }
+}
+
+/// The number of the type DNAME (RFC 6672 section 2.1).
+pub(crate) const DNAME: u16 = 39;
