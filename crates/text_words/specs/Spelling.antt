@@ -121,9 +121,12 @@ HasNoNameLabels word = (is_fqdn : Bool) (labels : List (List ℕ)) → word.quot
 
 -- A word is no name with an origin: it stands in quotes, or spells none, or one of more than 255 bytes in wire form, or one that is relative with no origin.
 abbrev pub IsNoName : Option DomainName → Word → Type 0
-IsNoName origin word = (labels : List (List ℕ)) → word.quoted ≡ false → SpellsName origin word.bytes.now labels → name_len labels ≤ 255 → ⊥
+IsNoName o word = (labels : List (List ℕ)) → word.quoted ≡ false → SpellsName o word.bytes.now labels → name_len labels ≤ 255 → ⊥
 
--- A word spells one character string at most, one name with an origin, and one time.
+-- A text spells bytes in one way; a word spells one character string at most, one name with an origin, and one time.
+abbrev pub BytesSpelledOnce : Type 0
+BytesSpelledOnce = (text bytes others : List ℕ) → Spells any_byte text bytes → Spells any_byte text others → bytes ≡ others
+
 abbrev pub StringsSpelledOnce : Type 0
 StringsSpelledOnce = (word : Word) (octets others : List ℕ) → IsString word octets → IsString word others → octets ≡ others
 

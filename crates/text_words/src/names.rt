@@ -153,6 +153,7 @@ pub fn absolute_name(
         };
         append_labels(word, &mut labels, origin)?;
     }
+    let _len = labels.wire_len();
     Ok(labels.to_name(alloc, true)?)
 }
 

@@ -1,6 +1,6 @@
 //! The fields of a line, and of an entry of a zone file.
 
-ghost use Rattle.std.specs.Prelude.{◌≡◌, ◌≢◌, ◌↔◌, ¬◌, ℕ, false, ◌+◌, ◌≤◌, ◌<◌, ◌-◌, ◌^◌, get_or, length, min, IfErr, IfNone, IfOk, IfSome, IsFalse, IsTrue, OnErr, OnOk};
+ghost use Rattle.std.specs.Prelude.{◌≡◌, ◌≢◌, ◌↔◌, ℕ, false, ◌+◌, ◌≤◌, ◌<◌, ◌-◌, ◌^◌, get_or, length, min, IfErr, IfNone, IfOk, IfSome, IsFalse, IsTrue, OnErr, OnOk};
 ghost use Rattle.text_words.specs.declared.error.TextError.TheVariants.{Memory};
 ghost use Rattle.text_words.specs.declared.words.Word.{Word as WordOf};
 ghost use Rattle.text_words.specs.Spelling.{IsNoNumber, IsNoNumberWord, IsNumber};
