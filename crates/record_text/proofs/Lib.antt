@@ -1,2 +1,9 @@
+pub mod DataLen
+pub mod Digits
 pub mod HexGroups
+pub mod NoField
+pub mod NoRow
+pub mod OneLength
 pub mod RowSteps
+pub mod SameWords
+pub mod TypesOnce

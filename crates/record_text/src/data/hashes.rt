@@ -14,7 +14,8 @@ use text_words::{TextError, TextFault, Word};
 
 /// Puts a salt behind other bytes: its length, and so many bytes; `-` is none.
 pub(crate) fn put_salt(alloc: Global, word: &Word<'_>, data: &mut Vec<u8>) -> Result<(), TextError>
-    ensures { OnOk result ((origin : Option DomainName) → Puts (IsField origin field.Salt word.now) «data».old.items «data».new.items) }
+    ensures put { OnOk result ((origin : Option DomainName) → Puts (IsField origin field.Salt word.now) «data».old.items «data».new.items) }
+    ensures refused { IfErr result (λ e. e ≢ Memory → (origin : Option DomainName) → HasNone (IsField origin field.Salt word.now)) }
 {
     if word.quoted {
         return Err(word.fault(TextFault::BadHex));
@@ -38,7 +39,8 @@ pub(crate) fn put_salt(alloc: Global, word: &Word<'_>, data: &mut Vec<u8>) -> Re
 
 /// The value of a digit in base 32.
 fn digit_of(digit: u8) -> Option<u8>
-    ensures { IfSome result (λ value. (digit_value digit ≡ value) × (value < 32)) }
+    ensures value { IfSome result (λ value. (digit_value digit ≡ value) × (value < 32)) }
+    ensures none { IfNone result ((value : ℕ) → digit_value digit ≡ value → value < 32 → ⊥) }
 {
     match digit {
         b'0'..=b'9' => Some(digit - b'0'),
@@ -50,7 +52,8 @@ fn digit_of(digit: u8) -> Option<u8>
 
 /// The number that digits in base 32 are.
 fn number_of_group(digits: &[u8]) -> Option<u64>
-    ensures { IfSome result (IsBase32 digits.now) }
+    ensures value { IfSome result (IsBase32 digits.now) }
+    ensures none { IfNone result (HasNone (λ n. IsBase32 digits.now n × (n < 2 ^ 64))) }
 {
     let mut number = 0u64;
     for digit in digits {
@@ -62,7 +65,8 @@ fn number_of_group(digits: &[u8]) -> Option<u64>
 
 /// The bytes of a word in base 32, without padding and in whole groups of eight digits.
 fn groups(alloc: Global, word: &Word<'_>) -> Result<Vec<u8>, TextError>
-    ensures { IfOk result (λ bytes. SpellsGroups word.now.bytes.now bytes.items) }
+    ensures spelled { IfOk result (λ bytes. SpellsGroups word.now.bytes.now bytes.items) }
+    ensures refused { IfErr result (λ e. e ≢ Memory → HasNone (SpellsGroups word.now.bytes.now)) }
 {
     let bad = word.fault(TextFault::BadBase32);
     let text = word.bytes;
@@ -81,7 +85,8 @@ fn groups(alloc: Global, word: &Word<'_>) -> Result<Vec<u8>, TextError>
 
 /// Puts a hash behind other bytes: its length, and so many bytes.
 pub(crate) fn put_hash(alloc: Global, word: &Word<'_>, data: &mut Vec<u8>) -> Result<(), TextError>
-    ensures { OnOk result ((origin : Option DomainName) → Puts (IsField origin field.Hash word.now) «data».old.items «data».new.items) }
+    ensures put { OnOk result ((origin : Option DomainName) → Puts (IsField origin field.Hash word.now) «data».old.items «data».new.items) }
+    ensures refused { IfErr result (λ e. e ≢ Memory → (origin : Option DomainName) → HasNone (IsField origin field.Hash word.now)) }
 {
     if word.quoted {
         return Err(word.fault(TextFault::BadBase32));

@@ -72,7 +72,7 @@ fn date_seconds(date: Date) -> u64
 
 /// Whether a date is one of a calendar from 1970 on, months of 31 days and minutes of 61 seconds allowed.
 fn is_date(date: Date) -> bool
-    ensures { IsTrue result → IsDate date }
+    ensures { IsTrue result ↔ IsDate date }
 {
     let is_day = matches!(date.month, 1..=12) && matches!(date.day, 1..=31);
     let is_time = date.hour < 24 && date.minute < 60 && date.second < 61;
@@ -82,7 +82,8 @@ fn is_date(date: Date) -> bool
 /// The date of fourteen digits.
 fn date_of_digits(digits: &[u8]) -> Option<Date>
     requires { length digits.now ≡ 14 }
-    ensures { IfSome result (SpellsDate digits.now) }
+    ensures spelled { IfSome result (SpellsDate digits.now) }
+    ensures none { IfNone result (HasNone (SpellsDate digits.now)) }
 {
     Some(Date {
         year: number_of_digits(&digits[..4])?,
@@ -96,7 +97,8 @@ fn date_of_digits(digits: &[u8]) -> Option<Date>
 
 /// The seconds of a moment since the beginning of 1970, without what goes beyond 32 bits.
 pub(crate) fn moment(word: &Word<'_>) -> Result<u32, TextError>
-    ensures { IfOk result (λ n. (word.now.quoted ≡ false) × SpellsMoment word.now.bytes.now n) }
+    ensures spelled { IfOk result (λ n. (word.now.quoted ≡ false) × SpellsMoment word.now.bytes.now n) }
+    ensures refused { OnErr result (HasNone (λ n. (word.now.quoted ≡ false) × SpellsMoment word.now.bytes.now n)) }
 {
     let bad = word.fault(TextFault::BadDate);
     if word.quoted {

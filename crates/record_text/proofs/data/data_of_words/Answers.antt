@@ -9,7 +9,7 @@ use Rattle.text_words.specs.declared.error.TextError.{TextError}
 use Rattle.text_words.specs.declared.words.Word.{Word}
 use Rattle.record_text.specs.RecordText.{BeginGeneric, IsData, IsGenericData, SpellsData}
 use Rattle.record_text.specs.RecordText.SpellsData.{in_form, generic}
-use Rattle.record_text.proofs.data.spelled_data.Goals as goal
+use Rattle.record_text.proofs.data.data_of_words.Goals as goal
 
 as_form : (origin : Option DomainName) (number : ℕ) (words : List Word) (r : Result RData TextError) → ¬ (BeginGeneric words) → IfOk r (λ rdata. IsData origin number words (data_octets rdata)) → IfOk r (SpellsData origin number words)
 as_form origin number words (Ok rdata) other h = in_form other h
