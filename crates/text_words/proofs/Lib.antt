@@ -1,3 +1,6 @@
+pub mod NoBytes
+pub mod NoLabels
+pub mod NoUnits
 pub mod OneReading
 pub mod SameBytes
 pub mod SpelledOnce

@@ -1,8 +1,8 @@
 -- What single words of a zone's text spell: bytes, numbers, times, names and character strings (RFC 1035 sections 3.3 and 5.1).
-use Rattle.std.specs.Prelude.{◌≡◌, ◌≢◌, ℕ, ◌+◌, ◌*◌, ◌<◌, ◌==◌, if◌then◌else◌, Bool, true, false, List, [], ◌∷◌, ◌++◌, length, IsTrue, Option, Some, None}
+use Rattle.std.specs.Prelude.{◌≡◌, ◌≢◌, ℕ, ◌+◌, ◌*◌, ◌^◌, ◌<◌, ◌≤◌, ◌==◌, ◌⊎◌, if◌then◌else◌, Bool, true, false, List, [], ◌∷◌, ◌++◌, length, IsTrue, Option, Some, None}
 use Rattle.std.specs.Char.{to_ascii_lowercase}
 use Rattle.std.specs.Str.Parse.{IsNumeral, digits_value}
-use Rattle.wire_names.specs.rr.domain.DomainName.{DomainName, IsLabel}
+use Rattle.wire_names.specs.rr.domain.DomainName.{DomainName, IsLabel, name_len}
 use Rattle.wire_messages.specs.rr.RecordData.{character_string}
 use Rattle.text_words.specs.declared.words.Word.{Word}
 
@@ -85,7 +85,48 @@ pub record IsString (word : Word) (octets : List ℕ) : Type 0 where
   pub short : length bytes < 256
   pub counted : octets ≡ character_string bytes
 
--- A word spells one character string at most, one name with an origin, and one time.
+-- No byte is spelled at the front of a text: an escape is not whole, or the text is empty.
+abbrev pub HasNoFirstByte : List ℕ → Type 0
+HasNoFirstByte text = (piece behind : List ℕ) (byte : ℕ) (is_bare : Bool) → SpellsByte piece byte is_bare → text ≡ piece ++ behind → ⊥
+
+-- A word spells no bytes: an escape in it is not whole.
+abbrev pub SpellsNoBytes : Word → Type 0
+SpellsNoBytes word = (bytes : List ℕ) → Spells any_byte word.bytes.now bytes → ⊥
+
+-- A word is no character string: it spells no bytes, or more than 255.
+abbrev pub IsNoString : Word → Type 0
+IsNoString word = (octets : List ℕ) → IsString word octets → ⊥
+
+-- Digits are no number of 32 bits.
+abbrev pub IsNoNumber : List ℕ → Type 0
+IsNoNumber text = (n : ℕ) → IsNumber text n → n < 2 ^ 32 → ⊥
+
+-- A word is no number of 32 bits, and no time of 32 bits: it stands in quotes, or spells none, or one that is greater.
+abbrev pub IsNoNumberWord : Word → Type 0
+IsNoNumberWord word = (n : ℕ) → word.quoted ≡ false → IsNumber word.bytes.now n → n < 2 ^ 32 → ⊥
+
+abbrev pub IsNoTime : Word → Type 0
+IsNoTime word = (n : ℕ) → word.quoted ≡ false → SpellsTime word.bytes.now n → n < 2 ^ 32 → ⊥
+
+-- No label stands at the front of a text, to its end or to a dot behind it.
+abbrev pub HasNoLabel : List ℕ → Type 0
+HasNoLabel text = (piece label : List ℕ) → SpellsLabel piece label → (text ≡ piece) ⊎ ((behind : List ℕ) × (text ≡ piece ++ 46 ∷ behind)) → ⊥
+
+-- No labels of a name stand in a text that have at most 255 bytes in wire form, the end byte counted (RFC 1035 section 2.3.4).
+abbrev pub HasNoLabels : List ℕ → Type 0
+HasNoLabels text = (dot : Bool) (labels : List (List ℕ)) → AreLabelsWithDot dot text labels → name_len labels ≤ 255 → ⊥
+
+abbrev pub HasNoNameLabels : Word → Type 0
+HasNoNameLabels word = (is_fqdn : Bool) (labels : List (List ℕ)) → word.quoted ≡ false → AreNameLabels is_fqdn word.bytes.now labels → name_len labels ≤ 255 → ⊥
+
+-- A word is no name with an origin: it stands in quotes, or spells none, or one of more than 255 bytes in wire form, or one that is relative with no origin.
+abbrev pub IsNoName : Option DomainName → Word → Type 0
+IsNoName o word = (labels : List (List ℕ)) → word.quoted ≡ false → SpellsName o word.bytes.now labels → name_len labels ≤ 255 → ⊥
+
+-- A text spells bytes in one way; a word spells one character string at most, one name with an origin, and one time.
+abbrev pub BytesSpelledOnce : Type 0
+BytesSpelledOnce = (text bytes others : List ℕ) → Spells any_byte text bytes → Spells any_byte text others → bytes ≡ others
+
 abbrev pub StringsSpelledOnce : Type 0
 StringsSpelledOnce = (word : Word) (octets others : List ℕ) → IsString word octets → IsString word others → octets ≡ others
 

@@ -126,6 +126,13 @@ IsNext kind text place depth None next next_depth = IsEndFrom kind text place de
 abbrev pub HasNoNext : TextKind → List ℕ → ℕ → ℕ → Type 0
 HasNoNext kind text place depth = (found : Option Word) (next next_depth : ℕ) → IsNext kind text place depth found next next_depth → ⊥
 
+-- No word stands next, and no end does.
+abbrev pub HasNoWord : TextKind → List ℕ → ℕ → ℕ → Type 0
+HasNoWord kind text place depth = (word : Word) (next next_depth : ℕ) → IsWordFrom kind text place depth word next next_depth → ⊥
+
+abbrev pub HasNoEnd : TextKind → List ℕ → ℕ → ℕ → Type 0
+HasNoEnd kind text place depth = (end : ℕ) → IsEndFrom kind text place depth end → ⊥
+
 -- words one behind the other, from a place to a place
 pub data AreWords (kind : TextKind) (text : List ℕ) (place depth : ℕ) : List Word → ℕ → ℕ → Type 0 where
   none : AreWords kind text place depth [] place depth

@@ -1,7 +1,8 @@
 //! Bytes that are spelled in text.
 
-ghost use Rattle.std.specs.Prelude.{◌≡◌, ◌≤◌, ◌<◌, ◌+◌, [], ◌∷◌, false, true, take, get_or, length, IfOk, IfSome, OnOk};
-ghost use Rattle.text_words.specs.Spelling.{IsString, Puts};
+ghost use Rattle.std.specs.Prelude.{◌≡◌, ◌≢◌, ◌≤◌, ◌<◌, ◌+◌, ℕ, [], ◌∷◌, false, true, take, get_or, length, IfErr, IfNone, IfOk, IfSome, OnErr, OnOk};
+ghost use Rattle.text_words.specs.declared.error.TextError.TheVariants.{Memory};
+ghost use Rattle.text_words.specs.Spelling.{HasNoFirstByte, IsNoString, IsString, Puts, SpellsNoBytes};
 ghost use Rattle.text_words.specs.Spelling.{IsNumber, Spells, SpellsByte, any_byte};
 
 use crate::error::{TextError, TextFault};
@@ -23,6 +24,7 @@ pub(crate) struct SpelledByte {
 fn byte_of(hundreds: u8, tens: u8, ones: u8) -> Option<u8>
     ensures value { IfSome result (IsNumber (hundreds ∷ tens ∷ ones ∷ [])) }
     ensures small { IfSome result (λ byte. byte < 256) }
+    ensures none { IfNone result ((byte : ℕ) → IsNumber (hundreds ∷ tens ∷ ones ∷ []) byte → byte < 256 → ⊥) }
 {
     if !tens.is_ascii_digit() || !ones.is_ascii_digit() || !hundreds.is_ascii_digit() {
         return None;
@@ -38,6 +40,7 @@ fn escaped_byte(behind: &[u8]) -> Option<SpelledByte>
     ensures within { IfSome result (λ spelled. spelled.len ≤ 1 + length behind.now) }
     ensures spelled { IfSome result (λ spelled. SpellsByte (take spelled.len (92 ∷ behind.now)) spelled.byte spelled.is_bare) }
     ensures escaped { IfSome result (λ spelled. spelled.is_bare ≡ false) }
+    ensures none { IfNone result (HasNoFirstByte (92 ∷ behind.now)) }
 {
     let byte = *behind.first()?;
     if !byte.is_ascii_digit() {
@@ -62,6 +65,7 @@ pub(crate) fn first_byte(text: &[u8]) -> Option<SpelledByte>
     ensures within { IfSome result (λ spelled. spelled.len ≤ length text.now) }
     ensures spelled { IfSome result (λ spelled. SpellsByte (take spelled.len text.now) spelled.byte spelled.is_bare) }
     ensures bare { IfSome result (λ spelled. spelled.is_bare ≡ true → get_or text.now 0 0 ≡ spelled.byte) }
+    ensures none { IfNone result (HasNoFirstByte text.now) }
 {
     let [first, behind @ ..] = text else {
         return None;
@@ -84,6 +88,7 @@ pub fn read_string(word: &Word<'_>, string: &mut [u8; MAX_STRING_LEN]) -> Result
     ensures short { IfOk result (λ len. len ≤ 255) }
     ensures sized { IfOk result (λ len. length (take len string.new) ≡ len) }
     ensures spelled { IfOk result (λ len. Spells any_byte word.now.bytes.now (take len string.new)) }
+    ensures refused { OnErr result (IsNoString word.now) }
 {
     let text = word.bytes;
     let mut place = 0;
@@ -104,7 +109,8 @@ pub fn read_string(word: &Word<'_>, string: &mut [u8; MAX_STRING_LEN]) -> Result
 
 /// Puts the bytes that a word spells behind others.
 pub fn put_spelled(word: &Word<'_>, bytes: &mut Vec<u8>) -> Result<(), TextError>
-    ensures { OnOk result (Puts (Spells any_byte word.now.bytes.now) bytes.old.items bytes.new.items) }
+    ensures put { OnOk result (Puts (Spells any_byte word.now.bytes.now) bytes.old.items bytes.new.items) }
+    ensures refused { IfErr result (λ e. e ≢ Memory → SpellsNoBytes word.now) }
 {
     let text = word.bytes;
     let mut place = 0;
@@ -120,7 +126,8 @@ pub fn put_spelled(word: &Word<'_>, bytes: &mut Vec<u8>) -> Result<(), TextError
 
 /// Puts the character string that a word spells behind other bytes: its length, and so many bytes.
 pub fn put_string(word: &Word<'_>, bytes: &mut Vec<u8>) -> Result<(), TextError>
-    ensures { OnOk result (Puts (IsString word.now) bytes.old.items bytes.new.items) }
+    ensures put { OnOk result (Puts (IsString word.now) bytes.old.items bytes.new.items) }
+    ensures refused { IfErr result (λ e. e ≢ Memory → IsNoString word.now) }
 {
     let mut string = [0; MAX_STRING_LEN];
     let len = read_string(word, &mut string)?;

@@ -1,8 +1,11 @@
 //! Names in text.
 
-ghost use Rattle.std.specs.Prelude.{◌≡◌, ◌≤◌, ◌<◌, [], ◌++◌, false, true, get_or, length, take, IfOk, OnOk};
+ghost use Rattle.std.specs.Prelude.{◌≡◌, ◌≢◌, ◌≤◌, ◌<◌, [], ◌++◌, false, true, get_or, length, take, IfErr, IfOk, OnErr, OnOk};
 ghost use Rattle.std.specs.Option.{option_copied};
+ghost use Rattle.wire_names.specs.rr.domain.DomainName.{name_len};
+ghost use Rattle.text_words.specs.declared.error.TextError.TheVariants.{Memory};
 ghost use Rattle.text_words.specs.Spelling.{AreLabelsWithDot, AreNameLabels, Spells, SpellsName, bare_in_label};
+ghost use Rattle.text_words.specs.Spelling.{HasNoLabel, HasNoLabels, HasNoNameLabels, IsNoName};
 
 use crate::error::{TextError, TextFault};
 use crate::escapes::first_byte;
@@ -29,6 +32,7 @@ fn read_label(
     ensures spelled { IfOk result (λ ends. Spells bare_in_label (take ends.1 text.now) (take ends.0 label.new)) }
     ensures sized { IfOk result (λ ends. length (take ends.0 label.new) ≡ ends.0) }
     ensures dot { IfOk result (λ ends. ends.1 < length text.now → get_or text.now ends.1 0 ≡ 46) }
+    ensures refused { OnErr result (HasNoLabel text.now) }
 {
     let mut place = 0;
     let mut len = 0;
@@ -63,7 +67,8 @@ fn is_bare_in_label(byte: u8) -> bool
 /// Reads labels with dots between them, and whether a dot stands last.
 fn read_labels(word: &Word<'_>, labels: &mut Labels) -> Result<bool, TextError>
     requires { labels.old ≡ [] }
-    ensures { IfOk result (λ dot. AreLabelsWithDot dot word.now.bytes.now labels.new) }
+    ensures labels { IfOk result (λ dot. AreLabelsWithDot dot word.now.bytes.now labels.new) }
+    ensures refused { OnErr result (HasNoLabels word.now.bytes.now) }
 {
     let text = word.bytes;
     let mut place = 0;
@@ -93,6 +98,7 @@ fn spelled_labels(word: &Word<'_>, labels: &mut Labels) -> Result<bool, TextErro
     requires { labels.old ≡ [] }
     ensures plain { OnOk result (word.now.quoted ≡ false) }
     ensures spelled { IfOk result (λ is_fqdn. AreNameLabels is_fqdn word.now.bytes.now labels.new) }
+    ensures refused { OnErr result (HasNoNameLabels word.now) }
 {
     if word.quoted {
         return Err(word.fault(TextFault::BadName));
@@ -108,7 +114,8 @@ fn spelled_labels(word: &Word<'_>, labels: &mut Labels) -> Result<bool, TextErro
 
 /// Puts the labels of a name behind others. With them a name has at most 255 bytes.
 fn append_labels(word: &Word<'_>, labels: &mut Labels, name: &Name) -> Result<(), TextError>
-    ensures { IfOk result (λ _. labels.new ≡ labels.old ++ name.now.labels) }
+    ensures behind { IfOk result (λ _. labels.new ≡ labels.old ++ name.now.labels) }
+    ensures refused { OnErr result (255 < name_len (labels.old ++ name.now.labels)) }
 {
     let wire = name.as_wire();
     if labels.wire_len() + wire.len() > MAX_LABELS_LEN {
@@ -135,6 +142,8 @@ pub fn absolute_name(
     ensures qualified { IfOk result (λ name. name.is_fqdn ≡ true) }
     ensures plain { OnOk result (word.now.quoted ≡ false) }
     ensures spelled { IfOk result (λ name. SpellsName (option_copied origin.entry) word.now.bytes.now name.labels) }
+    ensures short { IfOk result (λ name. name_len name.labels ≤ 255) }
+    ensures refused { IfErr result (λ e. e ≢ Memory → IsNoName (option_copied origin.entry) word.now) }
 {
     let mut labels = Labels::new();
     let is_fqdn = spelled_labels(word, &mut labels)?;
@@ -144,6 +153,7 @@ pub fn absolute_name(
         };
         append_labels(word, &mut labels, origin)?;
     }
+    let _len = labels.wire_len();
     Ok(labels.to_name(alloc, true)?)
 }
 

@@ -1,15 +1,16 @@
 //! Times in text.
 
-ghost use Rattle.std.specs.Prelude.{◌≡◌, ◌+◌, ◌-◌, ◌*◌, ◌<◌, ◌^◌, false, unwrap_or, IfOk, IfSome};
+ghost use Rattle.std.specs.Prelude.{◌≡◌, ℕ, ◌+◌, ◌-◌, ◌*◌, ◌<◌, ◌≤◌, ◌^◌, false, unwrap_or, IfNone, IfOk, IfSome, OnErr};
 ghost use Rattle.std.specs.Char.{IsAsciiDigit};
-ghost use Rattle.text_words.specs.Spelling.{IsNumber, SpellsTime, SpellsUnits, unit_seconds};
+ghost use Rattle.text_words.specs.Spelling.{IsNoNumberWord, IsNoTime, IsNumber, SpellsTime, SpellsUnits, unit_seconds};
 
 use crate::error::{TextError, TextFault};
 use crate::words::{Word, are_digits};
 
 /// The TTL of a field: a decimal number of seconds.
 pub fn ttl_of(word: &Word<'_>) -> Result<u32, TextError>
-    ensures { IfOk result (λ n. (word.now.quoted ≡ false) × IsNumber word.now.bytes.now n × (n < 2 ^ 32)) }
+    ensures ttl { IfOk result (λ n. (word.now.quoted ≡ false) × IsNumber word.now.bytes.now n × (n < 2 ^ 32)) }
+    ensures refused { OnErr result (IsNoNumberWord word.now) }
 {
     match word.number() {
         Err(
@@ -42,7 +43,8 @@ fn unit_seconds(unit: u8) -> Option<u64>
 /// The number that a digit behind a number, or behind none, makes.
 fn with_digit(number: Option<u32>, digit: u8) -> Option<u32>
     requires { IsAsciiDigit digit }
-    ensures { IfSome result (λ n. n ≡ unwrap_or number 0 * 10 + (digit - 48)) }
+    ensures number { IfSome result (λ n. n ≡ unwrap_or number 0 * 10 + (digit - 48)) }
+    ensures none { IfNone result (2 ^ 32 ≤ unwrap_or number 0 * 10 + (digit - 48)) }
 {
     let tens = number.unwrap_or(0).checked_mul(10)?;
     tens.checked_add(u32::from(digit - b'0'))
@@ -50,7 +52,8 @@ fn with_digit(number: Option<u32>, digit: u8) -> Option<u32>
 
 /// The sum of numbers with a unit behind each.
 fn units(word: &Word<'_>) -> Result<u64, TextError>
-    ensures { IfOk result (SpellsUnits word.now.bytes.now) }
+    ensures units { IfOk result (SpellsUnits word.now.bytes.now) }
+    ensures refused { OnErr result ((n : ℕ) → SpellsUnits word.now.bytes.now n → n < 2 ^ 32 → ⊥) }
 {
     let not_a_ttl = word.fault(TextFault::NotATtl);
     let too_great = word.fault(TextFault::NumberOutOfRange);
@@ -76,7 +79,8 @@ fn units(word: &Word<'_>) -> Result<u64, TextError>
 
 /// The seconds of a field of a zone file: a number of them, or numbers with a unit behind each, as `90`, `1h30m` or `2W`.
 pub fn seconds_of(word: &Word<'_>) -> Result<u32, TextError>
-    ensures { IfOk result (λ n. (word.now.quoted ≡ false) × SpellsTime word.now.bytes.now n × (n < 2 ^ 32)) }
+    ensures time { IfOk result (λ n. (word.now.quoted ≡ false) × SpellsTime word.now.bytes.now n × (n < 2 ^ 32)) }
+    ensures refused { OnErr result (IsNoTime word.now) }
 {
     if word.quoted || word.bytes.is_empty() {
         return Err(word.fault(TextFault::NotATtl));

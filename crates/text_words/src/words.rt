@@ -1,11 +1,13 @@
 //! The fields of a line, and of an entry of a zone file.
 
-ghost use Rattle.std.specs.Prelude.{◌≡◌, ◌≢◌, ℕ, false, ◌+◌, ◌≤◌, ◌<◌, ◌-◌, ◌^◌, get_or, length, min, IfErr, IfNone, IfOk, IfSome, IsFalse, IsTrue, OnErr, OnOk};
+ghost use Rattle.std.specs.Prelude.{◌≡◌, ◌≢◌, ◌↔◌, ℕ, false, ◌+◌, ◌≤◌, ◌<◌, ◌-◌, ◌^◌, get_or, length, min, IfErr, IfNone, IfOk, IfSome, IsFalse, IsTrue, OnErr, OnOk};
 ghost use Rattle.text_words.specs.declared.error.TextError.TheVariants.{Memory};
 ghost use Rattle.text_words.specs.declared.words.Word.{Word as WordOf};
-ghost use Rattle.text_words.specs.Spelling.{IsNumber};
+ghost use Rattle.text_words.specs.Spelling.{IsNoNumber, IsNoNumberWord, IsNumber};
 ghost use Rattle.text_words.specs.declared.words.TextKind.TheVariants.{Line, ZoneFile};
-ghost use Rattle.text_words.specs.Words.{HasNoNext, HasNoWords, IsGapEnd};
+ghost use Rattle.std.specs.Str.{IsUtf8};
+ghost use Rattle.std.specs.Str.Parse.{AllDigits};
+ghost use Rattle.text_words.specs.Words.{HasNoEnd, HasNoNext, HasNoWord, HasNoWords, IsGapEnd};
 ghost use Rattle.text_words.specs.Words.{AreWordsTo, CrossesLines, IsByteAt, IsComment, IsEndFrom, IsGap, IsNext, IsPiece};
 ghost use Rattle.text_words.specs.Words.{IsPlainWord, IsQuotedWord, IsRestOfLine, IsRunTo, IsWordFrom, ends_quoted, ends_word, is_blank};
 
@@ -46,7 +48,8 @@ impl<'a> Word<'a> {
 
     /// The field as text, where it stood in no quotes.
     pub fn plain_text(&self) -> Option<&'a str>
-        ensures { IfSome result (λ text. (self.now.quoted ≡ false) × (text.now ≡ self.now.bytes.now)) }
+        ensures text { IfSome result (λ text. (self.now.quoted ≡ false) × (text.now ≡ self.now.bytes.now)) }
+        ensures none { IfNone result (self.now.quoted ≡ false → ¬ (IsUtf8 self.now.bytes.now)) }
     {
         if self.quoted {
             return None;
@@ -56,7 +59,8 @@ impl<'a> Word<'a> {
 
     /// The decimal number that the field is, without a sign.
     pub fn number(&self) -> Result<u32, TextError>
-        ensures { IfOk result (λ n. (self.now.quoted ≡ false) × IsNumber self.now.bytes.now n × (n < 2 ^ 32)) }
+        ensures number { IfOk result (λ n. (self.now.quoted ≡ false) × IsNumber self.now.bytes.now n × (n < 2 ^ 32)) }
+        ensures refused { OnErr result (IsNoNumberWord self.now) }
     {
         if self.quoted || self.bytes.is_empty() || !are_digits(self.bytes) {
             return Err(self.fault(TextFault::BadNumber));
@@ -66,13 +70,21 @@ impl<'a> Word<'a> {
 }
 
 /// Whether all bytes are decimal digits.
-pub(crate) fn are_digits(bytes: &[u8]) -> bool {
-    bytes.iter().all(|byte| byte.is_ascii_digit())
+pub(crate) fn are_digits(bytes: &[u8]) -> bool
+    ensures { IsTrue result ↔ AllDigits 10 bytes.now }
+{
+    for byte in bytes {
+        if !byte.is_ascii_digit() {
+            return false;
+        }
+    }
+    true
 }
 
 /// The number of 32 bits that decimal digits are, at least one.
 pub fn number_of_digits(bytes: &[u8]) -> Option<u32>
-    ensures { IfSome result (λ n. IsNumber bytes.now n × (n < 2 ^ 32)) }
+    ensures number { IfSome result (λ n. IsNumber bytes.now n × (n < 2 ^ 32)) }
+    ensures none { IfNone result (IsNoNumber bytes.now) }
 {
     if bytes.is_empty() {
         return None;
@@ -484,6 +496,7 @@ impl<'a> Words<'a> {
         ensures text { self.new.text ≡ self.old.text }
         ensures kind { self.new.kind ≡ self.old.kind }
         ensures word { IfOk result (λ word. IsWordFrom self.old.kind self.old.text self.old.place self.old.depth word self.new.place self.new.depth) }
+        ensures none { OnErr result (HasNoWord self.old.kind self.old.text self.old.place self.old.depth) }
     {
         match self.next()? {
             Some(word) => Ok(word),
@@ -493,7 +506,8 @@ impl<'a> Words<'a> {
 
     /// Whether nothing is left.
     pub fn end(&mut self) -> Result<(), TextError>
-        ensures { OnOk result (IsEndFrom self.old.kind self.old.text self.old.place self.old.depth self.new.place) }
+        ensures end { OnOk result (IsEndFrom self.old.kind self.old.text self.old.place self.old.depth self.new.place) }
+        ensures none { OnErr result (HasNoEnd self.old.kind self.old.text self.old.place self.old.depth) }
     {
         match self.next()? {
             Some(word) => Err(word.fault(TextFault::TooMuchText)),

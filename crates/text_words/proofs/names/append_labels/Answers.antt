@@ -2,7 +2,7 @@ use Rattle.std.proofs.Common.{◌≡◌, ◌<◌, ◌≤◌, ◌∙◌, ◌+◌,
 use Rattle.std.proofs.lemmas.List.{append_assoc, append-nil, take_all, take_more}
 use Rattle.std.proofs.lemmas.List.Elements.{All-get_or}
 use Rattle.wire_names.specs.rr.domain.DomainName.{wire_form, label_offset, IsLabel}
-use Rattle.wire_names.proofs.lemmas.rr.domain.WireForm.{Step, step, below_at, wire-push}
+use Rattle.wire_names.proofs.lemmas.rr.domain.WireForm.{Step, name_len-wire_form, step, below_at, wire-append, wire-push}
 use Rattle.text_words.proofs.names.append_labels.Goals as goal
 
 -- the label at the place, and where it ends
@@ -69,8 +69,14 @@ labels-preserved c =
       size = omega (arith, ap (λ (xs : List (List ℕ)). length (wire_form xs)) pushed, ap length (wire-push c.labels.labels (get_or ls i [])), length-append (wire_form c.labels.labels) (length (get_or ls i []) ∷ get_or ls i []), h.count, c.labels.invariant.size);
     }
 
-pub returns : goal.returns
-returns c =
+pub returns-clause-behind : goal.returns-clause-behind
+returns-clause-behind c =
     let ls : List (List ℕ) = c.args.name.now.labels in
     let all : c.labels.count ≡ length ls = below_at ls c.labels.count c.labels.invariant.below (omega (arith, ap length c.as_wire-wire.ensures.labels, c.labels.invariant.at)) in
     c.labels.invariant.labels ∙ ap (λ (xs : List (List ℕ)). c.args.labels.now ++ xs) (ap (λ (n : ℕ). take n ls) all ∙ take_all (length ls) ls (omega arith))
+
+pub returns-then-wire_len-wire-gt-MAX_LABELS_LEN-clause-refused : goal.returns-then-wire_len-wire-gt-MAX_LABELS_LEN-clause-refused
+returns-then-wire_len-wire-gt-MAX_LABELS_LEN-clause-refused c =
+    let own : List (List ℕ) = c.args.labels.now in
+    let more : List (List ℕ) = c.args.name.now.labels in
+    omega (arith, name_len-wire_form (own ++ more), ap length (wire-append own more), length-append (wire_form own) (wire_form more), ap length c.as_wire-wire.ensures.labels, c.wire_len.ensures.size, c.if-wire_len-wire-gt-MAX_LABELS_LEN.true)
