@@ -12,10 +12,10 @@ use Rattle.wire_messages.specs.serialize.layout.RecordLayout.{fixed_fields}
 use Rattle.wire_messages.specs.serialize.writing.FullForm.{data_octets, record_octets}
 use Rattle.wire_messages.specs.serialize.writing.RecordSize.{data_len, full_size}
 use Rattle.record_text.specs.RecordText.{HasNone, IsData}
-use Rattle.record_text.proofs.OneLength.{data_length}
+use Rattle.record_text.proofs.OneLength.{Base64Once, data_length}
 use Rattle.record_text.proofs.TypesOnce.{types_once}
 use Rattle.text_words.specs.declared.words.Word.{Word}
-use Rattle.text_words.specs.Spelling.{NamesSpelledOnce, StringsSpelledOnce}
+use Rattle.text_words.specs.Spelling.{BytesSpelledOnce, NamesSpelledOnce, StringsSpelledOnce}
 
 abbrev pub FullSizes : Type 0
 FullSizes = (r : Record RData) → length (record_octets r) ≡ full_size r
@@ -28,7 +28,7 @@ full_len sizes rdata =
     let size : length (record_octets (root_of rdata)) ≡ full_size (root_of rdata) = sizes (root_of rdata) in
     ?
 
-base64_once : (a b : List ℕ) → IsBytes a → IsBytes b → encode_of standard a ≡ encode_of standard b → a ≡ b
+base64_once : Base64Once
 base64_once a b one two same =
     let left : decode_of standard (encode_of standard a) ≡ Ok a = decode_of-encode_of standard a ? one in
     let right : decode_of standard (encode_of standard b) ≡ Ok b = decode_of-encode_of standard b ? two in
@@ -36,8 +36,8 @@ base64_once a b one two same =
     cc
 
 -- Words that are data of more bytes than their length can tell are no shorter data.
-pub too_long : FullSizes → StringsSpelledOnce → NamesSpelledOnce → (origin : Option DomainName) (number : ℕ) (words : List Word) (rdata : RData) → IsData origin number words (data_octets rdata) → 65535 < data_len rdata
+pub too_long : FullSizes → BytesSpelledOnce → StringsSpelledOnce → NamesSpelledOnce → (origin : Option DomainName) (number : ℕ) (words : List Word) (rdata : RData) → IsData origin number words (data_octets rdata) → 65535 < data_len rdata
     → HasNone (λ (other : RData). IsData origin number words (data_octets other) × (data_len other ≤ 65535))
-too_long sizes strings names origin number words rdata is long other (is', short) =
-    let same : length (data_octets rdata) ≡ length (data_octets other) = data_length strings names types_once base64_once origin number words (data_octets rdata) (data_octets other) is is' in
+too_long sizes bytes strings names origin number words rdata is long other (is', short) =
+    let same : length (data_octets rdata) ≡ length (data_octets other) = data_length bytes strings names types_once base64_once origin number words (data_octets rdata) (data_octets other) is is' in
     omega (arith, same, full_len sizes rdata, full_len sizes other, long, short)

@@ -13,24 +13,24 @@ use Rattle.record_text.specs.declared.data.field.Rest.TheVariants as kind
 use Rattle.text_words.specs.declared.words.Word.{Word}
 use Rattle.text_words.specs.Spelling.{IsString}
 use Rattle.record_text.specs.RecordText.{AreFields, AreFieldsBefore, ArePlain, AreStrings, AreTypes, HasNone, IsData, IsField, IsRest, IsRow, IsTypeSet, SpellsType, bytes_of}
-use Rattle.record_text.specs.RecordText.AreFields as fields_of
-use Rattle.record_text.specs.RecordText.AreStrings as strings_of
-use Rattle.record_text.specs.RecordText.AreTypes as types_of
+use Rattle.record_text.specs.RecordText.AreFields.{none as no_fields, more as one_field}
+use Rattle.record_text.specs.RecordText.AreStrings.{none as no_words, more as one_string}
+use Rattle.record_text.specs.RecordText.AreTypes.{none as no_names, more as one_type}
 use Rattle.record_text.specs.RecordText.IsData.{in_form}
 use Rattle.record_text.specs.RecordText.IsRest.{nothing, strings, hex, base64, types}
 use Rattle.record_text.specs.TypeTable.{TypeRow, row_of}
 
 pub fields_len : {origin : Option DomainName} {fields : List Field} {words : List Word} {octets : List ℕ} → AreFields origin fields words octets → length words ≡ length fields
-fields_len fields_of.none = refl
-fields_len (fields_of.more {fields = fs} {words = ws} {field = f} {word = w} before one) =
+fields_len no_fields = refl
+fields_len (one_field {fields = fs} {words = ws} {field = f} {word = w} before one) =
     let e : length ws ≡ length fs = fields_len before in
     omega (arith, length_push fs f, length_push ws w)
 
 -- the word of a field
 pub field_at : {origin : Option DomainName} {fields : List Field} {words : List Word} {octets : List ℕ} → AreFields origin fields words octets → (i : ℕ) (e : Field) (d : Word) → i < length fields
     → (own : List ℕ) × IsField origin (get_or fields i e) (get_or words i d) own
-field_at fields_of.none i e d below = absurd (omega arith)
-field_at {origin = origin} (fields_of.more {fields = fs} {words = ws} {field = f} {word = w} {own = own} before one) i e d below =
+field_at no_fields i e d below = absurd (omega arith)
+field_at {origin = origin} (one_field {fields = fs} {words = ws} {field = f} {word = w} {own = own} before one) i e d below =
     let len : length ws ≡ length fs = fields_len before in
     elim (cases_lt i (length fs)) [
       | inl h ↦
@@ -77,8 +77,8 @@ none_of_row origin number row words found none octets (in_form {row = other} fou
     none octets (subst (λ (r : TypeRow). IsRow origin r words octets) same is)
 
 pub string_at : {words : List Word} {octets : List ℕ} → AreStrings words octets → (i : ℕ) (d : Word) → i < length words → (own : List ℕ) × IsString (get_or words i d) own
-string_at strings_of.none i d below = absurd (omega arith)
-string_at (strings_of.more {words = ws} {own = own} {word = w} before one) i d below = elim (cases_lt i (length ws)) [
+string_at no_words i d below = absurd (omega arith)
+string_at (one_string {words = ws} {own = own} {word = w} before one) i d below = elim (cases_lt i (length ws)) [
   | inl h ↦
       let at : (o : List ℕ) × IsString (get_or ws i d) o = string_at before i d h in
       (at.0, subst (λ (x : Word). IsString x at.0) (sym (get_or_append_left ws (w ∷ []) d i h)) at.1)
@@ -89,8 +89,8 @@ pub no_string_at : (words : List Word) (i : ℕ) (d : Word) → i < length words
 no_string_at words i d below none octets are = let at : (own : List ℕ) × IsString (get_or words i d) own = string_at are i d below in none at.0 at.1
 
 pub type_at : {words : List Word} {numbers : List ℕ} → AreTypes words numbers → (i : ℕ) (d : Word) → i < length words → (number : ℕ) × ((get_or words i d).quoted ≡ false) × SpellsType (get_or words i d).bytes.now number
-type_at types_of.none i d below = absurd (omega arith)
-type_at (types_of.more {words = ws} {number = number} w before plain is) i d below = elim (cases_lt i (length ws)) [
+type_at no_names i d below = absurd (omega arith)
+type_at (one_type {words = ws} {number = number} w before plain is) i d below = elim (cases_lt i (length ws)) [
   | inl h ↦
       let at : (n : ℕ) × ((get_or ws i d).quoted ≡ false) × SpellsType (get_or ws i d).bytes.now n = type_at before i d h in
       subst (λ (x : Word). (n : ℕ) × (x.quoted ≡ false) × SpellsType x.bytes.now n) (sym (get_or_append_left ws (w ∷ []) d i h)) at

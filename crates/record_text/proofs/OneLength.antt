@@ -21,9 +21,9 @@ use Rattle.record_text.specs.Groups.IsGroup.{octet, bits16}
 use Rattle.record_text.specs.Groups.SpellsHexGroups.{first, more as one_group}
 use Rattle.record_text.specs.RecordText.{AreFields, AreStrings, AreTypes, IsData, IsField, IsRest, IsRow, IsTypeSet, SpellsType, bytes_of}
 use Rattle.record_text.specs.RecordText.IsField.{number8, number16, number32, time, name, string, text, ipv4, ipv6, type, moment, no_salt, salt, hash, eui48, eui64, locator64}
-use Rattle.record_text.specs.RecordText.AreFields as fields_of
-use Rattle.record_text.specs.RecordText.AreStrings as strings_of
-use Rattle.record_text.specs.RecordText.AreTypes as types_of
+use Rattle.record_text.specs.RecordText.AreFields.{none as no_fields, more as one_field}
+use Rattle.record_text.specs.RecordText.AreStrings.{none as no_words, more as one_string}
+use Rattle.record_text.specs.RecordText.AreTypes.{none as no_names, more as one_type}
 use Rattle.record_text.specs.RecordText.IsData.{in_form}
 use Rattle.record_text.specs.RecordText.IsRest.{nothing, strings, hex, base64, types}
 use Rattle.record_text.specs.TypeBitmaps.{windows}
@@ -31,8 +31,7 @@ use Rattle.record_text.specs.TypeTable.{TypeRow, row_of}
 use Rattle.record_text.proofs.Digits.{group_octets}
 use Rattle.record_text.proofs.NoRow.{fields_len}
 use Rattle.text_words.specs.declared.words.Word.{Word}
-use Rattle.text_words.specs.Spelling.{IsString, NamesSpelledOnce, StringsSpelledOnce, Spells, any_byte}
-use Rattle.text_words.proofs.SpelledOnce.{in_order, once}
+use Rattle.text_words.specs.Spelling.{BytesSpelledOnce, IsString, NamesSpelledOnce, StringsSpelledOnce}
 
 -- how many octets a group is
 width : Group → ℕ
@@ -59,7 +58,11 @@ decoded_once r a b one two = cc
 abbrev pub TypesOnce : Type 0
 TypesOnce = (text : List ℕ) (n m : ℕ) → SpellsType text n → SpellsType text m → n ≡ m
 
-module _ (strings_once : StringsSpelledOnce) (names_once : NamesSpelledOnce) (types_once : TypesOnce) where
+-- octets are encoded in one way
+abbrev pub Base64Once : Type 0
+Base64Once = (a b : List ℕ) → IsBytes a → IsBytes b → encode_of standard a ≡ encode_of standard b → a ≡ b
+
+module _ (bytes_once : BytesSpelledOnce) (strings_once : StringsSpelledOnce) (names_once : NamesSpelledOnce) (types_once : TypesOnce) where
   field_len : (origin : Option DomainName) (field : Field) (w : Word) (a b : List ℕ) → IsField origin field w a → IsField origin field w b → length a ≡ length b
   field_len origin field w a b (number8 p i s) (number8 q j t) = refl
   field_len origin field w a b (number16 p i s) (number16 q j t) = refl
@@ -67,7 +70,7 @@ module _ (strings_once : StringsSpelledOnce) (names_once : NamesSpelledOnce) (ty
   field_len origin field w a b (time p i s) (time q j t) = refl
   field_len origin field w a b (name {labels = ls} p i s) (name {labels = ms} q j t) = ap (λ (l : List (List ℕ)). length (name_octets l)) (names_once origin w.bytes.now ls ms i j)
   field_len origin field w a b (string i) (string j) = ap length (strings_once w a b i j)
-  field_len origin field w a b (text i) (text j) = ap length (once any_byte (in_order any_byte i) (in_order any_byte j) refl)
+  field_len origin field w a b (text i) (text j) = ap length (bytes_once w.bytes.now a b i j)
   field_len origin field w a b (ipv4 {address = x} p i) (ipv4 {address = y} q j) = ap (λ x. length (ipv4_octets x)) (IsIpv4Text_unique w.bytes.now x y i j)
   field_len origin field w a b (ipv6 {address = x} p i) (ipv6 {address = y} q j) = ap (λ x. length (ipv6_octets x)) (IsIpv6Text_unique w.bytes.now x y i j)
   field_len origin field w a b (type p i) (type q j) = refl
@@ -86,10 +89,10 @@ module _ (strings_once : StringsSpelledOnce) (names_once : NamesSpelledOnce) (ty
   no_push (y ∷ xs) x e = cc
 
   fields_one : {origin : Option DomainName} {fields others : List Field} {words ws : List Word} {a b : List ℕ} → AreFields origin fields words a → AreFields origin others ws b → fields ≡ others → words ≡ ws → length a ≡ length b
-  fields_one fields_of.none fields_of.none e f = refl
-  fields_one fields_of.none (fields_of.more {fields = fs} {field = g} before one) e f = absurd (no_push fs g e)
-  fields_one (fields_of.more {fields = fs} {field = g} before one) fields_of.none e f = absurd (no_push fs g (sym e))
-  fields_one {origin = origin} (fields_of.more {fields = fs} {words = ws} {octets = a} {field = g} {word = w} {own = x} before one) (fields_of.more {fields = fs'} {words = ws'} {octets = b} {field = g'} {word = w'} {own = y} before' one') e f =
+  fields_one no_fields no_fields e f = refl
+  fields_one no_fields (one_field {fields = fs} {field = g} before one) e f = absurd (no_push fs g e)
+  fields_one (one_field {fields = fs} {field = g} before one) no_fields e f = absurd (no_push fs g (sym e))
+  fields_one {origin = origin} (one_field {fields = fs} {words = ws} {octets = a} {field = g} {word = w} {own = x} before one) (one_field {fields = fs'} {words = ws'} {octets = b} {field = g'} {word = w'} {own = y} before' one') e f =
       let fields_same = same_from_push fs fs' g g' e in
       let words_same = same_from_push ws ws' w w' f in
       let front : length a ≡ length b = fields_one before before' fields_same.0 words_same.0 in
@@ -98,33 +101,33 @@ module _ (strings_once : StringsSpelledOnce) (names_once : NamesSpelledOnce) (ty
       omega (arith, length-append a x, length-append b y)
 
   strings_one : {words ws : List Word} {a b : List ℕ} → AreStrings words a → AreStrings ws b → words ≡ ws → a ≡ b
-  strings_one strings_of.none strings_of.none e = refl
-  strings_one strings_of.none (strings_of.more {words = ws} {word = w} before one) e = absurd (no_push ws w e)
-  strings_one (strings_of.more {words = ws} {word = w} before one) strings_of.none e = absurd (no_push ws w (sym e))
-  strings_one (strings_of.more {words = ws} {octets = a} {own = x} {word = w} before one) (strings_of.more {words = ws'} {octets = b} {own = y} {word = w'} before' one') e =
+  strings_one no_words no_words e = refl
+  strings_one no_words (one_string {words = ws} {word = w} before one) e = absurd (no_push ws w e)
+  strings_one (one_string {words = ws} {word = w} before one) no_words e = absurd (no_push ws w (sym e))
+  strings_one (one_string {words = ws} {octets = a} {own = x} {word = w} before one) (one_string {words = ws'} {octets = b} {own = y} {word = w'} before' one') e =
       let same = same_from_push ws ws' w w' e in
       let front : a ≡ b = strings_one before before' same.0 in
       let last : x ≡ y = strings_once w x y one (subst (λ (v : Word). IsString v y) (sym same.1) one') in
       rw (front, last) refl
 
   types_one : {words ws : List Word} {a b : List ℕ} → AreTypes words a → AreTypes ws b → words ≡ ws → a ≡ b
-  types_one types_of.none types_of.none e = refl
-  types_one types_of.none (types_of.more {words = ws} w before plain is) e = absurd (no_push ws w e)
-  types_one (types_of.more {words = ws} w before plain is) types_of.none e = absurd (no_push ws w (sym e))
-  types_one (types_of.more {words = ws} {numbers = a} {number = n} w before plain is) (types_of.more {words = ws'} {numbers = b} {number = m} w' before' plain' is') e =
+  types_one no_names no_names e = refl
+  types_one no_names (one_type {words = ws} w before plain is) e = absurd (no_push ws w e)
+  types_one (one_type {words = ws} w before plain is) no_names e = absurd (no_push ws w (sym e))
+  types_one (one_type {words = ws} {numbers = a} {number = n} w before plain is) (one_type {words = ws'} {numbers = b} {number = m} w' before' plain' is') e =
       let same = same_from_push ws ws' w w' e in
       let front : a ≡ b = types_one before before' same.0 in
       let last : n ≡ m = types_once w.bytes.now n m is (subst (λ (v : Word). SpellsType v.bytes.now m) (sym same.1) is') in
       rw (front, last) refl
 
-  rest_len : (base64_once : (a b : List ℕ) → IsBytes a → IsBytes b → encode_of standard a ≡ encode_of standard b → a ≡ b) (rest : Rest) (words : List Word) (a b : List ℕ) → IsRest rest words a → IsRest rest words b → length a ≡ length b
+  rest_len : (base64_once : Base64Once) (rest : Rest) (words : List Word) (a b : List ℕ) → IsRest rest words a → IsRest rest words b → length a ≡ length b
   rest_len base64_once rest words a b nothing nothing = refl
   rest_len base64_once rest words a b (strings some is) (strings some' is') = ap length (strings_one is is' refl)
   rest_len base64_once rest words a b (hex some plain is) (hex some' plain' is') = ap length (decoded_once (decode_of (bytes_of words)) a b is is')
   rest_len base64_once rest words a b (base64 some plain bytes is) (base64 some' plain' bytes' is') = ap length (base64_once a b bytes bytes' (sym is ∙ is'))
   rest_len base64_once rest words a b (types is) (types is') = ap length (is.written ∙ ap (λ (ts : List ℕ). windows ts 256) (types_one is.spelled is'.spelled refl) ∙ sym is'.written)
 
-  row_len : (base64_once : (a b : List ℕ) → IsBytes a → IsBytes b → encode_of standard a ≡ encode_of standard b → a ≡ b) (origin : Option DomainName) (row : TypeRow) (words : List Word) (a b : List ℕ) → IsRow origin row words a → IsRow origin row words b → length a ≡ length b
+  row_len : (base64_once : Base64Once) (origin : Option DomainName) (row : TypeRow) (words : List Word) (a b : List ℕ) → IsRow origin row words a → IsRow origin row words b → length a ≡ length b
   row_len base64_once origin row words a b one two =
       let n : length one.front ≡ length row.fields = fields_len one.fields in
       let m : length two.front ≡ length row.fields = fields_len two.fields in
@@ -136,7 +139,7 @@ module _ (strings_once : StringsSpelledOnce) (names_once : NamesSpelledOnce) (ty
       rest_len base64_once row.rest one.behind one.behind_octets two.behind_octets one.rest (subst (λ (ws : List Word). IsRest row.rest ws two.behind_octets) (sym behinds) two.rest) in
       omega (arith, ap length one.together, ap length two.together, length-append one.front_octets one.behind_octets, length-append two.front_octets two.behind_octets)
 
-  pub data_length : (base64_once : (a b : List ℕ) → IsBytes a → IsBytes b → encode_of standard a ≡ encode_of standard b → a ≡ b) (origin : Option DomainName) (number : ℕ) (words : List Word) (a b : List ℕ) → IsData origin number words a → IsData origin number words b → length a ≡ length b
+  pub data_length : (base64_once : Base64Once) (origin : Option DomainName) (number : ℕ) (words : List Word) (a b : List ℕ) → IsData origin number words a → IsData origin number words b → length a ≡ length b
   data_length base64_once origin number words a b (in_form {row = r} found one) (in_form {row = s} found' two) =
       let same : s ≡ r = cc in
       row_len base64_once origin r words a b one (subst (λ (row : TypeRow). IsRow origin row words b) same two)

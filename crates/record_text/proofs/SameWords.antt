@@ -15,10 +15,10 @@ use Rattle.record_text.specs.Groups.{SpellsGroups, SpellsHexGroups}
 use Rattle.record_text.specs.Moments.{SpellsMoment}
 use Rattle.record_text.specs.RecordText.{AreFields, ArePlain, AreStrings, AreTypes, BeginGeneric, IsData, IsField, IsGenericData, IsRest, IsRow, IsTypeSet, SpellsData, SpellsType, bytes_of}
 use Rattle.record_text.specs.RecordText.IsField.{number8, number16, number32, time, name, string, text, ipv4, ipv6, type, moment, no_salt, salt, hash, eui48, eui64, locator64}
-use Rattle.record_text.specs.RecordText.AreFields as fields_of
-use Rattle.record_text.specs.RecordText.AreStrings as strings_of
-use Rattle.record_text.specs.RecordText.AreTypes as types_of
-use Rattle.record_text.specs.RecordText.IsData as data_of
+use Rattle.record_text.specs.RecordText.AreFields.{none as no_fields, more as one_field}
+use Rattle.record_text.specs.RecordText.AreStrings.{none as no_words, more as one_string}
+use Rattle.record_text.specs.RecordText.AreTypes.{none as no_names, more as one_type}
+use Rattle.record_text.specs.RecordText.IsData.{in_form as of_row}
 use Rattle.record_text.specs.RecordText.IsRest.{nothing, strings, hex, base64, types}
 use Rattle.record_text.specs.RecordText.SpellsData.{in_form, generic}
 use Rattle.record_text.specs.TypeTable.{TypeRow}
@@ -92,23 +92,23 @@ none_left [] h = refl
 none_left (o ∷ others) h = absurd h
 
 pub same_fields : {origin : Option DomainName} {fields : List Field} {words : List Word} {octets : List ℕ} → AreFields origin fields words octets → (others : List Word) → AreSameWords words others → AreFields origin fields others octets
-same_fields {origin = origin} fields_of.none others h = subst (λ (ws : List Word). AreFields origin [] ws []) (none_left others h) fields_of.none
-same_fields {origin = origin} (fields_of.more {fields = fields} {words = ws} {octets = octets} {field = field} {word = w} {own = own} before one) others h =
+same_fields {origin = origin} no_fields others h = subst (λ (ws : List Word). AreFields origin [] ws []) (none_left others h) no_fields
+same_fields {origin = origin} (one_field {fields = fields} {words = ws} {octets = octets} {field = field} {word = w} {own = own} before one) others h =
     let parts : CutLast ws w others = cut_last ws w others h in
-    subst (λ (os : List Word). AreFields origin (fields ++ field ∷ []) os (octets ++ own)) (sym parts.whole) (fields_of.more (same_fields before parts.first parts.firsts) (same_field origin field w parts.last own parts.lasts one))
+    subst (λ (os : List Word). AreFields origin (fields ++ field ∷ []) os (octets ++ own)) (sym parts.whole) (one_field (same_fields before parts.first parts.firsts) (same_field origin field w parts.last own parts.lasts one))
 
 same_strings : {words : List Word} {octets : List ℕ} → AreStrings words octets → (others : List Word) → AreSameWords words others → AreStrings others octets
-same_strings strings_of.none others h = subst (λ (ws : List Word). AreStrings ws []) (none_left others h) strings_of.none
-same_strings (strings_of.more {words = ws} {octets = octets} {own = own} {word = w} before one) others h =
+same_strings no_words others h = subst (λ (ws : List Word). AreStrings ws []) (none_left others h) no_words
+same_strings (one_string {words = ws} {octets = octets} {own = own} {word = w} before one) others h =
     let parts : CutLast ws w others = cut_last ws w others h in
-    subst (λ (os : List Word). AreStrings os (octets ++ own)) (sym parts.whole) (strings_of.more (same_strings before parts.first parts.firsts) (same_string w parts.last own parts.lasts one))
+    subst (λ (os : List Word). AreStrings os (octets ++ own)) (sym parts.whole) (one_string (same_strings before parts.first parts.firsts) (same_string w parts.last own parts.lasts one))
 
 same_types : {words : List Word} {numbers : List ℕ} → AreTypes words numbers → (others : List Word) → AreSameWords words others → AreTypes others numbers
-same_types types_of.none others h = subst (λ (ws : List Word). AreTypes ws []) (none_left others h) types_of.none
-same_types (types_of.more {words = ws} {numbers = numbers} {number = number} w before plain is) others h =
+same_types no_names others h = subst (λ (ws : List Word). AreTypes ws []) (none_left others h) no_names
+same_types (one_type {words = ws} {numbers = numbers} {number = number} w before plain is) others h =
     let parts : CutLast ws w others = cut_last ws w others h in
     subst (λ (os : List Word). AreTypes os (numbers ++ number ∷ [])) (sym parts.whole)
-    (types_of.more parts.last (same_types before parts.first parts.firsts) (sym parts.lasts.quoted ∙ plain) (subst (λ (t : List ℕ). SpellsType t number) parts.lasts.bytes is))
+    (one_type parts.last (same_types before parts.first parts.firsts) (sym parts.lasts.quoted ∙ plain) (subst (λ (t : List ℕ). SpellsType t number) parts.lasts.bytes is))
 
 same_bytes : (words others : List Word) → AreSameWords words others → bytes_of words ≡ bytes_of others
 same_bytes [] [] h = refl
@@ -150,7 +150,7 @@ same_row origin row words octets is others h =
     }
 
 pub same_data : (origin : Option DomainName) (number : ℕ) (words : List Word) (octets : List ℕ) → IsData origin number words octets → (others : List Word) → AreSameWords words others → IsData origin number others octets
-same_data origin number words octets (data_of.in_form {row = row} found is) others h = data_of.in_form found (same_row origin row words octets is others h)
+same_data origin number words octets (of_row {row = row} found is) others h = of_row found (same_row origin row words octets is others h)
 
 begins : (words others : List Word) → AreSameWords words others → BeginGeneric others → BeginGeneric words
 begins words [] h begin = absurd begin
