@@ -1,13 +1,11 @@
 -- Text of bytes that is refused where some of it is read.
-use Rattle.std.proofs.Common.{◌≡◌, ◌∙◌, ℕ, ◌+◌, ◌-◌, ◌<◌, ◌≤◌, Bool, true, false, List, [], ◌∷◌, ◌++◌, Some, length, take, drop, get_or, sym, ap, subst, refl, arith, append_assoc, length-append, length-drop}
+use Rattle.std.proofs.Common.{◌≡◌, ◌∙◌, ℕ, ◌+◌, ◌-◌, ◌<◌, Bool, List, [], ◌∷◌, ◌++◌, Some, length, take, drop, get_or, sym, ap, subst, refl, arith, length-drop}
 use Rattle.std.proofs.lemmas.List.{take-append-drop, drop-drop, take_rest}
 use Rattle.std.specs.List.{slice_get}
-use Rattle.std.specs.Prelude.{IsTrue}
 use Rattle.std.specs.Str.Parse.{IsNumeral}
-use Rattle.wire_messages.specs.rr.RecordData.{character_string}
-use Rattle.text_words.specs.Spelling.{HasNoFirstByte, IsNumber, Spells, SpellsByte, any_byte}
+use Rattle.text_words.specs.Spelling.{HasNoFirstByte, IsNumber, SpellsByte}
 use Rattle.text_words.specs.Spelling.SpellsByte.{bare, numbered, escaped}
-use Rattle.text_words.proofs.SpelledOnce.{Reads, heads, in_order, no_piece, same_piece}
+use Rattle.text_words.proofs.SpelledOnce.{Reads, heads, no_piece, same_piece}
 use Rattle.text_words.proofs.SpelledOnce.Reads.{done, byte}
 
 -- An empty text has no first byte, and neither has a backslash with nothing behind it.

@@ -1,14 +1,14 @@
 -- Labels that are refused where some of their text is read.
-use Rattle.std.proofs.Common.{◌≡◌, ◌≢◌, ◌∙◌, ◌⊎◌, inl, inr, ℕ, ◌+◌, ◌-◌, ◌<◌, ◌≤◌, Bool, true, false, List, [], ◌∷◌, ◌++◌, length, take, drop, get_or, sym, ap, subst, refl, arith, append_assoc, append-nil, length-append, length-drop}
+use Rattle.std.proofs.Common.{◌≡◌, ◌≢◌, ◌∙◌, ◌⊎◌, inl, inr, ℕ, ◌+◌, ◌-◌, ◌<◌, ◌≤◌, Bool, true, false, List, [], ◌∷◌, ◌++◌, length, take, drop, get_or, sym, ap, subst, refl, arith, append_assoc, length-append, length-drop}
 use Rattle.std.proofs.lemmas.Bool.{cases_lt}
-use Rattle.std.proofs.lemmas.List.{drop-drop, drop_all, drop_more, take-append-drop, take_all, take_rest}
+use Rattle.std.proofs.lemmas.List.{drop-drop, drop_more, take-append-drop, take_all, take_rest}
 use Rattle.std.specs.Prelude.{IsTrue}
 use Rattle.wire_names.specs.rr.domain.DomainName.{IsLabel, name_len, wire_form}
 use Rattle.wire_names.proofs.lemmas.rr.domain.WireForm.{name_len-wire_form, wire-append}
-use Rattle.text_words.specs.Spelling.{AreLabelsWithDot, HasNoFirstByte, HasNoLabel, HasNoLabels, Spells, SpellsByte, SpellsLabel, bare_in_label}
+use Rattle.text_words.specs.Spelling.{AreLabelsWithDot, HasNoFirstByte, HasNoLabel, HasNoLabels, Spells, SpellsByte, bare_in_label}
 use Rattle.text_words.specs.Spelling.SpellsByte.{bare}
 use Rattle.text_words.specs.Spelling.AreLabelsWithDot.{dot_last, no_dot}
-use Rattle.text_words.proofs.SpelledOnce.{InLabels, Reads, in_labels, in_order, no_dot_first, no_dot_within, no_piece, no_text, once, reads_of, same_piece, until_dot}
+use Rattle.text_words.proofs.SpelledOnce.{InLabels, Reads, in_labels, in_order, no_dot_first, no_dot_within, no_piece, once, reads_of, same_piece, until_dot}
 use Rattle.text_words.proofs.SpelledOnce.Reads.{done, byte}
 use Rattle.text_words.proofs.SpelledOnce.InLabels.{none_left, last, first}
 use Rattle.text_words.proofs.NoBytes.{parted}

@@ -1,4 +1,4 @@
-use Rattle.std.proofs.Common.{◌<◌, ℕ, List, length, take, get_or, subst, refl, arith}
+use Rattle.std.proofs.Common.{ℕ, List, take, get_or, subst, refl, arith}
 use Rattle.std.proofs.lemmas.List.{take_all, take_more}
 use Rattle.std.proofs.lemmas.Int.Digits.{digits_push}
 use Rattle.std.specs.Str.Parse.{AllDigits}
