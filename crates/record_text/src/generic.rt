@@ -3,7 +3,7 @@
 ghost use Rattle.std.specs.Prelude.{◌≡◌, ◌≢◌, ◌↔◌, ◌<◌, ◌≤◌, ◌^◌, ◌++◌, length, IsTrue, IfErr, IfOk, OnOk};
 ghost use Rattle.std.specs.Int.{w16, w32, to_be_bytes};
 ghost use Rattle.std.specs.List.{AllByRecursion, flat_map};
-ghost use Rattle.wire_messages.specs.rr.RecordData.{IsOption, character_string, option_octets, type_of};
+ghost use Rattle.wire_messages.specs.rr.RecordData.{IsOption, character_string, option_octets, soa_numbers, type_of};
 ghost use Rattle.wire_messages.specs.serialize.layout.RecordLayout.{IsFormed};
 ghost use Rattle.wire_messages.specs.serialize.writing.FullForm.{data_octets, name_octets, soa_octets, tsig_octets};
 ghost use Rattle.wire_messages.specs.serialize.writing.RecordSize.{data_len};
@@ -65,17 +65,24 @@ fn put_mx(mx: &MX, bytes: &mut Vec<u8>) -> Result<(), AllocError>
     write_name(bytes, &mx.exchange)
 }
 
+/// Puts the numbers of the start of a zone behind bytes.
+fn put_soa_numbers(soa: &SOA, bytes: &mut Vec<u8>) -> Result<(), AllocError>
+    ensures { OnOk result (bytes.new.items ≡ bytes.old.items ++ soa_numbers soa.now) }
+{
+    put_u32(soa.serial, bytes)?;
+    put_u32(soa.refresh, bytes)?;
+    put_u32(soa.retry, bytes)?;
+    put_u32(soa.expire, bytes)?;
+    put_u32(soa.minimum, bytes)
+}
+
 /// Puts the start of a zone behind bytes (RFC 1035 section 3.3.13).
 fn put_soa(soa: &SOA, bytes: &mut Vec<u8>) -> Result<(), AllocError>
     ensures { OnOk result (bytes.new.items ≡ bytes.old.items ++ soa_octets soa.now) }
 {
     write_name(bytes, &soa.mname)?;
     write_name(bytes, &soa.rname)?;
-    put_u32(soa.serial, bytes)?;
-    put_u32(soa.refresh, bytes)?;
-    put_u32(soa.retry, bytes)?;
-    put_u32(soa.expire, bytes)?;
-    put_u32(soa.minimum, bytes)
+    put_soa_numbers(soa, bytes)
 }
 
 /// Puts a transaction signature behind bytes (RFC 8945 section 4.2).

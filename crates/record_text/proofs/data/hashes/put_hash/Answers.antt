@@ -6,10 +6,10 @@ use Rattle.record_text.proofs.data.hashes.put_hash.Goals as goal
 joined : (old bytes after all : List ℕ) (len : ℕ) → all ≡ after ++ bytes → after ≡ old ++ len ∷ [] → len ≡ length bytes → all ≡ old ++ (length bytes ∷ bytes)
 joined old bytes after all len e f g = rw (e, f, g, append_assoc old (length bytes ∷ []) bytes)
 
-pub returns : goal.returns
-returns c = λ origin. (
+pub returns-clause-put : goal.returns-clause-put
+returns-clause-put c = λ origin. (
   character_string c.in_ok-hash.hash.items,
   joined c.args.data.now.items c.in_ok-hash.hash.items c.push.new.self.items c.extend_from_slice.new.self.items c.len-2.result (rw c.as_slice.ensures.value at c.in_ok-extend_from_slice.ensures.items) c.in_ok-push.ensures.items
       (omega (arith, c.len-2.ensures, c.in_ok-hash.hash.ok.0)),
-  hash c.if-word.false c.in_ok-hash.ensures (omega (arith, c.if-len-gt255.false, c.len.ensures, c.in_ok-hash.hash.ok.0)),
+  hash c.if-word.false c.in_ok-hash.ensures.spelled (omega (arith, c.if-len-gt255.false, c.len.ensures, c.in_ok-hash.hash.ok.0)),
 )
