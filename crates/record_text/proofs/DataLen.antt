@@ -20,7 +20,7 @@ use Rattle.text_words.specs.Spelling.{BytesSpelledOnce, NamesSpelledOnce, String
 abbrev pub FullSizes : Type 0
 FullSizes = (r : Record RData) → length (record_octets r) ≡ full_size r
 
-root_of : RData → Record RData
+abbrev root_of : RData → Record RData
 root_of rdata = record { name = record { labels = []; is_fqdn = true }; dns_class = 1; ttl = 0; rdata = rdata; proof = Indeterminate }
 
 pub full_len : FullSizes → (rdata : RData) → length (data_octets rdata) ≡ data_len rdata

@@ -7,7 +7,7 @@ use Rattle.std.proofs.lemmas.Str.Parse.{digits_value-take-le}
 use Rattle.std.specs.Char.{digit_value}
 use Rattle.std.specs.Int.{w64, to_be_bytes}
 use Rattle.std.specs.Str.Parse.{AllDigits, digits_value}
-use Rattle.record_text.specs.Groups.{IsBase32, SpellsGroups}
+use Rattle.record_text.specs.Groups.{IsBase32, IsHex, SpellsGroups}
 use Rattle.record_text.specs.Groups.SpellsGroups.{none, more}
 
 pub digit_in : (radix : ℕ) (ds : List ℕ) (i : ℕ) → AllDigits radix ds → i < length ds → digit_value (get_or ds i 0) < radix
@@ -62,9 +62,26 @@ forty_bits piece n eight is =
 -- eight digits are five octets
 pub group_octets : {text octets : List ℕ} → SpellsGroups text octets → 5 * length text ≡ 8 * length octets
 group_octets none = refl
-group_octets (more {text = text} {octets = octets} {piece = piece} n before eight is) =
+group_octets (more {text = text} {piece = piece} {octets = octets} n before eight is) =
     let rest : 5 * length text ≡ 8 * length octets = group_octets before in
     omega (arith, length-append text piece, length-append octets (drop 3 (to_be_bytes w64 n)), rest, eight, five n)
   where
   five : (n : ℕ) → length (drop 3 (to_be_bytes w64 n)) ≡ 5
   five n = refl
+
+-- two digits are a number of eight bits, and four at most one of sixteen
+pub eight_bits : (digits : List ℕ) (n : ℕ) → length digits ≡ 2 → IsHex digits n → n < 256
+eight_bits digits n two is =
+    let small : digits_value 16 digits < 16 ^ length digits = digits_value-lt 16 digits is.digits in
+    let less : digits_value 16 digits < 16 ^ 2 = subst (λ (m : ℕ). digits_value 16 digits < 16 ^ m) two small in
+    omega (arith, less, is.value)
+
+pub sixteen_bits : (digits : List ℕ) (n : ℕ) → length digits ≤ 4 → IsHex digits n → n < 2 ^ 16
+sixteen_bits digits n few is = omega (arith, is.value, small digits few (digits_value-lt 16 digits is.digits)) where
+  small : (digits : List ℕ) → length digits ≤ 4 → digits_value 16 digits < 16 ^ length digits → digits_value 16 digits < 65536
+  small [] few less = omega (arith, less)
+  small (a ∷ []) few less = omega (arith, less)
+  small (a ∷ b ∷ []) few less = omega (arith, less)
+  small (a ∷ b ∷ c ∷ []) few less = omega (arith, less)
+  small (a ∷ b ∷ c ∷ d ∷ []) few less = omega (arith, less)
+  small (a ∷ b ∷ c ∷ d ∷ e ∷ digits) few less = absurd (omega arith)

@@ -8,7 +8,9 @@ use Rattle.wire_messages.specs.declared.rr.rdata.RData.{RData}
 use Rattle.wire_messages.specs.declared.rr.rdata.RData.TheVariants as rdata
 use Rattle.wire_messages.specs.rr.RecordData.{IsOption, OptionsOf}
 use Rattle.wire_messages.specs.rr.RecordData.OptionsOf.{well_formed, malformed}
-use Rattle.wire_messages.specs.serialize.layout.RecordLayout.{DataRead, IsFormed}
+use Rattle.wire_messages.specs.serialize.layout.RecordLayout.{DataRead, IsFormed, RecordAt}
+use Rattle.wire_messages.specs.serialize.reading.Cursor.{Cursor}
+use Rattle.wire_messages.specs.declared.rr.record.Record.{Record}
 
 of_options : (octets : List ℕ) (options : List EdnsOption) → OptionsOf octets options → AllByRecursion IsOption options
 of_options octets options (well_formed all e) = all
@@ -35,3 +37,13 @@ put_more form all i d old before after below so_far put =
     let one : flat_map form (take (i + 1) all) ≡ flat_map form (take i all) ++ form (get_or all i d) =
     ap (flat_map form) (take_more all i d below) ∙ flat_map-append form (take i all) (get_or all i d ∷ []) ∙ ap (λ (t : List ℕ). flat_map form (take i all) ++ t) (append-nil (form (get_or all i d))) in
     put ∙ ap (λ (t : List ℕ). t ++ form (get_or all i d)) so_far ∙ append_assoc old (flat_map form (take i all)) (form (get_or all i d)) ∙ ap (λ (t : List ℕ). old ++ t) (sym one)
+
+pub formed_at : {bytes : List ℕ} {place next : ℕ} {r : Record RData} → RecordAt bytes place r next → IsFormed r.rdata
+formed_at {bytes} {place} {next} {r} at = formed bytes (at.middle + 10) r.rdata next at.rdata
+
+-- a record that stands in bytes stands where they are read
+pub where_read : (k : Cursor) (slice bytes root : List ℕ) (r : Record RData) (next : ℕ) → k ≡ record { bytes = slice; place = 0 } → slice ≡ bytes → bytes ≡ root → RecordAt root 0 r next → RecordAt k.bytes k.place r next
+where_read k slice bytes root r next e f g at = subst (λ (j : Cursor). RecordAt j.bytes j.place r next) (sym e) (subst (λ (b : List ℕ). RecordAt b 0 r next) (sym (f ∙ g)) at)
+
+pub read_there : (k : Cursor) (slice bytes root : List ℕ) (r : Record RData) (next : ℕ) → k ≡ record { bytes = slice; place = 0 } → slice ≡ bytes → bytes ≡ root → RecordAt k.bytes k.place r next → RecordAt root 0 r next
+read_there k slice bytes root r next e f g at = subst (λ (b : List ℕ). RecordAt b 0 r next) (f ∙ g) (subst (λ (j : Cursor). RecordAt j.bytes j.place r next) e at)

@@ -53,7 +53,7 @@ module _ (between : ℕ) (kind : Group) where
     | inr above ↦ record { own = own; is = subst (λ (t : List ℕ). IsGroup kind t own) (sym (take_all len piece above)) is; rest = inl (omega arith, refl) }
   ]
   first_part no_digit (next {n = n} {piece = piece} {own = own} {rest = rest} is others) len within none_before here =
-      let long : length (piece ++ between ∷ rest) ≡ length piece + (1 + length rest) = length-append piece (between ∷ rest) in
+      let long : length (piece ++ between ∷ rest) ≡ length piece + length {A = ℕ} (between ∷ rest) = length-append piece (between ∷ rest) in
       elim (cases_lt len (length piece)) [
         | inl below ↦ absurd (apart no_digit is len below (sym (get_or_append_left piece (between ∷ rest) 0 len below) ∙ here (omega arith)))
         | inr above ↦ elim (cases_lt (length piece) len) [

@@ -7,7 +7,7 @@ use Rattle.text_words.specs.Spelling.{Puts}
 use Rattle.record_text.specs.declared.data.hex_groups.Group.{Group}
 use Rattle.record_text.specs.Groups.{IsGroup, SpellsHexGroups}
 use Rattle.record_text.specs.RecordText.{HasNone}
-use Rattle.record_text.proofs.HexGroups.{First, Front, Parts, closed, first_part, one as one_front, last, next, none}
+use Rattle.record_text.proofs.HexGroups.{First, Front, Parts, closed, first_part, one as one_front, last as last_part, next as next_part}
 
 -- the text of a group behind the text before it
 up_to : (text : List ℕ) (place end : ℕ) → place ≤ end → take end text ≡ take place text ++ take (end - place) (drop place text)
@@ -54,8 +54,8 @@ first_here between kind n text place end no_digit part parts =
     (λ below. get_or-drop place text (end - place) 0 ∙ ap (λ (k : ℕ). get_or text k 0) (omega (arith, part.on)) ∙ part.last (omega (arith, below, len, part.on)))
 
 some_part : (between : ℕ) (kind : Group) (n : ℕ) (text : List ℕ) → Parts between kind n text → 1 ≤ n
-some_part between kind n text (last is) = omega arith
-some_part between kind n text (next is others) = omega arith
+some_part between kind n text (last_part is) = omega arith
+some_part between kind n text (next_part is others) = omega arith
 
 pub no_group : (between : ℕ) (kind : Group) (count groups : ℕ) (text : List ℕ) (place end : ℕ) → 16 ≤ digit_value between → PartTo between text place end → HasNone (IsGroup kind (take (end - place) (drop place text)))
     → Left between kind count groups text place → ⊥

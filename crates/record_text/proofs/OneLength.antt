@@ -34,17 +34,17 @@ use Rattle.text_words.specs.declared.words.Word.{Word}
 use Rattle.text_words.specs.Spelling.{BytesSpelledOnce, IsString, NamesSpelledOnce, StringsSpelledOnce}
 
 -- how many octets a group is
-width : Group → ℕ
+abbrev width : Group → ℕ
 width group.Octet = 1
 width group.Bits16 = 2
 
-group_len : (kind : Group) (text octets : List ℕ) → IsGroup kind text octets → length octets ≡ width kind
-group_len kind text octets (octet two is) = refl
-group_len kind text octets (bits16 some few is) = refl
+group_len : (kind : Group) (digits octets : List ℕ) → IsGroup kind digits octets → length octets ≡ width kind
+group_len kind digits octets (octet two is) = refl
+group_len kind digits octets (bits16 some few is) = refl
 
-groups_len : (between : ℕ) (kind : Group) (count : ℕ) (text octets : List ℕ) → SpellsHexGroups between kind count text octets → length octets ≡ count * width kind
-groups_len between kind count text octets (first {text = t} is) = omega (arith, group_len kind t octets is)
-groups_len between kind count text octets (one_group {count = n} {text = t} {octets = front} {piece = piece} {own = own} before is) =
+groups_len : (between : ℕ) (kind : Group) (count : ℕ) (whole octets : List ℕ) → SpellsHexGroups between kind count whole octets → length octets ≡ count * width kind
+groups_len between kind count whole octets (first {text = t} is) = omega (arith, group_len kind t octets is)
+groups_len between kind count whole octets (one_group {count = n} {text = t} {octets = front} {piece = piece} {own = own} before is) =
     let rest : length front ≡ n * width kind = groups_len between kind n t front before in
     omega (arith, length-append front own, rest, group_len kind piece own is, product n)
   where
@@ -56,7 +56,7 @@ decoded_once r a b one two = cc
 
 -- types are spelled once
 abbrev pub TypesOnce : Type 0
-TypesOnce = (text : List ℕ) (n m : ℕ) → SpellsType text n → SpellsType text m → n ≡ m
+TypesOnce = (word : List ℕ) (n m : ℕ) → SpellsType word n → SpellsType word m → n ≡ m
 
 -- octets are encoded in one way
 abbrev pub Base64Once : Type 0

@@ -88,7 +88,8 @@ fn put_bits16(word: &Word<'_>, digits: &[u8], data: &mut Vec<u8>) -> Result<(), 
     ensures refused { IfErr result (λ e. e ≢ Memory → HasNone (IsGroup group.Bits16 digits.now)) }
 {
     let bad = word.fault(TextFault::BadAddress);
-    if digits.is_empty() || digits.len() > 4 {
+    let len = digits.len();
+    if len == 0 || len > 4 {
         return Err(bad);
     }
     let Some(number) = number_of_hex(digits) else {

@@ -114,8 +114,8 @@ pub(crate) fn moment(word: &Word<'_>) -> Result<u32, TextError>
     let Some(date) = date_of_digits(word.bytes) else {
         return Err(bad);
     };
-    if !is_date(date) {
-        return Err(bad);
+    if is_date(date) {
+        return Ok((date_seconds(date) % 0x1_0000_0000) as u32);
     }
-    Ok((date_seconds(date) % 0x1_0000_0000) as u32)
+    Err(bad)
 }

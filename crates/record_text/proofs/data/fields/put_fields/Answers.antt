@@ -59,5 +59,5 @@ returns-in_err-put_field-clause-refused c =
     rw (p.1, p.2) (λ other. none_at (option_copied c.args.origin) fields words i Number8 c.in-Some.word.now c.loop-field-test.true
     (subst (λ (w : Word). HasNone (IsField (option_copied c.args.origin) (get_or fields i Number8) w)) word (c.in_err-put_field.ensures.refused other)))
 
-pub returns-in-None-clause-refused : goal.returns-in-None-clause-refused
-returns-in-None-clause-refused c = λ other. too_few (option_copied c.args.origin) c.args.fields.now c.args.words.now (omega (arith, c.loop-field.invariant.at, c.loop-field-test.true, c.in-None.ensures.lookup))
+pub returns-in_default-clause-refused : goal.returns-in_default-clause-refused
+returns-in_default-clause-refused c = λ other. too_few (option_copied c.args.origin) c.args.fields.now c.args.words.now (omega (arith, c.loop-field.invariant.at, c.loop-field-test.true, c.in_default.ensures.lookup))

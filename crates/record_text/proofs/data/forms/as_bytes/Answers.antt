@@ -26,5 +26,5 @@ returns-in_err-put_rest-clause-refused c =
     rw (p.1, p.2) (λ other. none_of_row (option_copied c.args.origin) c.args.record_type (row_view c.in-Some.row.now) c.args.words.now found
     (none_of_rest (option_copied c.args.origin) (row_view c.in-Some.row.now) c.args.words.now c.in_ok-behind.behind.now c.in_ok-behind.ensures.put.0 c.in_ok-behind.ensures.put.2 (c.in_err-put_rest.ensures.refused other)))
 
-pub returns-in-None-clause-refused : goal.returns-in-None-clause-refused
-returns-in-None-clause-refused c = λ other. no_row (option_copied c.args.origin) c.args.record_type c.args.words.now (ap row_of (sym c.value.ensures) ∙ sym c.in-None.ensures)
+pub returns-in_default-clause-refused : goal.returns-in_default-clause-refused
+returns-in_default-clause-refused c = λ other. no_row (option_copied c.args.origin) c.args.record_type c.args.words.now (ap row_of (sym c.value.ensures) ∙ sym c.in_default.ensures)

@@ -61,7 +61,7 @@ under origin n number words same none = subst (λ (k : ℕ). HasNone (IsData ori
 
 pub returns-in_err-ipv4-in-A-len1-clause-refused : goal.returns-in_err-ipv4-in-A-len1-clause-refused
 returns-in_err-ipv4-in-A-len1-clause-refused c =
-    let p = err_from_is_err_and c.from_residual-in_err-ipv4-in-A-len1.result c.from_residual-in_err-ipv4-in-A-len1.ensures.1 in
+    let p = err_from_is_err_and c.from_residual.result c.from_residual.ensures.1 in
     let same : 1 ≡ c.args.record_type = search rules in
     rw p.1 (λ other. under (option_copied c.args.origin) 1 c.args.record_type c.args.words.now same
     (no_field (option_copied c.args.origin) 1 (row 1 (codes "A") (Ipv4 ∷ []) Nothing) c.args.words.now 0 Ipv4 _ refl (omega arith) (no_ipv4 _ c.in_err-ipv4-in-A-len1.ensures.refused (option_copied c.args.origin))))

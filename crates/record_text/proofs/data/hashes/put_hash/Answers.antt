@@ -1,6 +1,13 @@
-use Rattle.std.proofs.Common.{◌≡◌, ℕ, List, [], ◌∷◌, ◌++◌, length, append_assoc, arith}
+use Rattle.std.proofs.Common.{◌≡◌, ◌<◌, ◌≤◌, Option, ℕ, List, [], ◌∷◌, ◌++◌, length, append_assoc, arith}
 use Rattle.wire_messages.specs.rr.RecordData.{character_string}
 use Rattle.record_text.specs.RecordText.IsField.{hash}
+use Rattle.wire_names.specs.rr.domain.DomainName.{DomainName}
+use Rattle.text_words.specs.declared.words.Word.{Word}
+use Rattle.record_text.specs.declared.data.field.Field.TheVariants as field
+use Rattle.record_text.specs.Groups.{SpellsGroups}
+use Rattle.record_text.specs.RecordText.{HasNone, IsField}
+use Rattle.record_text.proofs.Digits.{group_octets}
+use Rattle.record_text.proofs.NoField.{no_hash}
 use Rattle.record_text.proofs.data.hashes.put_hash.Goals as goal
 
 joined : (old bytes after all : List ℕ) (len : ℕ) → all ≡ after ++ bytes → after ≡ old ++ len ∷ [] → len ≡ length bytes → all ≡ old ++ (length bytes ∷ bytes)
@@ -13,3 +20,10 @@ returns-clause-put c = λ origin. (
       (omega (arith, c.len-2.ensures, c.in_ok-hash.hash.ok.0)),
   hash c.if-word.false c.in_ok-hash.ensures.spelled (omega (arith, c.if-len-gt255.false, c.len.ensures, c.in_ok-hash.hash.ok.0)),
 )
+
+-- octets that are too many for their length
+too_long : (word : Word) (octets : List ℕ) → SpellsGroups word.bytes.now octets → 256 ≤ length octets → (origin : Option DomainName) → HasNone (IsField origin field.Hash word)
+too_long word octets is long = no_hash word (λ others other. absurd (omega (arith, group_octets is, group_octets other.1, long, other.2)))
+
+pub returns-then-len-gt255-clause-refused : goal.returns-then-len-gt255-clause-refused
+returns-then-len-gt255-clause-refused c = λ other. too_long c.args.word.now c.in_ok-hash.hash.items c.in_ok-hash.ensures.spelled (omega (arith, c.if-len-gt255.true, c.len.ensures, c.in_ok-hash.hash.ok.0))

@@ -77,5 +77,14 @@ returns-in-Nothing-Some-clause-refused c = λ other. rw c.in-Nothing-Some.is-0 (
 pub returns-in-Generic-Some-clause-refused : goal.returns-in-Generic-Some-clause-refused
 returns-in-Generic-Some-clause-refused c = λ other octets is. not_generic is c.in-Generic-Some.is-0
 
-pub returns-in-default-None-clause-refused : goal.returns-in-default-None-clause-refused
-returns-in-default-None-clause-refused c = λ other octets is. some_words is ? ? (is_nil c.args.words.now c.in-default-None.ensures.value)
+pub returns-in-Generic-None-clause-refused : goal.returns-in-Generic-None-clause-refused
+returns-in-Generic-None-clause-refused c = λ other octets is. not_generic is c.in-Generic-None.is-0
+
+pub returns-in-Strings-None-clause-refused : goal.returns-in-Strings-None-clause-refused
+returns-in-Strings-None-clause-refused c = λ other. rw c.in-Strings-None.is-0 (λ octets is. some_words is (λ e. absurd (cc)) (λ e. absurd (cc)) (is_nil c.args.words.now c.in-Strings-None.ensures.value))
+
+pub returns-in-Hex-None-clause-refused : goal.returns-in-Hex-None-clause-refused
+returns-in-Hex-None-clause-refused c = λ other. rw c.in-Hex-None.is-0 (λ octets is. some_words is (λ e. absurd (cc)) (λ e. absurd (cc)) (is_nil c.args.words.now c.in-Hex-None.ensures.value))
+
+pub returns-in-Base64-None-clause-refused : goal.returns-in-Base64-None-clause-refused
+returns-in-Base64-None-clause-refused c = λ other. rw c.in-Base64-None.is-0 (λ octets is. some_words is (λ e. absurd (cc)) (λ e. absurd (cc)) (is_nil c.args.words.now c.in-Base64-None.ensures.value))
