@@ -1,9 +1,8 @@
 -- How long data are in full; and of words that are data of one length at most.
-use Rattle.std.proofs.Common.{◌≡◌, ◌∙◌, ◌+◌, ◌<◌, ◌≤◌, ℕ, true, List, [], ◌++◌, length, Option, Result, Ok, refl, rules, sym, ap, arith, length-append}
-use Rattle.std.specs.Int.{w16, to_be_bytes}
+use Rattle.std.proofs.Common.{◌≡◌, ◌∙◌, ◌+◌, ◌<◌, ◌≤◌, ℕ, true, List, [], ◌++◌, length, Option, Ok, refl, rules, ap, arith, length-append}
 use Rattle.base64.proofs.EngineFacts.{decode_of-encode_of}
 use Rattle.base64.specs.Engines.{standard}
-use Rattle.base64.specs.GeneralPurpose.{IsBytes, IsConsistent, decode_of, encode_of}
+use Rattle.base64.specs.GeneralPurpose.{IsConsistent, decode_of, encode_of}
 use Rattle.wire_names.specs.rr.domain.DomainName.{DomainName}
 use Rattle.wire_messages.specs.declared.rr.rdata.RData.{RData}
 use Rattle.wire_messages.specs.declared.rr.record.Proof.TheVariants.{Indeterminate}

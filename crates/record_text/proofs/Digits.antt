@@ -1,7 +1,7 @@
 -- Digits that are none, and digits of too great a number; whole groups of digits in base 32.
 use Rattle.std.proofs.Common.{◌≡◌, ◌∙◌, ◌+◌, ◌*◌, ◌^◌, ◌<◌, ◌≤◌, ℕ, zero, suc, List, [], ◌∷◌, ◌++◌, length, take, drop, get_or, sym, ap, subst, refl, inl, inr, arith, length-append}
 use Rattle.std.proofs.lemmas.Bool.{cases_lt}
-use Rattle.std.proofs.lemmas.List.{take_at, drop_at, drop-append-le, take-append-le, length-drop}
+use Rattle.std.proofs.lemmas.List.{drop_at, drop-append-le, take-append-le, length-drop}
 use Rattle.std.proofs.lemmas.Int.Digits.{digits_value-lt, digits_value_more}
 use Rattle.std.proofs.lemmas.Str.Parse.{digits_value-take-le}
 use Rattle.std.specs.Char.{digit_value}
@@ -48,9 +48,9 @@ group_at (more {text = text} {piece = piece} n before eight is) k within = elim 
       (n, subst (λ (t : List ℕ). IsBase32 t n) (sym same) is)
 ]
   where
-  take_whole : (t : List ℕ) → take (length t) t ≡ t
-  take_whole [] = refl
-  take_whole (c ∷ cs) = ap (λ (t : List ℕ). c ∷ t) (take_whole cs)
+    take_whole : (t : List ℕ) → take (length t) t ≡ t
+    take_whole [] = refl
+    take_whole (c ∷ cs) = ap (λ (t : List ℕ). c ∷ t) (take_whole cs)
 
 -- a group's number has forty bits
 pub forty_bits : (piece : List ℕ) (n : ℕ) → length piece ≡ 8 → IsBase32 piece n → n < 2 ^ 64
@@ -66,8 +66,8 @@ group_octets (more {text = text} {piece = piece} {octets = octets} n before eigh
     let rest : 5 * length text ≡ 8 * length octets = group_octets before in
     omega (arith, length-append text piece, length-append octets (drop 3 (to_be_bytes w64 n)), rest, eight, five n)
   where
-  five : (n : ℕ) → length (drop 3 (to_be_bytes w64 n)) ≡ 5
-  five n = refl
+    five : (n : ℕ) → length (drop 3 (to_be_bytes w64 n)) ≡ 5
+    five n = refl
 
 -- two digits are a number of eight bits, and four at most one of sixteen
 pub eight_bits : (digits : List ℕ) (n : ℕ) → length digits ≡ 2 → IsHex digits n → n < 256

@@ -1,7 +1,7 @@
 -- Texts that are no date and no moment.
-use Rattle.std.proofs.Common.{◌≡◌, ◌∙◌, ◌+◌, ◌^◌, ◌<◌, ◌≤◌, ℕ, List, [], ◌∷◌, ◌++◌, length, take, drop, sym, ap, subst, arith, append_assoc, length-append}
+use Rattle.std.proofs.Common.{◌≡◌, ◌∙◌, ◌^◌, ◌<◌, ◌≤◌, ℕ, List, [], ◌∷◌, ◌++◌, length, take, drop, sym, ap, subst, arith, append_assoc, length-append}
 use Rattle.std.proofs.lemmas.Int.Digits.{digits_value-lt}
-use Rattle.std.proofs.lemmas.List.{drop_at, take_at, take_all}
+use Rattle.std.proofs.lemmas.List.{drop_at, take_at}
 use Rattle.std.specs.Prelude.{◌≢◌}
 use Rattle.std.specs.Str.Parse.{digits_value}
 use Rattle.record_text.specs.declared.data.moment.Date.{Date}
@@ -97,5 +97,18 @@ no_seconds text other none n (seconds differs is small) = none n is small
 no_seconds text other none n (date {date = e} is spelled) = other (fourteen spelled) where
   fourteen : {text : List ℕ} {e : Date} → SpellsDate text e → length text ≡ 14
   fourteen {text} {e} s =
-      omega (arith, ap length s.in_order, length-append s.year s.month, length-append (s.year ++ s.month) s.day, length-append (s.year ++ s.month ++ s.day) s.hour, length-append (s.year ++ s.month ++ s.day ++ s.hour) s.minute,
-      length-append (s.year ++ s.month ++ s.day ++ s.hour ++ s.minute) s.second, s.four, s.two.0, s.two.1, s.two.2, s.two.3, s.two.4)
+      omega (
+        arith,
+        ap length s.in_order,
+        length-append s.year s.month,
+        length-append (s.year ++ s.month) s.day,
+        length-append (s.year ++ s.month ++ s.day) s.hour,
+        length-append (s.year ++ s.month ++ s.day ++ s.hour) s.minute,
+        length-append (s.year ++ s.month ++ s.day ++ s.hour ++ s.minute) s.second,
+        s.four,
+        s.two.0,
+        s.two.1,
+        s.two.2,
+        s.two.3,
+        s.two.4,
+      )

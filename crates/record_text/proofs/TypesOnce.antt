@@ -1,11 +1,11 @@
 -- A text is the mnemonic of one type at most, or TYPE and one number.
-use Rattle.std.proofs.Common.{◌≡◌, ◌≢◌, ◌∙◌, ◌+◌, ◌<◌, ℕ, zero, suc, Bool, true, false, List, [], ◌∷◌, ◌++◌, length, take, drop, get_or, sym, ap, subst, refl, arith}
+use Rattle.std.proofs.Common.{◌≡◌, ◌∙◌, ◌<◌, ℕ, zero, suc, Bool, true, false, List, [], ◌∷◌, length, take, drop, get_or, sym, ap, subst, refl, arith}
 use Rattle.std.proofs.lemmas.Bool.{and_parts, eqb-true}
 use Rattle.std.proofs.lemmas.List.{drop_at, length-map, map-append, take_at}
 use Rattle.std.proofs.lemmas.Slice.Eq.{bytes_eq-Decides}
 use Rattle.std.specs.Char.{to_ascii_lowercase}
 use Rattle.std.specs.Prelude.{◌==◌, ◌&&◌, if◌then◌else◌, bytes_eq, codes, map, not}
-use Rattle.record_text.specs.RecordText.{IsTypeNumber, SameLetters, SpellsMnemonic, SpellsType}
+use Rattle.record_text.specs.RecordText.{IsTypeNumber, SameLetters, SpellsMnemonic}
 use Rattle.record_text.specs.RecordText.SpellsType.{mnemonic, numbered}
 use Rattle.record_text.specs.TypeTable.{TypeRow, rows}
 use Rattle.record_text.proofs.OneLength.{TypesOnce}

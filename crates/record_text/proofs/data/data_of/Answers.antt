@@ -1,4 +1,4 @@
-use Rattle.std.proofs.Common.{◌≡◌, ℕ, List, Result, Ok, Err, None, Option}
+use Rattle.std.proofs.Common.{ℕ, List, Result, Ok, Err, None}
 use Rattle.std.proofs.lemmas.Result.{err_from_is_err_and}
 use Rattle.std.specs.Prelude.{◌≢◌, IfErr}
 use Rattle.wire_messages.specs.declared.rr.rdata.RData.{RData}

@@ -1,6 +1,4 @@
-use Rattle.std.proofs.Common.{◌≡◌, ℕ, List, Ok, ap, refl, rules, sym}
-use Rattle.wire_messages.specs.declared.rr.rdata.RData.{RData}
-use Rattle.wire_messages.specs.declared.rr.record.Record.{Record}
+use Rattle.std.proofs.Common.{◌≡◌, refl, rules}
 use Rattle.record_text.specs.RecordText.{root_record}
 use Rattle.record_text.proofs.Formed.{formed_at, read_there, where_read}
 use Rattle.record_text.proofs.generic.data_read.Goals as goal

@@ -1,8 +1,5 @@
-use Rattle.std.proofs.Common.{◌≡◌, ◌∙◌, ◌<◌, ℕ, List, [], ◌∷◌, ◌++◌, length, get_or, sym, ap, subst, append_assoc, arith}
-use Rattle.std.proofs.lemmas.List.Elements.{All-from_recursion}
+use Rattle.std.proofs.Common.{◌≡◌, ◌<◌, ℕ, List, [], ◌∷◌, ◌++◌, length, get_or, ap, append_assoc, arith}
 use Rattle.wire_messages.specs.rr.RecordData.{character_string}
-use Rattle.record_text.proofs.Formed.{put_more}
-use Rattle.record_text.proofs.generic.put_strings.Goals as goal
 
 short : (strings : List (List ℕ)) (text : List ℕ) (i : ℕ) → text ≡ get_or strings i text → length (get_or strings i text) < 256 → length text < 256
 short strings text i is small = omega (arith, ap length is, small)

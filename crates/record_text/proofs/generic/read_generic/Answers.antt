@@ -1,6 +1,6 @@
-use Rattle.std.proofs.Common.{◌≡◌, ℕ, List, length, refl, arith}
+use Rattle.std.proofs.Common.{arith}
 use Rattle.std.proofs.lemmas.Result.{err_from_is_err_and}
-use Rattle.record_text.proofs.GenericData.{fits, great_size, no_bytes, no_data, no_size, read, wrong_size}
+use Rattle.record_text.proofs.GenericData.{fits, no_bytes, no_data, no_size, read}
 use Rattle.record_text.proofs.generic.read_generic.Goals as goal
 
 pub returns-clause-spelled : goal.returns-clause-spelled

@@ -1,5 +1,5 @@
 use Rattle.std.proofs.lemmas.Result.{err_from_is_err_and}
-use Rattle.std.proofs.Common.{get_or, Option, ◌≡◌, ◌≤◌, ℕ, List, [], ◌∷◌, length, refl, subst, rules, arith}
+use Rattle.std.proofs.Common.{Option, ◌≡◌, ◌≤◌, ℕ, List, [], ◌∷◌, length, refl, subst, rules, arith}
 use Rattle.std.specs.List.{flat_map}
 use Rattle.std.specs.Net.Addr.{ipv4_octets, ipv6_octets}
 use Rattle.std.specs.Option.{option_copied}

@@ -1,4 +1,4 @@
-use Rattle.std.proofs.Common.{◌≡◌, ℕ, List, [], ◌∷◌, ◌++◌, Option, length, take, get_or, subst, refl, append_assoc, arith}
+use Rattle.std.proofs.Common.{◌≡◌, ℕ, List, [], ◌∷◌, ◌++◌, Option, length, take, subst, refl, append_assoc, arith}
 use Rattle.std.proofs.lemmas.List.{take_all}
 use Rattle.std.specs.Int.{w32, to_be_bytes}
 use Rattle.std.specs.Option.{option_copied}
@@ -14,7 +14,6 @@ use Rattle.record_text.specs.RecordText.AreFields.{none}
 use Rattle.record_text.specs.RecordText.IsField.{number32, name, time}
 use Rattle.record_text.specs.TypeTable.{TypeRow, row}
 use Rattle.std.proofs.lemmas.Result.{err_from_is_err_and}
-use Rattle.record_text.specs.RecordText.{HasNone, IsField}
 use Rattle.record_text.proofs.NoField.{no_name, no_number32, no_time}
 use Rattle.record_text.proofs.NoRow.{no_field}
 use Rattle.record_text.proofs.RowSteps.{of_fields, one_more}

@@ -1,4 +1,4 @@
-use Rattle.std.proofs.Common.{◌≡◌, ◌^◌, ◌≤◌, ◌∙◌, ◌<◌, ℕ, List, length, take, get_or, arith}
+use Rattle.std.proofs.Common.{◌^◌, ◌≤◌, ◌∙◌, ◌<◌, ℕ, List, length, take, get_or, arith}
 use Rattle.std.proofs.lemmas.List.{take_more}
 use Rattle.std.proofs.lemmas.Int.Digits.{digits_push, digits_value_more}
 use Rattle.std.specs.Str.Parse.{digits_value}

@@ -1,4 +1,4 @@
-use Rattle.std.proofs.Common.{◌≡◌, ◌<◌, ◌≤◌, Option, ℕ, List, [], ◌∷◌, ◌++◌, length, append_assoc, arith}
+use Rattle.std.proofs.Common.{◌≡◌, ◌≤◌, Option, ℕ, List, [], ◌∷◌, ◌++◌, length, append_assoc, arith}
 use Rattle.wire_messages.specs.rr.RecordData.{character_string}
 use Rattle.record_text.specs.RecordText.IsField.{hash}
 use Rattle.wire_names.specs.rr.domain.DomainName.{DomainName}

@@ -1,4 +1,4 @@
-use Rattle.std.proofs.Common.{◌≡◌, ◌+◌, ◌<◌, ◌≤◌, ℕ, List, [], length, sym, append-nil, refl, arith}
+use Rattle.std.proofs.Common.{◌<◌, ℕ, List, [], length, sym, append-nil, arith}
 use Rattle.std.proofs.lemmas.Result.{err_from_is_err_and}
 use Rattle.record_text.proofs.HexGroups.{none, parts_of}
 use Rattle.record_text.proofs.HexSteps.{PartTo, end_put, no_group, step_put, still_left, too_many, wrong_end}

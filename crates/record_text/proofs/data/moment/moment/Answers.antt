@@ -1,4 +1,4 @@
-use Rattle.std.proofs.Common.{◌≡◌, ◌≢◌, ℕ, List, Bool, true, false, length, refl, arith}
+use Rattle.std.proofs.Common.{◌≡◌, ℕ, List, true, false, length, refl}
 use Rattle.record_text.specs.declared.data.moment.Date.{Date}
 use Rattle.record_text.specs.Moments.{IsDate, SpellsDate, SpellsMoment}
 use Rattle.record_text.specs.Moments.SpellsMoment.{date, seconds}

@@ -1,4 +1,4 @@
-use Rattle.std.proofs.Common.{◌≡◌, ℕ, List}
+use Rattle.std.proofs.Common.{ℕ, List}
 use Rattle.record_text.specs.RecordText.{HasNone, IsTypeNumber, SpellsMnemonic, SpellsType}
 use Rattle.record_text.specs.RecordText.SpellsType.{mnemonic, numbered}
 use Rattle.record_text.proofs.data.table.type_of.Goals as goal
