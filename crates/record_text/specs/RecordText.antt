@@ -1,5 +1,5 @@
 -- The data of a record as the words of a zone's text, and the octets that they stand for (RFC 1035 section 5.1, RFC 3597 section 5).
-use Rattle.std.specs.Prelude.{◌≡◌, ◌≢◌, ℕ, ◌^◌, ◌<◌, false, List, [], ◌∷◌, ◌++◌, length, map, codes, Any, All, Option, Some, Ok}
+use Rattle.std.specs.Prelude.{◌≡◌, ◌≢◌, ℕ, ◌^◌, ◌<◌, ◌≤◌, false, List, [], ◌∷◌, ◌++◌, length, map, codes, Any, All, Option, Some, Ok}
 use Rattle.std.specs.Char.{to_ascii_lowercase}
 use Rattle.std.specs.Int.{w16, w32, to_be_bytes}
 use Rattle.std.specs.List.{flat_map}
@@ -8,14 +8,15 @@ use Rattle.std.specs.Net.Grammar.{IsIpv4Text, IsIpv6Text}
 use Rattle.std.specs.declared.net.ipv4_addr.Ipv4Addr.{Ipv4Addr}
 use Rattle.std.specs.declared.net.ipv6_addr.Ipv6Addr.{Ipv6Addr}
 use Rattle.base64.specs.Engines.{standard}
-use Rattle.base64.specs.GeneralPurpose.{encode_of}
+use Rattle.base64.specs.GeneralPurpose.{IsBytes, encode_of}
 use Rattle.hex.specs.Hex.{decode_of}
-use Rattle.wire_names.specs.rr.domain.DomainName.{DomainName}
-use Rattle.wire_messages.specs.rr.RecordData.{character_string}
+use Rattle.wire_names.specs.rr.domain.DomainName.{DomainName, name_len}
+use Rattle.wire_messages.specs.rr.RecordData.{character_string, type_of}
 use Rattle.wire_messages.specs.declared.rr.rdata.RData.{RData}
 use Rattle.wire_messages.specs.declared.rr.record.Record.{Record}
 use Rattle.wire_messages.specs.serialize.layout.RecordLayout.{RecordAt}
 use Rattle.wire_messages.specs.serialize.writing.FullForm.{data_octets, name_octets}
+use Rattle.wire_messages.specs.serialize.writing.RecordSize.{data_len}
 use Rattle.record_text.specs.declared.data.field.Field.{Field}
 use Rattle.record_text.specs.declared.data.field.Field.TheVariants as field
 use Rattle.record_text.specs.declared.data.field.Rest.{Rest}
@@ -31,6 +32,10 @@ use Rattle.record_text.specs.TypeBitmaps.{windows}
 use Rattle.record_text.specs.TypeTable.{TypeRow, rows, row_of}
 use Rattle.text_words.specs.Words.{AreWordsTo}
 
+-- Nothing is such as a fact says.
+abbrev pub HasNone : {A : Type 0} → (A → Type 0) → Type 0
+HasNone {A} Is = (it : A) → Is it → ⊥
+
 -- a row of the table as the code has it
 abbrev pub row_view : Row → TypeRow
 row_view row = record { number = row.number; mnemonic = row.mnemonic.now; fields = row.fields.now; rest = row.rest }
@@ -43,18 +48,27 @@ SameLetters a b = map to_ascii_lowercase a ≡ map to_ascii_lowercase b
 abbrev pub SpellsMnemonic : List ℕ → ℕ → Type 0
 SpellsMnemonic text number = Any (λ row. (row.number ≡ number) × SameLetters row.mnemonic text) rows
 
--- A type: its mnemonic, or TYPE and its number (RFC 3597 section 5), in any letter case.
+-- TYPE, in any letter case, and a number of 16 bits (RFC 3597 section 5)
+pub record IsTypeNumber (text : List ℕ) (number : ℕ) : Type 0 where
+  pub front : List ℕ
+  pub digits : List ℕ
+  pub in_order : text ≡ front ++ digits
+  pub letters : SameLetters (codes "TYPE") front
+  pub spelled : IsNumber digits number
+  pub small : number < 2 ^ 16
+
+-- A type: its mnemonic, or TYPE and its number, in any letter case.
 pub data SpellsType : List ℕ → ℕ → Type 0 where
   mnemonic : {text : List ℕ} {number : ℕ} → SpellsMnemonic text number → SpellsType text number
-  numbered : {digits : List ℕ} {number : ℕ} (front : List ℕ) → SameLetters (codes "TYPE") front → IsNumber digits number → number < 2 ^ 16 → SpellsType (front ++ digits) number
+  numbered : {text : List ℕ} {number : ℕ} → IsTypeNumber text number → SpellsType text number
 
--- A word as it stands for a field's octets.
+-- A word as it stands for a field's octets. Names have at most 255 (RFC 1035 section 2.3.4).
 pub data IsField (origin : Option DomainName) : Field → Word → List ℕ → Type 0 where
   number8 : {w : Word} {n : ℕ} → w.quoted ≡ false → IsNumber w.bytes.now n → n < 2 ^ 8 → IsField origin field.Number8 w (n ∷ [])
   number16 : {w : Word} {n : ℕ} → w.quoted ≡ false → IsNumber w.bytes.now n → n < 2 ^ 16 → IsField origin field.Number16 w (to_be_bytes w16 n)
   number32 : {w : Word} {n : ℕ} → w.quoted ≡ false → IsNumber w.bytes.now n → n < 2 ^ 32 → IsField origin field.Number32 w (to_be_bytes w32 n)
   time : {w : Word} {n : ℕ} → w.quoted ≡ false → SpellsTime w.bytes.now n → n < 2 ^ 32 → IsField origin field.Time w (to_be_bytes w32 n)
-  name : {w : Word} {labels : List (List ℕ)} → w.quoted ≡ false → SpellsName origin w.bytes.now labels → IsField origin field.Name w (name_octets labels)
+  name : {w : Word} {labels : List (List ℕ)} → w.quoted ≡ false → SpellsName origin w.bytes.now labels → name_len labels ≤ 255 → IsField origin field.Name w (name_octets labels)
   string : {w : Word} {octets : List ℕ} → IsString w octets → IsField origin field.String w octets
   text : {w : Word} {bytes : List ℕ} → Spells any_byte w.bytes.now bytes → IsField origin field.Text w bytes
   ipv4 : {w : Word} {address : Ipv4Addr} → w.quoted ≡ false → IsIpv4Text w.bytes.now address → IsField origin field.Ipv4 w (ipv4_octets address)
@@ -107,7 +121,7 @@ pub data IsRest : Rest → List Word → List ℕ → Type 0 where
   nothing : IsRest rest.Nothing [] []
   strings : {words : List Word} {octets : List ℕ} → words ≢ [] → AreStrings words octets → IsRest rest.Strings words octets
   hex : {words : List Word} {octets : List ℕ} → words ≢ [] → ArePlain words → decode_of (bytes_of words) ≡ Ok octets → IsRest rest.Hex words octets
-  base64 : {words : List Word} {octets : List ℕ} → words ≢ [] → ArePlain words → bytes_of words ≡ encode_of standard octets → IsRest rest.Base64 words octets
+  base64 : {words : List Word} {octets : List ℕ} → words ≢ [] → ArePlain words → IsBytes octets → bytes_of words ≡ encode_of standard octets → IsRest rest.Base64 words octets
   types : {words : List Word} {octets : List ℕ} → IsTypeSet words octets → IsRest rest.Types words octets
 
 -- words for the data of a row: its fields, and what stands behind them
@@ -133,24 +147,28 @@ root_record number octets = (0 ∷ to_be_bytes w16 number) ++ (0 ∷ 1 ∷ 0 ∷
 abbrev pub AreReadOf : ℕ → List ℕ → RData → Type 0
 AreReadOf number octets rdata = (r : Record RData) × (next : ℕ) × RecordAt (root_record number octets) 0 r next × (rdata ≡ r.rdata)
 
--- The form that is one for all types (RFC 3597 section 5): behind `\#` stand the length of the data and their octets in hexadecimal digits, and the data are
--- those that are read of them.
+-- The form that is one for all types (RFC 3597 section 5): behind `\#` stand the length of the data, which has 16 bits (RFC 1035 section 3.2.1), and their
+-- octets in hexadecimal digits. The data are those of the type that are read of them, and no name in them is compressed: in full they take just these octets.
 pub record IsGenericData (number : ℕ) (size : Word) (digits : List Word) (rdata : RData) : Type 0 where
   pub octets : List ℕ
   pub unquoted : size.quoted ≡ false
   pub counted : IsNumber size.bytes.now (length octets)
+  pub short : length octets < 2 ^ 16
   pub plain : ArePlain digits
   pub spelled : decode_of (bytes_of digits) ≡ Ok octets
   pub read : AreReadOf number octets rdata
+  pub typed : type_of rdata ≡ number
+  pub in_full : data_octets rdata ≡ octets
 
 -- Words begin in the form that is one for all types: `\#`, and at least one word behind it.
 abbrev pub BeginGeneric : List Word → Type 0
 BeginGeneric (mark ∷ size ∷ digits) = (mark.quoted ≡ false) × (mark.bytes.now ≡ 92 ∷ 35 ∷ [])
 BeginGeneric words = ⊥
 
--- The words are data of a type, and these are the data: in the form of the type, or, where they begin so, in the form that is one for all.
+-- The words are data of a type, and these are the data: in the form of the type, or, where they begin so, in the form that is one for all. Data have at most
+-- 65,535 octets, as many as their length can tell (RFC 1035 section 3.2.1).
 pub data SpellsData (origin : Option DomainName) (number : ℕ) : List Word → RData → Type 0 where
-  in_form : {words : List Word} {rdata : RData} → ¬ (BeginGeneric words) → IsData origin number words (data_octets rdata) → SpellsData origin number words rdata
+  in_form : {words : List Word} {rdata : RData} → ¬ (BeginGeneric words) → IsData origin number words (data_octets rdata) → data_len rdata ≤ 65535 → SpellsData origin number words rdata
   generic : {mark size : Word} {digits : List Word} {rdata : RData} → mark.quoted ≡ false → mark.bytes.now ≡ 92 ∷ 35 ∷ [] → IsGenericData number size digits rdata → SpellsData origin number (mark ∷ size ∷ digits) rdata
 
 -- From a place of a text within so many parentheses on, the words to the end are data of a type, and these are the data.

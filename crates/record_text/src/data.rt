@@ -10,17 +10,21 @@ pub(crate) mod rest;
 pub(crate) mod table;
 mod types;
 
-ghost use Rattle.std.specs.Prelude.{◌≡◌, ◌↔◌, ◌≤◌, [], ◌∷◌, false, IfOk, IfSome, IsTrue};
+ghost use Rattle.std.specs.Prelude.{◌≡◌, ◌≢◌, ◌↔◌, ◌<◌, ◌≤◌, [], ◌∷◌, false, IfErr, IfNone, IfOk, IfSome, IsTrue};
 ghost use Rattle.std.specs.Option.{option_copied};
 ghost use Rattle.wire_messages.specs.rr.RecordData.{type_of};
+ghost use Rattle.wire_messages.specs.serialize.writing.FullForm.{data_octets};
 ghost use Rattle.wire_messages.specs.serialize.writing.RecordSize.{data_len};
+ghost use Rattle.text_words.specs.declared.error.TextError.TheVariants.{Memory};
 ghost use Rattle.text_words.specs.declared.words.TextKind.TheVariants.{Line};
-ghost use Rattle.record_text.specs.RecordText.{BeginGeneric, HasData, SpellsData};
+ghost use Rattle.record_text.specs.RecordText.{BeginGeneric, HasData, HasNone, IsData, SpellsData};
 
 use crate::data::forms::data_in_form;
 use crate::generic::read_generic;
+use hickory_wire::record_laws::full_forms;
 use hickory_wire::{DNSClass, Name, Proof, RData, Record, RecordType};
 use std::alloc::Global;
+use text_words::word_laws::{words_spell_once, words_stand_once};
 use text_words::{TextError, TextFault, Word, Words, fault_at};
 
 /// What a record of the root takes whose data have all the bytes that their length can tell: its name has one byte, and type, class, TTL and length
@@ -29,7 +33,8 @@ const MOST_OF_ROOT: usize = 1 + 10 + 65_535;
 
 /// Data whose length has 16 bits, or `None` where they have more.
 fn fitting(rdata: RData) -> Option<RData>
-    ensures { IfSome result (λ fitting. (fitting ≡ rdata) × (data_len rdata ≤ 65535)) }
+    ensures fits { IfSome result (λ fitting. (fitting ≡ rdata) × (data_len rdata ≤ 65535)) }
+    ensures too_long { IfNone result (65535 < data_len rdata) }
 {
     let record = Record {
         name: Name::root(),
@@ -48,8 +53,8 @@ fn fitting(rdata: RData) -> Option<RData>
     }
 }
 
-/// The data of a type that words are, in the form of the type or in the one for all types. `end` is the place where a word is missing.
-fn spelled_data(
+/// Data in the form of their type, of no more bytes than their length can tell. `end` is the place where a word is missing.
+fn data_within(
     alloc: Global,
     record_type: RecordType,
     words: &[Word<'_>],
@@ -57,12 +62,19 @@ fn spelled_data(
     origin: Option<&Name>,
 ) -> Result<RData, TextError>
     ensures form { IfOk result (λ rdata. type_of rdata ≡ record_type) }
-    ensures spelled { IfOk result (SpellsData (option_copied origin.entry) record_type words.now) }
+    ensures fits { IfOk result (λ rdata. data_len rdata ≤ 65535) }
+    ensures spelled { IfOk result (λ rdata. IsData (option_copied origin.entry) record_type words.now (data_octets rdata)) }
+    ensures refused { IfErr result (λ e. e ≢ Memory → HasNone (λ rdata. IsData (option_copied origin.entry) record_type words.now (data_octets rdata) × (data_len rdata ≤ 65535))) }
 {
-    if begin_generic(words) {
-        return read_generic(alloc, record_type, &words[1], &words[2..]);
+    // What a word spells, it spells in one way, and data have as many bytes as they take in full.
+    words_spell_once();
+    full_forms();
+    let place = words.first().map_or(end, |word| word.start);
+    let rdata = data_in_form(alloc, record_type, words, end, origin)?;
+    match fitting(rdata) {
+        Some(rdata) => Ok(rdata),
+        None => Err(fault_at(place, TextFault::DataTooLong)),
     }
-    data_in_form(alloc, record_type, words, end, origin)
 }
 
 /// Whether a word is `\#`.
@@ -97,13 +109,12 @@ pub fn data_of_words(
     ensures form { IfOk result (λ rdata. type_of rdata ≡ record_type) }
     ensures fits { IfOk result (λ rdata. data_len rdata ≤ 65535) }
     ensures spelled { IfOk result (SpellsData (option_copied origin.entry) record_type words.now) }
+    ensures refused { IfErr result (λ e. e ≢ Memory → HasNone (SpellsData (option_copied origin.entry) record_type words.now)) }
 {
-    let place = words.first().map_or(end, |word| word.start);
-    let rdata = spelled_data(alloc, record_type, words, end, origin)?;
-    match fitting(rdata) {
-        Some(rdata) => Ok(rdata),
-        None => Err(fault_at(place, TextFault::DataTooLong)),
+    if begin_generic(words) {
+        return read_generic(alloc, record_type, &words[1], &words[2..]);
     }
+    data_within(alloc, record_type, words, end, origin)
 }
 
 /// The data that stand next, to the end of the line.
@@ -115,7 +126,10 @@ pub(crate) fn data_of(
     ensures form { IfOk result (λ rdata. type_of rdata ≡ record_type) }
     ensures fits { IfOk result (λ rdata. data_len rdata ≤ 65535) }
     ensures spelled { IfOk result (HasData None record_type words.old.kind words.old.text words.old.place words.old.depth) }
+    ensures refused { IfErr result (λ e. e ≢ Memory → HasNone (HasData None record_type words.old.kind words.old.text words.old.place words.old.depth)) }
 {
+    // Words stand in a text in one way.
+    words_stand_once();
     let fields = words.rest(alloc)?;
     data_of_words(alloc, record_type, fields.as_slice(), words.place(), None)
 }
@@ -126,10 +140,13 @@ pub(crate) fn data_of(
 /// `1h30m`, bytes as hexadecimal digits or in base 64. Names are fully qualified. Data of any type may be `\#`, their length, and two
 /// hexadecimal digits for each byte, which blanks may stand between; of a type that has no form in the table they have to be (RFC 3597
 /// section 5). Then no bytes are `RData::Update0`, but for an OPT record, and names may not be compressed. Data have at most 65,535 bytes.
+///
+/// What is refused, but for want of memory, is no data of the type.
 pub fn read_data(alloc: Global, record_type: RecordType, text: &str) -> Result<RData, TextError>
     ensures form { IfOk result (λ rdata. type_of rdata ≡ record_type) }
     ensures fits { IfOk result (λ rdata. data_len rdata ≤ 65535) }
     ensures spelled { IfOk result (HasData None record_type Line text.now 0 0) }
+    ensures refused { IfErr result (λ e. e ≢ Memory → HasNone (HasData None record_type Line text.now 0 0)) }
 {
     data_of(alloc, record_type, &mut Words::new(text))
 }

@@ -1,12 +1,14 @@
 //! Fields that one word stands for, as bytes.
 
-ghost use Rattle.std.specs.Prelude.{◌≡◌, ◌<◌, ◌^◌, false, IfOk, OnOk, Option};
+ghost use Rattle.std.specs.Prelude.{◌≡◌, ◌≢◌, ◌<◌, ◌^◌, false, List, IfErr, IfOk, OnErr, OnOk, Option};
 ghost use Rattle.std.specs.Option.{option_copied};
 ghost use Rattle.std.specs.Net.Grammar.{IsIpv4Text, IsIpv6Text};
 ghost use Rattle.wire_names.specs.rr.domain.DomainName.{DomainName};
 ghost use Rattle.record_text.specs.declared.data.field.Field.TheVariants as field;
+ghost use Rattle.text_words.specs.declared.error.TextError.TheVariants.{Memory};
+ghost use Rattle.text_words.specs.declared.words.Word.{Word};
 ghost use Rattle.text_words.specs.Spelling.{Puts};
-ghost use Rattle.record_text.specs.RecordText.{AreFieldsBefore, IsField};
+ghost use Rattle.record_text.specs.RecordText.{AreFieldsBefore, HasNone, IsField};
 ghost use Rattle.text_words.specs.Spelling.{IsNumber};
 
 use crate::data::field::Field;
@@ -23,40 +25,61 @@ use text_words::{
 
 /// The IPv4 address that a word is.
 pub(crate) fn ipv4(word: &Word<'_>) -> Result<Ipv4Addr, TextError>
-    ensures { IfOk result (λ address. (word.now.quoted ≡ false) × IsIpv4Text word.now.bytes.now address) }
+    ensures spelled { IfOk result (λ address. (word.now.quoted ≡ false) × IsIpv4Text word.now.bytes.now address) }
+    ensures refused { OnErr result (HasNone (λ address. (word.now.quoted ≡ false) × IsIpv4Text word.now.bytes.now address)) }
 {
     let bad = word.fault(TextFault::BadAddress);
-    let text = word.plain_text().ok_or(bad)?;
-    text.parse::<Ipv4Addr>().map_err(|_| bad)
+    if word.quoted {
+        return Err(bad);
+    }
+    match Ipv4Addr::parse_ascii(word.bytes) {
+        Ok(address) => Ok(address),
+        Err(_) => Err(bad),
+    }
 }
 
 /// The IPv6 address that a word is.
 pub(crate) fn ipv6(word: &Word<'_>) -> Result<Ipv6Addr, TextError>
-    ensures { IfOk result (λ address. (word.now.quoted ≡ false) × IsIpv6Text word.now.bytes.now address) }
+    ensures spelled { IfOk result (λ address. (word.now.quoted ≡ false) × IsIpv6Text word.now.bytes.now address) }
+    ensures refused { OnErr result (HasNone (λ address. (word.now.quoted ≡ false) × IsIpv6Text word.now.bytes.now address)) }
 {
     let bad = word.fault(TextFault::BadAddress);
-    let text = word.plain_text().ok_or(bad)?;
-    text.parse::<Ipv6Addr>().map_err(|_| bad)
+    if word.quoted {
+        return Err(bad);
+    }
+    match Ipv6Addr::parse_ascii(word.bytes) {
+        Ok(address) => Ok(address),
+        Err(_) => Err(bad),
+    }
 }
 
 /// The number of 8 bits that a word is.
 fn number8(word: &Word<'_>) -> Result<u8, TextError>
-    ensures { IfOk result (λ n. (word.now.quoted ≡ false) × IsNumber word.now.bytes.now n × (n < 2 ^ 8)) }
+    ensures spelled { IfOk result (λ n. (word.now.quoted ≡ false) × IsNumber word.now.bytes.now n × (n < 2 ^ 8)) }
+    ensures refused { OnErr result (HasNone (λ n. (word.now.quoted ≡ false) × IsNumber word.now.bytes.now n × (n < 2 ^ 8))) }
 {
     let number = word.number()?;
-    u8::try_from(number).map_err(|_| word.fault(TextFault::NumberOutOfRange))
+    match u8::try_from(number) {
+        Ok(number) => Ok(number),
+        Err(_) => Err(word.fault(TextFault::NumberOutOfRange)),
+    }
 }
 
 /// The number of 16 bits that a word is.
 pub(crate) fn number16(word: &Word<'_>) -> Result<u16, TextError>
-    ensures { IfOk result (λ n. (word.now.quoted ≡ false) × IsNumber word.now.bytes.now n × (n < 2 ^ 16)) }
+    ensures spelled { IfOk result (λ n. (word.now.quoted ≡ false) × IsNumber word.now.bytes.now n × (n < 2 ^ 16)) }
+    ensures refused { OnErr result (HasNone (λ n. (word.now.quoted ≡ false) × IsNumber word.now.bytes.now n × (n < 2 ^ 16))) }
 {
     let number = word.number()?;
-    u16::try_from(number).map_err(|_| word.fault(TextFault::NumberOutOfRange))
+    match u16::try_from(number) {
+        Ok(number) => Ok(number),
+        Err(_) => Err(word.fault(TextFault::NumberOutOfRange)),
+    }
 }
 
 fn put_number8(word: &Word<'_>, data: &mut Vec<u8>) -> Result<(), TextError>
-    ensures { OnOk result ((origin : Option DomainName) → Puts (IsField origin field.Number8 word.now) «data».old.items «data».new.items) }
+    ensures put { OnOk result ((origin : Option DomainName) → Puts (IsField origin field.Number8 word.now) «data».old.items «data».new.items) }
+    ensures refused { IfErr result (λ e. e ≢ Memory → (origin : Option DomainName) → HasNone (IsField origin field.Number8 word.now)) }
 {
     let number = number8(word)?;
     data.push(number)?;
@@ -64,7 +87,8 @@ fn put_number8(word: &Word<'_>, data: &mut Vec<u8>) -> Result<(), TextError>
 }
 
 fn put_number16(word: &Word<'_>, data: &mut Vec<u8>) -> Result<(), TextError>
-    ensures { OnOk result ((origin : Option DomainName) → Puts (IsField origin field.Number16 word.now) «data».old.items «data».new.items) }
+    ensures put { OnOk result ((origin : Option DomainName) → Puts (IsField origin field.Number16 word.now) «data».old.items «data».new.items) }
+    ensures refused { IfErr result (λ e. e ≢ Memory → (origin : Option DomainName) → HasNone (IsField origin field.Number16 word.now)) }
 {
     let number = number16(word)?;
     data.extend_from_slice(&number.to_be_bytes())?;
@@ -72,7 +96,8 @@ fn put_number16(word: &Word<'_>, data: &mut Vec<u8>) -> Result<(), TextError>
 }
 
 fn put_number32(word: &Word<'_>, data: &mut Vec<u8>) -> Result<(), TextError>
-    ensures { OnOk result ((origin : Option DomainName) → Puts (IsField origin field.Number32 word.now) «data».old.items «data».new.items) }
+    ensures put { OnOk result ((origin : Option DomainName) → Puts (IsField origin field.Number32 word.now) «data».old.items «data».new.items) }
+    ensures refused { IfErr result (λ e. e ≢ Memory → (origin : Option DomainName) → HasNone (IsField origin field.Number32 word.now)) }
 {
     let number = word.number()?;
     data.extend_from_slice(&number.to_be_bytes())?;
@@ -80,7 +105,8 @@ fn put_number32(word: &Word<'_>, data: &mut Vec<u8>) -> Result<(), TextError>
 }
 
 fn put_time(word: &Word<'_>, data: &mut Vec<u8>) -> Result<(), TextError>
-    ensures { OnOk result ((origin : Option DomainName) → Puts (IsField origin field.Time word.now) «data».old.items «data».new.items) }
+    ensures put { OnOk result ((origin : Option DomainName) → Puts (IsField origin field.Time word.now) «data».old.items «data».new.items) }
+    ensures refused { IfErr result (λ e. e ≢ Memory → (origin : Option DomainName) → HasNone (IsField origin field.Time word.now)) }
 {
     let seconds = seconds_of(word)?;
     data.extend_from_slice(&seconds.to_be_bytes())?;
@@ -93,7 +119,8 @@ fn put_name(
     origin: Option<&Name>,
     data: &mut Vec<u8>,
 ) -> Result<(), TextError>
-    ensures { OnOk result (Puts (IsField (option_copied origin.entry) field.Name word.now) «data».old.items «data».new.items) }
+    ensures put { OnOk result (Puts (IsField (option_copied origin.entry) field.Name word.now) «data».old.items «data».new.items) }
+    ensures refused { IfErr result (λ e. e ≢ Memory → HasNone (IsField (option_copied origin.entry) field.Name word.now)) }
 {
     let name = absolute_name(alloc, word, origin)?;
     data.extend_from_slice(name.as_wire())?;
@@ -102,7 +129,8 @@ fn put_name(
 }
 
 fn put_ipv4(word: &Word<'_>, data: &mut Vec<u8>) -> Result<(), TextError>
-    ensures { OnOk result ((origin : Option DomainName) → Puts (IsField origin field.Ipv4 word.now) «data».old.items «data».new.items) }
+    ensures put { OnOk result ((origin : Option DomainName) → Puts (IsField origin field.Ipv4 word.now) «data».old.items «data».new.items) }
+    ensures refused { IfErr result (λ e. e ≢ Memory → (origin : Option DomainName) → HasNone (IsField origin field.Ipv4 word.now)) }
 {
     let address = ipv4(word)?;
     data.extend_from_slice(&address.octets())?;
@@ -110,7 +138,8 @@ fn put_ipv4(word: &Word<'_>, data: &mut Vec<u8>) -> Result<(), TextError>
 }
 
 fn put_ipv6(word: &Word<'_>, data: &mut Vec<u8>) -> Result<(), TextError>
-    ensures { OnOk result ((origin : Option DomainName) → Puts (IsField origin field.Ipv6 word.now) «data».old.items «data».new.items) }
+    ensures put { OnOk result ((origin : Option DomainName) → Puts (IsField origin field.Ipv6 word.now) «data».old.items «data».new.items) }
+    ensures refused { IfErr result (λ e. e ≢ Memory → (origin : Option DomainName) → HasNone (IsField origin field.Ipv6 word.now)) }
 {
     let address = ipv6(word)?;
     data.extend_from_slice(&address.octets())?;
@@ -118,7 +147,8 @@ fn put_ipv6(word: &Word<'_>, data: &mut Vec<u8>) -> Result<(), TextError>
 }
 
 fn put_type(word: &Word<'_>, data: &mut Vec<u8>) -> Result<(), TextError>
-    ensures { OnOk result ((origin : Option DomainName) → Puts (IsField origin field.RecordType word.now) «data».old.items «data».new.items) }
+    ensures put { OnOk result ((origin : Option DomainName) → Puts (IsField origin field.RecordType word.now) «data».old.items «data».new.items) }
+    ensures refused { IfErr result (λ e. e ≢ Memory → (origin : Option DomainName) → HasNone (IsField origin field.RecordType word.now)) }
 {
     let record_type = type_of(word)?;
     data.extend_from_slice(&record_type.value().to_be_bytes())?;
@@ -126,7 +156,8 @@ fn put_type(word: &Word<'_>, data: &mut Vec<u8>) -> Result<(), TextError>
 }
 
 fn put_moment(word: &Word<'_>, data: &mut Vec<u8>) -> Result<(), TextError>
-    ensures { OnOk result ((origin : Option DomainName) → Puts (IsField origin field.Moment word.now) «data».old.items «data».new.items) }
+    ensures put { OnOk result ((origin : Option DomainName) → Puts (IsField origin field.Moment word.now) «data».old.items «data».new.items) }
+    ensures refused { IfErr result (λ e. e ≢ Memory → (origin : Option DomainName) → HasNone (IsField origin field.Moment word.now)) }
 {
     let seconds = moment(word)?;
     data.extend_from_slice(&seconds.to_be_bytes())?;
@@ -141,7 +172,8 @@ pub(crate) fn put_field(
     origin: Option<&Name>,
     data: &mut Vec<u8>,
 ) -> Result<(), TextError>
-    ensures { OnOk result (Puts (IsField (option_copied origin.entry) field word.now) «data».old.items «data».new.items) }
+    ensures put { OnOk result (Puts (IsField (option_copied origin.entry) field word.now) «data».old.items «data».new.items) }
+    ensures refused { IfErr result (λ e. e ≢ Memory → HasNone (IsField (option_copied origin.entry) field word.now)) }
 {
     match field {
         Field::Number8 => put_number8(word, data),
@@ -172,7 +204,8 @@ pub(crate) fn put_fields<'a, 'w>(
     origin: Option<&Name>,
     data: &mut Vec<u8>,
 ) -> Result<&'w [Word<'a>], TextError>
-    ensures { IfOk result (λ behind. Puts (AreFieldsBefore (option_copied origin.entry) fields.now words.now behind.now) «data».old.items «data».new.items) }
+    ensures put { IfOk result (λ behind. Puts (AreFieldsBefore (option_copied origin.entry) fields.now words.now behind.now) «data».old.items «data».new.items) }
+    ensures refused { IfErr result (λ e. e ≢ Memory → (behind : List Word) → HasNone (AreFieldsBefore (option_copied origin.entry) fields.now words.now behind)) }
 {
     let mut place = 0;
     for field in fields {

@@ -1,12 +1,13 @@
 //! Data in the form of their type.
 
-ghost use Rattle.std.specs.Prelude.{◌≡◌, [], ◌∷◌, length, IfOk};
+ghost use Rattle.std.specs.Prelude.{◌≡◌, ◌≢◌, [], ◌∷◌, length, IfErr, IfOk};
 ghost use Rattle.std.specs.Option.{option_copied};
 ghost use Rattle.std.specs.List.{flat_map};
 ghost use Rattle.wire_messages.specs.rr.RecordData.{character_string, type_of};
 ghost use Rattle.wire_messages.specs.serialize.writing.FullForm.{data_octets};
+ghost use Rattle.text_words.specs.declared.error.TextError.TheVariants.{Memory};
 ghost use Rattle.text_words.specs.Spelling.{IsString};
-ghost use Rattle.record_text.specs.RecordText.{AreStrings, IsData};
+ghost use Rattle.record_text.specs.RecordText.{AreStrings, HasNone, IsData};
 
 use crate::data::fields::{ipv4, ipv6, number16, put_fields};
 use crate::data::rest::put_rest;
@@ -26,6 +27,7 @@ fn mail_exchange(
 ) -> Result<RData, TextError>
     ensures form { IfOk result (λ rdata. type_of rdata ≡ 15) }
     ensures spelled { IfOk result (λ rdata. IsData (option_copied origin.entry) 15 (preference.now ∷ exchange.now ∷ []) (data_octets rdata)) }
+    ensures refused { IfErr result (λ e. e ≢ Memory → HasNone (IsData (option_copied origin.entry) 15 (preference.now ∷ exchange.now ∷ []))) }
 {
     let preference = number16(preference)?;
     let exchange = absolute_name(alloc, exchange, origin)?;
@@ -44,6 +46,7 @@ fn start_of_authority(
     requires { length words.now ≡ 7 }
     ensures form { IfOk result (λ rdata. type_of rdata ≡ 6) }
     ensures spelled { IfOk result (λ rdata. IsData (option_copied origin.entry) 6 words.now (data_octets rdata)) }
+    ensures refused { IfErr result (λ e. e ≢ Memory → HasNone (IsData (option_copied origin.entry) 6 words.now)) }
 {
     let mname = absolute_name(alloc, &words[0], origin)?;
     let rname = absolute_name(alloc, &words[1], origin)?;
@@ -66,7 +69,8 @@ fn start_of_authority(
 
 /// The character string of a word.
 fn string(alloc: Global, word: &Word<'_>) -> Result<Octets, TextError>
-    ensures { IfOk result (λ bytes. IsString word.now (character_string bytes)) }
+    ensures spelled { IfOk result (λ bytes. IsString word.now (character_string bytes)) }
+    ensures refused { IfErr result (λ e. e ≢ Memory → HasNone (IsString word.now)) }
 {
     let mut bytes = [0; MAX_STRING_LEN];
     let len = read_string(word, &mut bytes)?;
@@ -75,7 +79,8 @@ fn string(alloc: Global, word: &Word<'_>) -> Result<Octets, TextError>
 
 /// Character strings, one a word.
 fn strings(alloc: Global, words: &[Word<'_>]) -> Result<Items<Octets>, TextError>
-    ensures { IfOk result (λ strings. AreStrings words.now (flat_map character_string strings)) }
+    ensures spelled { IfOk result (λ strings. AreStrings words.now (flat_map character_string strings)) }
+    ensures refused { IfErr result (λ e. e ≢ Memory → HasNone (AreStrings words.now)) }
 {
     let mut strings = Items::new(alloc);
     for word in words {
@@ -94,6 +99,7 @@ fn as_bytes(
 ) -> Result<RData, TextError>
     ensures form { IfOk result (λ rdata. type_of rdata ≡ record_type) }
     ensures spelled { IfOk result (λ rdata. IsData (option_copied origin.entry) record_type words.now (data_octets rdata)) }
+    ensures refused { IfErr result (λ e. e ≢ Memory → HasNone (IsData (option_copied origin.entry) record_type words.now)) }
 {
     let Some(row) = row_of(record_type.value()) else {
         let place = words.first().map_or(end, |word| word.start);
@@ -118,6 +124,7 @@ pub(crate) fn data_in_form(
 ) -> Result<RData, TextError>
     ensures form { IfOk result (λ rdata. type_of rdata ≡ record_type) }
     ensures spelled { IfOk result (λ rdata. IsData (option_copied origin.entry) record_type words.now (data_octets rdata)) }
+    ensures refused { IfErr result (λ e. e ≢ Memory → HasNone (IsData (option_copied origin.entry) record_type words.now)) }
 {
     match (record_type, words) {
         (RecordType::A, [word]) => Ok(RData::A(ipv4(word)?)),

@@ -1,11 +1,12 @@
 //! Salts and hashes of names (RFC 5155 section 3.3).
 
-ghost use Rattle.std.specs.Prelude.{◌≡◌, ◌<◌, Option, IfOk, IfSome, OnOk};
+ghost use Rattle.std.specs.Prelude.{◌≡◌, ◌≢◌, ◌<◌, ◌≤◌, ◌^◌, Option, IfErr, IfNone, IfOk, IfSome, OnOk};
 ghost use Rattle.std.specs.Char.{digit_value};
 ghost use Rattle.wire_names.specs.rr.domain.DomainName.{DomainName};
 ghost use Rattle.record_text.specs.declared.data.field.Field.TheVariants as field;
+ghost use Rattle.text_words.specs.declared.error.TextError.TheVariants.{Memory};
 ghost use Rattle.text_words.specs.Spelling.{Puts};
-ghost use Rattle.record_text.specs.RecordText.{IsField};
+ghost use Rattle.record_text.specs.RecordText.{HasNone, IsField};
 ghost use Rattle.record_text.specs.Groups.{IsBase32, SpellsGroups};
 
 use hex::FromHexError;
@@ -14,7 +15,8 @@ use text_words::{TextError, TextFault, Word};
 
 /// Puts a salt behind other bytes: its length, and so many bytes; `-` is none.
 pub(crate) fn put_salt(alloc: Global, word: &Word<'_>, data: &mut Vec<u8>) -> Result<(), TextError>
-    ensures { OnOk result ((origin : Option DomainName) → Puts (IsField origin field.Salt word.now) «data».old.items «data».new.items) }
+    ensures put { OnOk result ((origin : Option DomainName) → Puts (IsField origin field.Salt word.now) «data».old.items «data».new.items) }
+    ensures refused { IfErr result (λ e. e ≢ Memory → (origin : Option DomainName) → HasNone (IsField origin field.Salt word.now)) }
 {
     if word.quoted {
         return Err(word.fault(TextFault::BadHex));
@@ -38,7 +40,8 @@ pub(crate) fn put_salt(alloc: Global, word: &Word<'_>, data: &mut Vec<u8>) -> Re
 
 /// The value of a digit in base 32.
 fn digit_of(digit: u8) -> Option<u8>
-    ensures { IfSome result (λ value. (digit_value digit ≡ value) × (value < 32)) }
+    ensures value { IfSome result (λ value. (digit_value digit ≡ value) × (value < 32)) }
+    ensures none { IfNone result (32 ≤ digit_value digit) }
 {
     match digit {
         b'0'..=b'9' => Some(digit - b'0'),
@@ -50,7 +53,8 @@ fn digit_of(digit: u8) -> Option<u8>
 
 /// The number that digits in base 32 are.
 fn number_of_group(digits: &[u8]) -> Option<u64>
-    ensures { IfSome result (IsBase32 digits.now) }
+    ensures value { IfSome result (IsBase32 digits.now) }
+    ensures none { IfNone result (HasNone (λ n. IsBase32 digits.now n × (n < 2 ^ 64))) }
 {
     let mut number = 0u64;
     for digit in digits {
@@ -62,7 +66,8 @@ fn number_of_group(digits: &[u8]) -> Option<u64>
 
 /// The bytes of a word in base 32, without padding and in whole groups of eight digits.
 fn groups(alloc: Global, word: &Word<'_>) -> Result<Vec<u8>, TextError>
-    ensures { IfOk result (λ bytes. SpellsGroups word.now.bytes.now bytes.items) }
+    ensures spelled { IfOk result (λ bytes. SpellsGroups word.now.bytes.now bytes.items) }
+    ensures refused { IfErr result (λ e. e ≢ Memory → HasNone (SpellsGroups word.now.bytes.now)) }
 {
     let bad = word.fault(TextFault::BadBase32);
     let text = word.bytes;
@@ -81,7 +86,8 @@ fn groups(alloc: Global, word: &Word<'_>) -> Result<Vec<u8>, TextError>
 
 /// Puts a hash behind other bytes: its length, and so many bytes.
 pub(crate) fn put_hash(alloc: Global, word: &Word<'_>, data: &mut Vec<u8>) -> Result<(), TextError>
-    ensures { OnOk result ((origin : Option DomainName) → Puts (IsField origin field.Hash word.now) «data».old.items «data».new.items) }
+    ensures put { OnOk result ((origin : Option DomainName) → Puts (IsField origin field.Hash word.now) «data».old.items «data».new.items) }
+    ensures refused { IfErr result (λ e. e ≢ Memory → (origin : Option DomainName) → HasNone (IsField origin field.Hash word.now)) }
 {
     if word.quoted {
         return Err(word.fault(TextFault::BadBase32));

@@ -1,6 +1,7 @@
 //! Moments in text (RFC 4034 section 3.2).
 
-ghost use Rattle.std.specs.Prelude.{◌≡◌, ◌<◌, false, length, IfOk, IfSome, IsTrue};
+ghost use Rattle.std.specs.Prelude.{◌≡◌, ◌↔◌, ◌<◌, false, length, IfNone, IfOk, IfSome, IsTrue, OnErr};
+ghost use Rattle.record_text.specs.RecordText.{HasNone};
 ghost use Rattle.record_text.specs.Moments.{IsDate, SpellsDate, SpellsMoment, date_seconds, days_before_month, days_before_year, is_leap};
 
 use text_words::{TextError, TextFault, Word, number_of_digits};
@@ -72,7 +73,7 @@ fn date_seconds(date: Date) -> u64
 
 /// Whether a date is one of a calendar from 1970 on, months of 31 days and minutes of 61 seconds allowed.
 fn is_date(date: Date) -> bool
-    ensures { IsTrue result → IsDate date }
+    ensures { IsTrue result ↔ IsDate date }
 {
     let is_day = matches!(date.month, 1..=12) && matches!(date.day, 1..=31);
     let is_time = date.hour < 24 && date.minute < 60 && date.second < 61;
@@ -82,7 +83,8 @@ fn is_date(date: Date) -> bool
 /// The date of fourteen digits.
 fn date_of_digits(digits: &[u8]) -> Option<Date>
     requires { length digits.now ≡ 14 }
-    ensures { IfSome result (SpellsDate digits.now) }
+    ensures spelled { IfSome result (SpellsDate digits.now) }
+    ensures none { IfNone result (HasNone (SpellsDate digits.now)) }
 {
     Some(Date {
         year: number_of_digits(&digits[..4])?,
@@ -96,18 +98,24 @@ fn date_of_digits(digits: &[u8]) -> Option<Date>
 
 /// The seconds of a moment since the beginning of 1970, without what goes beyond 32 bits.
 pub(crate) fn moment(word: &Word<'_>) -> Result<u32, TextError>
-    ensures { IfOk result (λ n. (word.now.quoted ≡ false) × SpellsMoment word.now.bytes.now n) }
+    ensures spelled { IfOk result (λ n. (word.now.quoted ≡ false) × SpellsMoment word.now.bytes.now n) }
+    ensures refused { OnErr result (HasNone (λ n. (word.now.quoted ≡ false) × SpellsMoment word.now.bytes.now n)) }
 {
     let bad = word.fault(TextFault::BadDate);
     if word.quoted {
         return Err(bad);
     }
     if word.bytes.len() != 14 {
-        let number = number_of_digits(word.bytes).ok_or(bad)?;
+        let Some(number) = number_of_digits(word.bytes) else {
+            return Err(bad);
+        };
         return Ok(number);
     }
-    match date_of_digits(word.bytes) {
-        Some(date) if is_date(date) => Ok((date_seconds(date) % 0x1_0000_0000) as u32),
-        _ => Err(bad),
+    let Some(date) = date_of_digits(word.bytes) else {
+        return Err(bad);
+    };
+    if is_date(date) {
+        return Ok((date_seconds(date) % 0x1_0000_0000) as u32);
     }
+    Err(bad)
 }

@@ -1,11 +1,12 @@
 //! What the words behind the fields stand for.
 
-ghost use Rattle.std.specs.Prelude.{◌≡◌, IfOk, OnOk};
+ghost use Rattle.std.specs.Prelude.{◌≡◌, ◌≢◌, IfErr, IfOk, OnOk};
 ghost use Rattle.base64.specs.Engines.{standard};
-ghost use Rattle.base64.specs.GeneralPurpose.{encode_of};
+ghost use Rattle.base64.specs.GeneralPurpose.{IsBytes, encode_of};
 ghost use Rattle.hex.specs.Hex.{decode_of};
+ghost use Rattle.text_words.specs.declared.error.TextError.TheVariants.{Memory};
 ghost use Rattle.text_words.specs.Spelling.{Puts};
-ghost use Rattle.record_text.specs.RecordText.{AreStrings, ArePlain, IsRest, bytes_of};
+ghost use Rattle.record_text.specs.RecordText.{AreStrings, ArePlain, HasNone, IsRest, bytes_of};
 
 use crate::data::field::Rest;
 use crate::data::types::put_types;
@@ -28,6 +29,7 @@ pub(crate) fn joined(
 ) -> Result<Vec<u8>, TextError>
     ensures plain { OnOk result (ArePlain words.now) }
     ensures bytes { IfOk result (λ bytes. bytes.items ≡ bytes_of words.now) }
+    ensures refused { IfErr result (λ e. e ≢ Memory → ¬ (ArePlain words.now)) }
 {
     let mut bytes = Vec::new(alloc);
     for word in words {
@@ -41,7 +43,8 @@ pub(crate) fn joined(
 
 /// The bytes that hexadecimal digits are.
 pub(crate) fn hex_bytes(alloc: Global, words: &[Word<'_>]) -> Result<Vec<u8>, TextError>
-    ensures { IfOk result (λ bytes. ArePlain words.now × (decode_of (bytes_of words.now) ≡ Ok bytes.items)) }
+    ensures spelled { IfOk result (λ bytes. ArePlain words.now × (decode_of (bytes_of words.now) ≡ Ok bytes.items)) }
+    ensures refused { IfErr result (λ e. e ≢ Memory → HasNone (λ octets. ArePlain words.now × (decode_of (bytes_of words.now) ≡ Ok octets))) }
 {
     let digits = joined(alloc, words, TextFault::BadHex)?;
     match hex::decode(alloc, digits.as_slice()) {
@@ -53,7 +56,8 @@ pub(crate) fn hex_bytes(alloc: Global, words: &[Word<'_>]) -> Result<Vec<u8>, Te
 
 /// Puts the bytes that hexadecimal digits are behind others.
 fn put_hex(alloc: Global, words: &[Word<'_>], data: &mut Vec<u8>) -> Result<(), TextError>
-    ensures { OnOk result (ArePlain words.now × Puts (λ octets. decode_of (bytes_of words.now) ≡ Ok octets) «data».old.items «data».new.items) }
+    ensures put { OnOk result (ArePlain words.now × Puts (λ octets. decode_of (bytes_of words.now) ≡ Ok octets) «data».old.items «data».new.items) }
+    ensures refused { IfErr result (λ e. e ≢ Memory → HasNone (λ octets. ArePlain words.now × (decode_of (bytes_of words.now) ≡ Ok octets))) }
 {
     let bytes = hex_bytes(alloc, words)?;
     data.extend_from_slice(bytes.as_slice())?;
@@ -62,7 +66,8 @@ fn put_hex(alloc: Global, words: &[Word<'_>], data: &mut Vec<u8>) -> Result<(), 
 
 /// Puts the bytes behind others whose encoding in base 64 the words are.
 fn put_base64(alloc: Global, words: &[Word<'_>], data: &mut Vec<u8>) -> Result<(), TextError>
-    ensures { OnOk result (ArePlain words.now × Puts (λ octets. bytes_of words.now ≡ encode_of standard octets) «data».old.items «data».new.items) }
+    ensures put { OnOk result (ArePlain words.now × Puts (λ octets. IsBytes octets × (bytes_of words.now ≡ encode_of standard octets)) «data».old.items «data».new.items) }
+    ensures refused { IfErr result (λ e. e ≢ Memory → HasNone (λ octets. ArePlain words.now × IsBytes octets × (bytes_of words.now ≡ encode_of standard octets))) }
 {
     let text = joined(alloc, words, TextFault::BadBase64)?;
     match STANDARD.decode(alloc, text.as_slice()) {
@@ -77,7 +82,8 @@ fn put_base64(alloc: Global, words: &[Word<'_>], data: &mut Vec<u8>) -> Result<(
 
 /// Puts character strings behind others.
 fn put_strings(words: &[Word<'_>], data: &mut Vec<u8>) -> Result<(), TextError>
-    ensures { OnOk result (Puts (AreStrings words.now) «data».old.items «data».new.items) }
+    ensures put { OnOk result (Puts (AreStrings words.now) «data».old.items «data».new.items) }
+    ensures refused { IfErr result (λ e. e ≢ Memory → HasNone (AreStrings words.now)) }
 {
     for word in words {
         put_string(word, data)?;
@@ -93,14 +99,18 @@ pub(crate) fn put_rest(
     end: usize,
     data: &mut Vec<u8>,
 ) -> Result<(), TextError>
-    ensures { OnOk result (Puts (IsRest rest words.now) «data».old.items «data».new.items) }
+    ensures put { OnOk result (Puts (IsRest rest words.now) «data».old.items «data».new.items) }
+    ensures refused { IfErr result (λ e. e ≢ Memory → HasNone (IsRest rest words.now)) }
 {
     match (rest, words.first()) {
         (Rest::Nothing, None) => Ok(()),
         (Rest::Nothing, Some(word)) => Err(word.fault(TextFault::TooMuchText)),
         (Rest::Generic, Some(word)) => Err(word.fault(TextFault::NoTextForm)),
         (Rest::Types, _) => put_types(alloc, words, data),
-        (_, None) => Err(fault_at(end, TextFault::MissingField)),
+        (Rest::Generic, None) => Err(fault_at(end, TextFault::MissingField)),
+        (Rest::Strings, None) => Err(fault_at(end, TextFault::MissingField)),
+        (Rest::Hex, None) => Err(fault_at(end, TextFault::MissingField)),
+        (Rest::Base64, None) => Err(fault_at(end, TextFault::MissingField)),
         (Rest::Strings, Some(_)) => put_strings(words, data),
         (Rest::Hex, Some(_)) => put_hex(alloc, words, data),
         (Rest::Base64, Some(_)) => put_base64(alloc, words, data),

@@ -1,8 +1,8 @@
 //! The types that have a mnemonic.
 
-ghost use Rattle.std.specs.Prelude.{◌≡◌, ◌==◌, false, find, map, Any, IfOk, IfSome};
+ghost use Rattle.std.specs.Prelude.{◌≡◌, ◌==◌, ℕ, false, find, map, Any, IfNone, IfOk, IfSome, OnErr};
 ghost use Rattle.std.specs.Option.{option_copied, option_map};
-ghost use Rattle.record_text.specs.RecordText.{SameLetters, SpellsMnemonic, SpellsType, row_view};
+ghost use Rattle.record_text.specs.RecordText.{HasNone, IsTypeNumber, SameLetters, SpellsMnemonic, SpellsType, row_view};
 ghost use Rattle.record_text.specs.TypeTable.{row_of, rows};
 
 use crate::data::field::{Field, Rest, Row};
@@ -483,7 +483,8 @@ pub(crate) fn row_of(number: u16) -> Option<&'static Row>
 
 /// The number of a row with a mnemonic, the letters of which may have any case.
 fn number_named(table: &[Row], mnemonic: &[u8]) -> Option<u16>
-    ensures { IfSome result (λ number. Any (λ row. (row.number ≡ number) × SameLetters row.mnemonic.now mnemonic.now) table.now) }
+    ensures named { IfSome result (λ number. Any (λ row. (row.number ≡ number) × SameLetters row.mnemonic.now mnemonic.now) table.now) }
+    ensures none { IfNone result (HasNone (λ number. Any (λ row. (row.number ≡ number) × SameLetters row.mnemonic.now mnemonic.now) table.now)) }
 {
     let row = table.iter().find(|row| row.mnemonic.as_bytes().eq_ignore_ascii_case(mnemonic))?;
     Some(row.number)
@@ -492,21 +493,24 @@ fn number_named(table: &[Row], mnemonic: &[u8]) -> Option<u16>
 /// The number of a type in the table of types.
 fn number_in(table: &[Row], mnemonic: &[u8]) -> Option<u16>
     requires { map row_view table.now ≡ rows }
-    ensures { IfSome result (SpellsMnemonic mnemonic.now) }
+    ensures named { IfSome result (SpellsMnemonic mnemonic.now) }
+    ensures none { IfNone result (HasNone (SpellsMnemonic mnemonic.now)) }
 {
     number_named(table, mnemonic)
 }
 
 /// The number of the type that a mnemonic names, the letters of which may have any case.
 pub(crate) fn number_of(mnemonic: &[u8]) -> Option<u16>
-    ensures { IfSome result (SpellsMnemonic mnemonic.now) }
+    ensures named { IfSome result (SpellsMnemonic mnemonic.now) }
+    ensures none { IfNone result (HasNone (SpellsMnemonic mnemonic.now)) }
 {
     number_in(&ROWS, mnemonic)
 }
 
 /// The number of 16 bits behind `TYPE` (RFC 3597 section 5).
 fn numbered(text: &[u8]) -> Option<u16>
-    ensures { IfSome result (SpellsType text.now) }
+    ensures spelled { IfSome result (IsTypeNumber text.now) }
+    ensures none { IfNone result (HasNone (IsTypeNumber text.now)) }
 {
     let (front, digits) = text.split_at_checked(4)?;
     if front.eq_ignore_ascii_case(b"TYPE") {
@@ -522,7 +526,8 @@ fn numbered(text: &[u8]) -> Option<u16>
 
 /// The type of a field: its mnemonic, or `TYPE` and its number, in any letter case.
 pub fn type_of(word: &Word<'_>) -> Result<RecordType, TextError>
-    ensures { IfOk result (λ number. (word.now.quoted ≡ false) × SpellsType word.now.bytes.now number) }
+    ensures spelled { IfOk result (λ number. (word.now.quoted ≡ false) × SpellsType word.now.bytes.now number) }
+    ensures refused { OnErr result ((number : ℕ) → word.now.quoted ≡ false → SpellsType word.now.bytes.now number → ⊥) }
 {
     let unknown = word.fault(TextFault::UnknownType);
     if word.quoted {

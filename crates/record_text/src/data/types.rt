@@ -1,9 +1,10 @@
 //! Sets of types as bytes (RFC 4034 section 4.1.2).
 
-ghost use Rattle.std.specs.Prelude.{◌≡◌, ◌==◌, ◌<◌, ◌≤◌, ◌+◌, ◌*◌, ◌++◌, IfOk, OnOk};
+ghost use Rattle.std.specs.Prelude.{◌≡◌, ◌==◌, ◌<◌, ◌≤◌, ◌+◌, ◌*◌, ◌++◌, ◌≢◌, IfErr, IfOk, OnOk};
 ghost use Rattle.std.specs.List.{list_any};
+ghost use Rattle.text_words.specs.declared.error.TextError.TheVariants.{Memory};
 ghost use Rattle.text_words.specs.Spelling.{Puts};
-ghost use Rattle.record_text.specs.RecordText.{AreTypes, IsTypeSet};
+ghost use Rattle.record_text.specs.RecordText.{AreTypes, HasNone, IsTypeSet};
 ghost use Rattle.record_text.specs.TypeBitmaps.{bitmap, bitmap_octet, type_bit, window_len, window_octets, windows};
 
 use crate::data::table::type_of;
@@ -93,7 +94,8 @@ fn put_windows(types: &[u16], count: u16, data: &mut Vec<u8>) -> Result<(), Allo
 
 /// The numbers of the types that words are.
 fn numbers(alloc: Global, words: &[Word<'_>]) -> Result<Vec<u16>, TextError>
-    ensures { IfOk result (λ numbers. AreTypes words.now numbers.items) }
+    ensures spelled { IfOk result (λ numbers. AreTypes words.now numbers.items) }
+    ensures refused { IfErr result (λ e. e ≢ Memory → HasNone (AreTypes words.now)) }
 {
     let mut numbers = Vec::new(alloc);
     for word in words {
@@ -108,7 +110,8 @@ pub(crate) fn put_types(
     words: &[Word<'_>],
     data: &mut Vec<u8>,
 ) -> Result<(), TextError>
-    ensures { OnOk result (Puts (IsTypeSet words.now) «data».old.items «data».new.items) }
+    ensures put { OnOk result (Puts (IsTypeSet words.now) «data».old.items «data».new.items) }
+    ensures refused { IfErr result (λ e. e ≢ Memory → HasNone (IsTypeSet words.now)) }
 {
     let types = numbers(alloc, words)?;
     put_windows(types.as_slice(), 256, data)?;

@@ -1,6 +1,13 @@
+use Rattle.std.proofs.lemmas.Result.{err_from_is_err_and}
 use Rattle.std.specs.Net.Addr.{ipv6_octets}
 use Rattle.record_text.specs.RecordText.IsField.{ipv6}
+use Rattle.record_text.proofs.NoField.{no_ipv6}
 use Rattle.record_text.proofs.data.fields.put_ipv6.Goals as goal
 
-pub returns : goal.returns
-returns c = λ origin. (ipv6_octets c.in_ok-address.address, rw c.octets.ensures at c.in_ok-extend_from_slice.ensures.items, ipv6 c.in_ok-address.ensures.0 c.in_ok-address.ensures.1)
+pub returns-clause-put : goal.returns-clause-put
+returns-clause-put c = λ origin. (ipv6_octets c.in_ok-address.address, rw c.octets.ensures at c.in_ok-extend_from_slice.ensures.items, ipv6 c.in_ok-address.ensures.spelled.0 c.in_ok-address.ensures.spelled.1)
+
+pub returns-in_err-address-clause-refused : goal.returns-in_err-address-clause-refused
+returns-in_err-address-clause-refused c =
+    let p = err_from_is_err_and c.from_residual.result c.from_residual.ensures.1 in
+    rw p.1 (λ other. no_ipv6 c.args.word.now c.in_err-address.ensures.refused)

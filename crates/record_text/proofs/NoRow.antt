@@ -1,0 +1,148 @@
+-- Where a word of a row stands for nothing that the row needs, the words are no data of the row.
+use Rattle.std.proofs.Common.{◌≡◌, ◌∙◌, ◌<◌, ℕ, false, List, [], ◌∷◌, ◌++◌, length, get_or, drop, Option, Some, None, Ok, sym, ap, subst, refl, inl, inr, arith}
+use Rattle.std.specs.Prelude.{◌≢◌}
+use Rattle.std.proofs.lemmas.Bool.{cases_lt}
+use Rattle.std.proofs.lemmas.List.{length_push, get_or_push, get_or_append_left, drop_at, length-append}
+use Rattle.base64.specs.Engines.{standard}
+use Rattle.base64.specs.GeneralPurpose.{IsBytes, encode_of}
+use Rattle.hex.specs.Hex.{decode_of}
+use Rattle.wire_names.specs.rr.domain.DomainName.{DomainName}
+use Rattle.record_text.specs.declared.data.field.Field.{Field}
+use Rattle.record_text.specs.declared.data.field.Rest.{Rest}
+use Rattle.record_text.specs.declared.data.field.Rest.TheVariants as kind
+use Rattle.text_words.specs.declared.words.Word.{Word}
+use Rattle.text_words.specs.Spelling.{IsString}
+use Rattle.record_text.specs.RecordText.{AreFields, AreFieldsBefore, ArePlain, AreStrings, AreTypes, HasNone, IsData, IsField, IsRest, IsRow, IsTypeSet, SpellsType, bytes_of}
+use Rattle.record_text.specs.RecordText.AreFields.{none as no_fields, more as one_field}
+use Rattle.record_text.specs.RecordText.AreStrings.{none as no_words, more as one_string}
+use Rattle.record_text.specs.RecordText.AreTypes.{none as no_names, more as one_type}
+use Rattle.record_text.specs.RecordText.IsData.{in_form}
+use Rattle.record_text.specs.RecordText.IsRest.{nothing, strings, hex, base64, types}
+use Rattle.record_text.specs.TypeTable.{TypeRow, row_of}
+
+pub fields_len : {origin : Option DomainName} {fields : List Field} {words : List Word} {octets : List ℕ} → AreFields origin fields words octets → length words ≡ length fields
+fields_len no_fields = refl
+fields_len (one_field {fields = fs} {words = ws} {field = f} {word = w} before one) =
+    let e : length ws ≡ length fs = fields_len before in
+    omega (arith, length_push fs f, length_push ws w)
+
+-- the word of a field
+pub field_at : {origin : Option DomainName} {fields : List Field} {words : List Word} {octets : List ℕ} → AreFields origin fields words octets → (i : ℕ) (e : Field) (d : Word) → i < length fields
+    → (own : List ℕ) × IsField origin (get_or fields i e) (get_or words i d) own
+field_at no_fields i e d below = absurd (omega arith)
+field_at {origin = origin} (one_field {fields = fs} {words = ws} {field = f} {word = w} {own = own} before one) i e d below =
+    let len : length ws ≡ length fs = fields_len before in
+    elim (cases_lt i (length fs)) [
+      | inl h ↦
+          let at : (o : List ℕ) × IsField origin (get_or fs i e) (get_or ws i d) o = field_at before i e d h in (
+            at.0,
+            subst (λ (x : Field). IsField origin x (get_or (ws ++ w ∷ []) i d) at.0) (sym (get_or_append_left fs (f ∷ []) e i h))
+                (subst (λ (x : Word). IsField origin (get_or fs i e) x at.0) (sym (get_or_append_left ws (w ∷ []) d i (omega (arith, len, h)))) at.1),
+          )
+      | inr h ↦
+          let last : length fs ≡ i = omega (arith, length_push fs f, below, h) in (
+            own,
+            subst (λ (x : Field). IsField origin x (get_or (ws ++ w ∷ []) i d) own) (sym (get_or_push fs f e i last))
+                (subst (λ (x : Word). IsField origin f x own) (sym (get_or_push ws w d i (len ∙ last))) one),
+          )
+    ]
+
+-- A field's word stands for nothing of it.
+pub none_at : (origin : Option DomainName) (fields : List Field) (words : List Word) (i : ℕ) (e : Field) (d : Word) → i < length fields → HasNone (IsField origin (get_or fields i e) (get_or words i d))
+    → (behind : List Word) → HasNone (AreFieldsBefore origin fields words behind)
+none_at origin fields words i e d below none behind octets (front, split, are) =
+    let at : (own : List ℕ) × IsField origin (get_or fields i e) (get_or front i d) own = field_at are i e d below in
+    let len : length front ≡ length fields = fields_len are in
+    none at.0 (subst (λ (w : Word). IsField origin (get_or fields i e) w at.0) (sym (ap (λ (ws : List Word). get_or ws i d) split ∙ get_or_append_left front behind d i (omega (arith, len, below)))) at.1)
+
+-- There are fewer words than fields.
+pub too_few : (origin : Option DomainName) (fields : List Field) (words : List Word) → length words < length fields → (behind : List Word) → HasNone (AreFieldsBefore origin fields words behind)
+too_few origin fields words few behind octets (front, split, are) =
+    let len : length front ≡ length fields = fields_len are in
+    absurd (omega (arith, length-append front behind, ap length split, len, few))
+
+pub none_of_fields : (origin : Option DomainName) (row : TypeRow) (words : List Word) → ((behind : List Word) → HasNone (AreFieldsBefore origin row.fields words behind)) → HasNone (IsRow origin row words)
+none_of_fields origin row words none octets is = none is.behind is.front_octets (is.front, is.in_order, is.fields)
+
+pub none_of_rest : (origin : Option DomainName) (row : TypeRow) (words behind : List Word) (octets : List ℕ) → AreFieldsBefore origin row.fields words behind octets → HasNone (IsRest row.rest behind) → HasNone (IsRow origin row words)
+none_of_rest origin row words behind octets (front, split, are) none all is =
+    let one : length front ≡ length row.fields = fields_len are in
+    let two : length is.front ≡ length row.fields = fields_len is.fields in
+    let same : behind ≡ is.behind = sym (drop_at front behind (length row.fields) one) ∙ ap (λ (ws : List Word). drop (length row.fields) ws) (sym split ∙ is.in_order) ∙ drop_at is.front is.behind (length row.fields) two in
+    none is.behind_octets (subst (λ (ws : List Word). IsRest row.rest ws is.behind_octets) (sym same) is.rest)
+
+pub none_of_row : (origin : Option DomainName) (number : ℕ) (row : TypeRow) (words : List Word) → row_of number ≡ Some row → HasNone (IsRow origin row words) → HasNone (IsData origin number words)
+none_of_row origin number row words found none octets (in_form {row = other} found' is) =
+    let same : other ≡ row = cc in
+    none octets (subst (λ (r : TypeRow). IsRow origin r words octets) same is)
+
+pub string_at : {words : List Word} {octets : List ℕ} → AreStrings words octets → (i : ℕ) (d : Word) → i < length words → (own : List ℕ) × IsString (get_or words i d) own
+string_at no_words i d below = absurd (omega arith)
+string_at (one_string {words = ws} {own = own} {word = w} before one) i d below = elim (cases_lt i (length ws)) [
+  | inl h ↦
+      let at : (o : List ℕ) × IsString (get_or ws i d) o = string_at before i d h in
+      (at.0, subst (λ (x : Word). IsString x at.0) (sym (get_or_append_left ws (w ∷ []) d i h)) at.1)
+  | inr h ↦ (own, subst (λ (x : Word). IsString x own) (sym (get_or_push ws w d i (omega (arith, length_push ws w, below, h)))) one)
+]
+
+pub no_string_at : (words : List Word) (i : ℕ) (d : Word) → i < length words → HasNone (IsString (get_or words i d)) → HasNone (AreStrings words)
+no_string_at words i d below none octets are = let at : (own : List ℕ) × IsString (get_or words i d) own = string_at are i d below in none at.0 at.1
+
+pub type_at : {words : List Word} {numbers : List ℕ} → AreTypes words numbers → (i : ℕ) (d : Word) → i < length words → (number : ℕ) × ((get_or words i d).quoted ≡ false) × SpellsType (get_or words i d).bytes.now number
+type_at no_names i d below = absurd (omega arith)
+type_at (one_type {words = ws} {number = number} w before plain is) i d below = elim (cases_lt i (length ws)) [
+  | inl h ↦
+      let at : (n : ℕ) × ((get_or ws i d).quoted ≡ false) × SpellsType (get_or ws i d).bytes.now n = type_at before i d h in
+      subst (λ (x : Word). (n : ℕ) × (x.quoted ≡ false) × SpellsType x.bytes.now n) (sym (get_or_append_left ws (w ∷ []) d i h)) at
+  | inr h ↦ subst (λ (x : Word). (n : ℕ) × (x.quoted ≡ false) × SpellsType x.bytes.now n) (sym (get_or_push ws w d i (omega (arith, length_push ws w, below, h)))) (number, plain, is)
+]
+
+pub no_type_at : (words : List Word) (i : ℕ) (d : Word) → i < length words → ((number : ℕ) → (get_or words i d).quoted ≡ false → SpellsType (get_or words i d).bytes.now number → ⊥) → HasNone (AreTypes words)
+no_type_at words i d below none numbers are =
+    let at : (n : ℕ) × ((get_or words i d).quoted ≡ false) × SpellsType (get_or words i d).bytes.now n = type_at are i d below in
+    none at.0 at.1 at.2
+
+pub no_nothing : (words : List Word) → words ≢ [] → HasNone (IsRest kind.Nothing words)
+no_nothing words some octets nothing = some refl
+
+pub no_strings : (words : List Word) → HasNone (AreStrings words) → HasNone (IsRest kind.Strings words)
+no_strings words none octets (strings some are) = none octets are
+
+pub no_hex : (words : List Word) → HasNone (λ octets. ArePlain words × (decode_of (bytes_of words) ≡ Ok octets)) → HasNone (IsRest kind.Hex words)
+no_hex words none octets (hex some plain is) = none octets (plain, is)
+
+pub no_base64 : (words : List Word) → HasNone (λ octets. ArePlain words × IsBytes octets × (bytes_of words ≡ encode_of standard octets)) → HasNone (IsRest kind.Base64 words)
+no_base64 words none octets (base64 some plain bytes is) = none octets (plain, bytes, is)
+
+pub no_types : (words : List Word) → HasNone (IsTypeSet words) → HasNone (IsRest kind.Types words)
+no_types words none octets (types is) = none octets is
+
+-- words stand behind the fields, but where nothing or types do
+pub some_words : {rest : Rest} {words : List Word} {octets : List ℕ} → IsRest rest words octets → rest ≢ kind.Nothing → rest ≢ kind.Types → words ≢ []
+some_words nothing other than = absurd (other refl)
+some_words (strings some are) other than = some
+some_words (hex some plain is) other than = some
+some_words (base64 some plain bytes is) other than = some
+some_words (types is) other than = absurd (than refl)
+
+-- no words stand there in a form of the type, where it has none
+pub not_generic : {rest : Rest} {words : List Word} {octets : List ℕ} → IsRest rest words octets → rest ≢ kind.Generic
+not_generic nothing e = absurd (cc)
+not_generic (strings some are) e = absurd (cc)
+not_generic (hex some plain is) e = absurd (cc)
+not_generic (base64 some plain bytes is) e = absurd (cc)
+not_generic (types is) e = absurd (cc)
+
+-- words of which one stands for nothing of its field
+pub no_field : (origin : Option DomainName) (number : ℕ) (row : TypeRow) (words : List Word) (i : ℕ) (e : Field) (d : Word) → row_of number ≡ Some row → i < length row.fields → HasNone (IsField origin (get_or row.fields i e) (get_or words i d))
+    → HasNone (IsData origin number words)
+no_field origin number row words i e d found below none = none_of_row origin number row words found (none_of_fields origin row words (none_at origin row.fields words i e d below none))
+
+-- words that are nothing that stands behind no fields
+pub no_rest : (origin : Option DomainName) (number : ℕ) (row : TypeRow) (words : List Word) → row_of number ≡ Some row → row.fields ≡ [] → HasNone (IsRest row.rest words) → HasNone (IsData origin number words)
+no_rest origin number row words found no_fields_before none =
+    none_of_row origin number row words found (none_of_rest origin row words words [] ([], refl, subst (λ (fs : List Field). AreFields origin fs [] []) (sym no_fields_before) no_fields) none)
+
+-- a type without a row has no data in a form
+pub no_row : (origin : Option DomainName) (number : ℕ) (words : List Word) → row_of number ≡ None → HasNone (IsData origin number words)
+no_row origin number words missing octets (in_form {row = row} found is) = absurd (cc)

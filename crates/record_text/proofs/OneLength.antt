@@ -1,0 +1,144 @@
+-- Words are data of one length at most, whichever octets they stand for.
+use Rattle.std.proofs.Common.{◌≡◌, ◌∙◌, ◌+◌, ◌*◌, ℕ, List, [], ◌∷◌, ◌++◌, length, Option, Ok, Result, sym, ap, subst, refl, arith, length-append}
+use Rattle.std.proofs.NetLemmas.Theorems.{IsIpv4Text_unique, IsIpv6Text_unique}
+use Rattle.std.proofs.lemmas.List.{drop_at, take_at, same_from_push}
+use Rattle.std.specs.Net.Addr.{ipv4_octets, ipv6_octets}
+use Rattle.std.specs.Prelude.{drop, take}
+use Rattle.base64.specs.Engines.{standard}
+use Rattle.base64.specs.GeneralPurpose.{IsBytes, encode_of}
+use Rattle.hex.specs.Hex.{decode_of}
+use Rattle.hex.specs.declared.error.FromHexError.{FromHexError}
+use Rattle.wire_names.specs.rr.domain.DomainName.{DomainName}
+use Rattle.wire_messages.specs.rr.RecordData.{character_string}
+use Rattle.wire_messages.specs.serialize.writing.FullForm.{name_octets}
+use Rattle.record_text.specs.declared.data.field.Field.{Field}
+use Rattle.record_text.specs.declared.data.field.Rest.{Rest}
+use Rattle.record_text.specs.declared.data.hex_groups.Group.{Group}
+use Rattle.record_text.specs.declared.data.hex_groups.Group.TheVariants as group
+use Rattle.record_text.specs.Groups.{IsGroup, SpellsHexGroups}
+use Rattle.record_text.specs.Groups.IsGroup.{octet, bits16}
+use Rattle.record_text.specs.Groups.SpellsHexGroups.{first, more as one_group}
+use Rattle.record_text.specs.RecordText.{AreFields, AreStrings, AreTypes, IsData, IsField, IsRest, IsRow, SpellsType, bytes_of}
+use Rattle.record_text.specs.RecordText.IsField.{number8, number16, number32, time, name, string, text, ipv4, ipv6, type, moment, no_salt, salt, hash, eui48, eui64, locator64}
+use Rattle.record_text.specs.RecordText.AreFields.{none as no_fields, more as one_field}
+use Rattle.record_text.specs.RecordText.AreStrings.{none as no_words, more as one_string}
+use Rattle.record_text.specs.RecordText.AreTypes.{none as no_names, more as one_type}
+use Rattle.record_text.specs.RecordText.IsData.{in_form}
+use Rattle.record_text.specs.RecordText.IsRest.{nothing, strings, hex, base64, types}
+use Rattle.record_text.specs.TypeBitmaps.{windows}
+use Rattle.record_text.specs.TypeTable.{TypeRow}
+use Rattle.record_text.proofs.Digits.{group_octets}
+use Rattle.record_text.proofs.NoRow.{fields_len}
+use Rattle.text_words.specs.declared.words.Word.{Word}
+use Rattle.text_words.specs.Spelling.{BytesSpelledOnce, IsString, NamesSpelledOnce, StringsSpelledOnce}
+
+-- how many octets a group is
+abbrev width : Group → ℕ
+width group.Octet = 1
+width group.Bits16 = 2
+
+group_len : (kind : Group) (digits octets : List ℕ) → IsGroup kind digits octets → length octets ≡ width kind
+group_len kind digits octets (octet two is) = refl
+group_len kind digits octets (bits16 some few is) = refl
+
+groups_len : (between : ℕ) (kind : Group) (count : ℕ) (whole octets : List ℕ) → SpellsHexGroups between kind count whole octets → length octets ≡ count * width kind
+groups_len between kind count whole octets (first {text = t} is) = omega (arith, group_len kind t octets is)
+groups_len between kind count whole octets (one_group {count = n} {text = t} {octets = front} {piece = piece} {own = own} before is) =
+    let rest : length front ≡ n * width kind = groups_len between kind n t front before in
+    omega (arith, length-append front own, rest, group_len kind piece own is, product n)
+  where
+    product : (n : ℕ) → (n + 1) * width kind ≡ n * width kind + width kind
+    product n = elim kind as (λ k. (n + 1) * width k ≡ n * width k + width k) [ group.Octet ↦ omega arith | group.Bits16 ↦ omega arith ]
+
+decoded_once : (r : Result (List ℕ) FromHexError) (a b : List ℕ) → r ≡ Ok a → r ≡ Ok b → a ≡ b
+decoded_once r a b one two = cc
+
+-- types are spelled once
+abbrev pub TypesOnce : Type 0
+TypesOnce = (word : List ℕ) (n m : ℕ) → SpellsType word n → SpellsType word m → n ≡ m
+
+-- octets are encoded in one way
+abbrev pub Base64Once : Type 0
+Base64Once = (a b : List ℕ) → IsBytes a → IsBytes b → encode_of standard a ≡ encode_of standard b → a ≡ b
+
+module _ (bytes_once : BytesSpelledOnce) (strings_once : StringsSpelledOnce) (names_once : NamesSpelledOnce) (types_once : TypesOnce) where
+  field_len : (origin : Option DomainName) (field : Field) (w : Word) (a b : List ℕ) → IsField origin field w a → IsField origin field w b → length a ≡ length b
+  field_len origin field w a b (number8 p i s) (number8 q j t) = refl
+  field_len origin field w a b (number16 p i s) (number16 q j t) = refl
+  field_len origin field w a b (number32 p i s) (number32 q j t) = refl
+  field_len origin field w a b (time p i s) (time q j t) = refl
+  field_len origin field w a b (name {labels = ls} p i s) (name {labels = ms} q j t) = ap (λ (l : List (List ℕ)). length (name_octets l)) (names_once origin w.bytes.now ls ms i j)
+  field_len origin field w a b (string i) (string j) = ap length (strings_once w a b i j)
+  field_len origin field w a b (text i) (text j) = ap length (bytes_once w.bytes.now a b i j)
+  field_len origin field w a b (ipv4 {address = x} p i) (ipv4 {address = y} q j) = ap (λ x. length (ipv4_octets x)) (IsIpv4Text_unique w.bytes.now x y i j)
+  field_len origin field w a b (ipv6 {address = x} p i) (ipv6 {address = y} q j) = ap (λ x. length (ipv6_octets x)) (IsIpv6Text_unique w.bytes.now x y i j)
+  field_len origin field w a b (type p i) (type q j) = refl
+  field_len origin field w a b (moment p i) (moment q j) = refl
+  field_len origin field w a b (no_salt p i) (no_salt q j) = refl
+  field_len origin field w a b (no_salt p i) (salt q other j short) = absurd (other i)
+  field_len origin field w a b (salt p other i short) (no_salt q j) = absurd (other j)
+  field_len origin field w a b (salt {octets = x} p other i short) (salt {octets = y} q another j small) = ap (λ (o : List ℕ). length (character_string o)) (decoded_once (decode_of w.bytes.now) x y i j)
+  field_len origin field w a b (hash {octets = x} p i short) (hash {octets = y} q j small) = omega (arith, group_octets i, group_octets j)
+  field_len origin field w a b (eui48 p i) (eui48 q j) = groups_len 45 group.Octet 6 w.bytes.now a i ∙ sym (groups_len 45 group.Octet 6 w.bytes.now b j)
+  field_len origin field w a b (eui64 p i) (eui64 q j) = groups_len 45 group.Octet 8 w.bytes.now a i ∙ sym (groups_len 45 group.Octet 8 w.bytes.now b j)
+  field_len origin field w a b (locator64 p i) (locator64 q j) = groups_len 58 group.Bits16 4 w.bytes.now a i ∙ sym (groups_len 58 group.Bits16 4 w.bytes.now b j)
+
+  no_push : {X : Type 0} (xs : List X) (x : X) → [] ≡ xs ++ x ∷ [] → ⊥
+  no_push [] x e = cc
+  no_push (y ∷ xs) x e = cc
+
+  fields_one : {origin : Option DomainName} {fields others : List Field} {words ws : List Word} {a b : List ℕ} → AreFields origin fields words a → AreFields origin others ws b → fields ≡ others → words ≡ ws → length a ≡ length b
+  fields_one no_fields no_fields e f = refl
+  fields_one no_fields (one_field {fields = fs} {field = g} before one) e f = absurd (no_push fs g e)
+  fields_one (one_field {fields = fs} {field = g} before one) no_fields e f = absurd (no_push fs g (sym e))
+  fields_one {origin = origin} (one_field {fields = fs} {words = ws} {octets = a} {field = g} {word = w} {own = x} before one) (one_field {fields = fs'} {words = ws'} {octets = b} {field = g'} {word = w'} {own = y} before' one') e f =
+      let fields_same = same_from_push fs fs' g g' e in
+      let words_same = same_from_push ws ws' w w' f in
+      let front : length a ≡ length b = fields_one before before' fields_same.0 words_same.0 in
+      let moved : IsField origin g w y = subst (λ (v : Word). IsField origin g v y) (sym words_same.1) (subst (λ (h : Field). IsField origin h w' y) (sym fields_same.1) one') in
+      let last : length x ≡ length y = field_len origin g w x y one moved in
+      omega (arith, length-append a x, length-append b y)
+
+  strings_one : {words ws : List Word} {a b : List ℕ} → AreStrings words a → AreStrings ws b → words ≡ ws → a ≡ b
+  strings_one no_words no_words e = refl
+  strings_one no_words (one_string {words = ws} {word = w} before one) e = absurd (no_push ws w e)
+  strings_one (one_string {words = ws} {word = w} before one) no_words e = absurd (no_push ws w (sym e))
+  strings_one (one_string {words = ws} {octets = a} {own = x} {word = w} before one) (one_string {words = ws'} {octets = b} {own = y} {word = w'} before' one') e =
+      let same = same_from_push ws ws' w w' e in
+      let front : a ≡ b = strings_one before before' same.0 in
+      let last : x ≡ y = strings_once w x y one (subst (λ (v : Word). IsString v y) (sym same.1) one') in
+      rw (front, last) refl
+
+  types_one : {words ws : List Word} {a b : List ℕ} → AreTypes words a → AreTypes ws b → words ≡ ws → a ≡ b
+  types_one no_names no_names e = refl
+  types_one no_names (one_type {words = ws} w before plain is) e = absurd (no_push ws w e)
+  types_one (one_type {words = ws} w before plain is) no_names e = absurd (no_push ws w (sym e))
+  types_one (one_type {words = ws} {numbers = a} {number = n} w before plain is) (one_type {words = ws'} {numbers = b} {number = m} w' before' plain' is') e =
+      let same = same_from_push ws ws' w w' e in
+      let front : a ≡ b = types_one before before' same.0 in
+      let last : n ≡ m = types_once w.bytes.now n m is (subst (λ (v : Word). SpellsType v.bytes.now m) (sym same.1) is') in
+      rw (front, last) refl
+
+  rest_len : (base64_once : Base64Once) (rest : Rest) (words : List Word) (a b : List ℕ) → IsRest rest words a → IsRest rest words b → length a ≡ length b
+  rest_len base64_once rest words a b nothing nothing = refl
+  rest_len base64_once rest words a b (strings some is) (strings some' is') = ap length (strings_one is is' refl)
+  rest_len base64_once rest words a b (hex some plain is) (hex some' plain' is') = ap length (decoded_once (decode_of (bytes_of words)) a b is is')
+  rest_len base64_once rest words a b (base64 some plain bytes is) (base64 some' plain' bytes' is') = ap length (base64_once a b bytes bytes' (sym is ∙ is'))
+  rest_len base64_once rest words a b (types is) (types is') = ap length (is.written ∙ ap (λ (ts : List ℕ). windows ts 256) (types_one is.spelled is'.spelled refl) ∙ sym is'.written)
+
+  row_len : (base64_once : Base64Once) (origin : Option DomainName) (row : TypeRow) (words : List Word) (a b : List ℕ) → IsRow origin row words a → IsRow origin row words b → length a ≡ length b
+  row_len base64_once origin row words a b one two =
+      let n : length one.front ≡ length row.fields = fields_len one.fields in
+      let m : length two.front ≡ length row.fields = fields_len two.fields in
+      let whole : one.front ++ one.behind ≡ two.front ++ two.behind = sym one.in_order ∙ two.in_order in
+      let fronts : one.front ≡ two.front = sym (take_at one.front one.behind (length row.fields) n) ∙ ap (λ (ws : List Word). take (length row.fields) ws) whole ∙ take_at two.front two.behind (length row.fields) m in
+      let behinds : one.behind ≡ two.behind = sym (drop_at one.front one.behind (length row.fields) n) ∙ ap (λ (ws : List Word). drop (length row.fields) ws) whole ∙ drop_at two.front two.behind (length row.fields) m in
+      let front : length one.front_octets ≡ length two.front_octets = fields_one one.fields two.fields refl fronts in
+      let behind : length one.behind_octets ≡ length two.behind_octets =
+      rest_len base64_once row.rest one.behind one.behind_octets two.behind_octets one.rest (subst (λ (ws : List Word). IsRest row.rest ws two.behind_octets) (sym behinds) two.rest) in
+      omega (arith, ap length one.together, ap length two.together, length-append one.front_octets one.behind_octets, length-append two.front_octets two.behind_octets)
+
+  pub data_length : (base64_once : Base64Once) (origin : Option DomainName) (number : ℕ) (words : List Word) (a b : List ℕ) → IsData origin number words a → IsData origin number words b → length a ≡ length b
+  data_length base64_once origin number words a b (in_form {row = r} found one) (in_form {row = s} found' two) =
+      let same : s ≡ r = cc in
+      row_len base64_once origin r words a b one (subst (λ (row : TypeRow). IsRow origin row words b) same two)
