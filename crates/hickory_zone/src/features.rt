@@ -147,11 +147,9 @@ fn lengths_of_cuts(apex: usize, sets: &BTreeMap<RrKey, Rc<RecordSet>>) -> Length
 fn cuts_within(origin: &LowerName, lengths: Lengths, key: &RrKey) -> bool
     ensures { IsTrue result ↔ CutsWithin origin.now lengths key.now }
 {
-    if key.record_type == RecordType::NS {
-        key.name.zone_of(origin) || has_length(lengths, key.name.as_name().as_wire().len())
-    } else {
-        true
-    }
+    key.record_type != RecordType::NS
+        || key.name.zone_of(origin)
+        || has_length(lengths, key.name.as_name().as_wire().len())
 }
 
 /// The same of all keys.

@@ -489,8 +489,8 @@ fn look_above<'z>(
     if let Some(by) = redirection_from(sets, origin, &encloser, has)? {
         return Ok(Found::Redirected(by));
     }
-    if let Some(servers) = above {
-        return Ok(Found::Referral(servers));
+    if let Some(cut) = above {
+        return Ok(Found::Referral(cut));
     }
     find_wild(alloc, sets, &encloser, record_type, has)
 }

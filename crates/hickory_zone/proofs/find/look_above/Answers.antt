@@ -35,9 +35,9 @@ returns-in-Some-above c =
     let name = c.args.first.now.name in
     let found = c.in_ok-encloser.ensures c.args.origin.now c.requires.owners in
     let e : IsEncloser zone.sets name c.in-Some.encloser = rw c.in-Some.is at found in
-    let cut : option_copied c.args.above ≡ Some c.in-Some-above.servers.now = ap option_copied c.in-Some-above.is in
+    let cut : option_copied c.args.above ≡ Some c.in-Some-above.cut.now = ap option_copied c.in-Some-above.is in
     direct (as_direct zone name c.in_ok-by.field-0 c.in_default-2.is (from_encloser zone name c.in-Some.encloser c.in_ok-by.field-0 e c.requires.missing c.in_ok-by.ensures))
-    (refers zone name c.args.record_type c.in-Some-above.servers.now (subst (CutAbove zone name) cut c.requires.above))
+    (refers zone name c.args.record_type c.in-Some-above.cut.now (subst (CutAbove zone name) cut c.requires.above))
 
 pub returns : goal.returns
 returns c =

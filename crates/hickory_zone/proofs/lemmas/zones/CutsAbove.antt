@@ -1,7 +1,6 @@
 -- The highest cut above a name, looked for from the name upwards.
-use Rattle.std.proofs.Common.{◌≡◌, ℕ, ◌+◌, ◌-◌, ◌<◌, ◌≤◌, Bool, true, false, cond, ◌&&◌, List, [], ◌∷◌, ◌++◌, Option, Some, None, Bor, length, drop, get_or, take, inl, inr, refl, sym, ap, subst, ◌∙◌, arith, length-append, length-drop}
-use Rattle.std.specs.Prelude.{◌⊎◌, ◌↔◌, IsTrue, is_some, nat_le, nat_lt}
-use Rattle.std.specs.Option.{option_copied}
+use Rattle.std.proofs.Common.{◌≡◌, ℕ, ◌+◌, ◌-◌, ◌<◌, ◌≤◌, Bool, true, false, cond, ◌&&◌, List, [], ◌∷◌, ◌++◌, Option, Some, None, length, drop, get_or, take, inl, inr, refl, sym, ap, subst, ◌∙◌, arith, length-append, length-drop}
+use Rattle.std.specs.Prelude.{is_some, nat_le, nat_lt}
 use Rattle.std.proofs.lemmas.Bool.{cases_lt, false≢true}
 use Rattle.std.proofs.lemmas.Bool.Decides.{nat_tests}
 use Rattle.std.proofs.lemmas.List.{drop-map, length-map, take_all}
@@ -11,12 +10,11 @@ use Rattle.wire_names.specs.rr.domain.NameOrder.{Encloses, lower_label, lower_la
 use Rattle.wire_names.proofs.lemmas.rr.domain.WireForm.{Step, cut_of, is_wire_of, name_len-wire_form, offset-rest, offset-size, step}
 use Rattle.hickory_zone.proofs.lemmas.names.Enclosers.{ancestor-ancestor}
 use Rattle.hickory_zone.proofs.lemmas.names.WildcardLabels.{enclosing_len, lower_len}
-use Rattle.hickory_zone.proofs.lemmas.zones.Cuts.{below_the_apex, encloses_length}
+use Rattle.hickory_zone.proofs.lemmas.zones.Cuts.{below_the_apex}
 use Rattle.hickory_zone.specs.declared.features.Features.{Features}
-use Rattle.hickory_zone.specs.declared.find.Delegation.{Delegation}
 use Rattle.hickory_zone.specs.FoundRecords.{CutAbove, CutAt, EndsAbove, IsEncloser, first_or, may_be_cut, name_of}
 use Rattle.hickory_zone.specs.Features.{AreFeatures, IsOfLength}
-use Rattle.hickory_zone.specs.Zones.{Answers, AnswersDirectly, Delegates, Exists, HasDname, IsAuthoritativeAt, IsCut, Records, Redirects, Zone, ancestor, delegated, direct, referral, rrset, type_ds}
+use Rattle.hickory_zone.specs.Zones.{Answers, AnswersDirectly, HasDname, IsAuthoritativeAt, IsCut, Records, Zone, ancestor, delegated, direct, referral, rrset}
 
 -- what is known once so many names above it were looked at
 pub record CutBetween (zone : Zone) (name : DomainName) (seen : ℕ) (rs : Records) : Type 0 where
@@ -88,9 +86,6 @@ both true b h = (refl, h)
 both false b h = absurd cc
 
 module _ (zone : Zone) (name : DomainName) where
-  pub none_above_yet : AboveSoFar zone name 0 None
-  none_above_yet i some h = absurd (omega arith)
-
   one_more : (seen : ℕ) (servers : Option Records) → ¬ (IsCut zone (ancestor name (seen + 1))) → AboveSoFar zone name seen servers → AboveSoFar zone name (seen + 1) servers
   one_more seen None none h = λ i some below. elim (cases_lt seen i) [
     | inl at ↦ let e : i ≡ seen + 1 = omega arith in λ c. none (subst (λ k. IsCut zone (ancestor name k)) e c)
@@ -170,38 +165,6 @@ module _ (zone : Zone) (name : DomainName) where
     };
     servers = h.servers;
   }
-
-  -- from what is cut above the name and its own NS records to where it is cut
-  pub higher : (servers : Bor Records) → EndsAbove zone name servers.now → CutAt zone name (Some (record { servers = servers; is_at_name = false }))
-  higher servers e = record {
-    off = e.off;
-    delegates = e.delegates;
-    servers = e.servers;
-    at_name = (λ h. absurd (false≢true h), λ h. absurd (omega (arith, e.above)));
-  }
-
-  none_but_here : CutAbove zone name None → ¬ (IsCut zone name) → IsAuthoritativeAt zone name
-  none_but_here none own k c = elim (cases_lt 0 k) [
-    | inl some ↦ none k some c
-    | inr zeros ↦ let e : k ≡ 0 = omega arith in own (subst (λ j. IsCut zone (ancestor name j)) e c)
-  ]
-
-  pub without_servers : CutAbove zone name None → rrset zone.sets name 2 ≡ None → CutAt zone name None
-  without_servers none empty = none_but_here none (λ c. false≢true (sym (ap is_some empty) ∙ c.servers))
-
-  pub at_apex : CutAbove zone name None → Encloses name.labels zone.origin.labels → CutAt zone name None
-  at_apex none apex = none_but_here none (λ c. absurd (omega (arith, c.below_apex, encloses_length _ _ apex)))
-
-  pub here : (servers : Bor Records) → CutAbove zone name None → Encloses zone.origin.labels name.labels → ¬ (Encloses name.labels zone.origin.labels) → rrset zone.sets name 2 ≡ Some servers.now
-      → CutAt zone name (Some (record { servers = servers; is_at_name = true }))
-  here servers none within apart found =
-      let below = below_the_apex zone.origin.labels name.labels 0 within apart in
-      record {
-        off = 0;
-        delegates = record { cut = record { within = below.0; below_apex = below.1; servers = ap is_some found }; highest = λ j h. none j h };
-        servers = found;
-        at_name = (λ h. refl, λ h. refl);
-      }
 
   -- a name below a cut
   pub refers : (t : ℕ) (servers : Records) → EndsAbove zone name servers → AnswersDirectly zone name t (referral servers)
