@@ -150,7 +150,7 @@ fn keep_closest_encloser(beside: Neighbours<'_>, name: &mut LowerName) -> bool
 
 /// The closest encloser of the key's name, which is the name itself where that exists, with the key behind the name known. There is
 /// none where no name above exists.
-fn closest_encloser<'z>(
+fn encloser_beside<'z>(
     sets: &'z BTreeMap<RrKey, Rc<RecordSet>>,
     first: &RrKey,
     behind: Option<&'z RrKey>,
@@ -167,6 +167,27 @@ fn closest_encloser<'z>(
     } else {
         Ok(None)
     }
+}
+
+/// The same of a name that does not exist. Mostly the name right above it is at or above the key behind, and then no other key is looked for.
+fn closest_encloser<'z>(
+    sets: &'z BTreeMap<RrKey, Rc<RecordSet>>,
+    first: &RrKey,
+    behind: Option<&'z RrKey>,
+) -> Result<Option<LowerName>, AllocError>
+    requires least { first.now.record_type ≡ 0 }
+    requires qualified { first.now.name.is_fqdn ≡ true }
+    requires behind { StandsBehind sets.now first.now (option_copied behind) }
+    requires missing { ¬ (Exists (sets_of sets.now) first.now.name) }
+    ensures { (origin : DomainName) → AreOwners origin (sets_of sets.now) → IfOk result
+        (λ found. MatchOption found ((k : ℕ) → ¬ (Exists (sets_of sets.now) (ancestor first.now.name k))) (IsEncloser (sets_of sets.now) first.now.name)) }
+{
+    let mut parent = first.name.clone()?;
+    parent.remove_first_label();
+    if is_above(&parent, behind) {
+        return Ok(Some(parent));
+    }
+    encloser_beside(sets, first, behind)
 }
 
 /// The RRset under a key.
