@@ -1,12 +1,13 @@
 -- What is found, where it lies.
-use Rattle.std.specs.Prelude.{◌≡◌, ◌⊎◌, ◌↔◌, ◌-◌, ◌<◌, ◌≤◌, ℕ, Bool, true, false, IsTrue, length, drop, Option, Some, None}
+use Rattle.std.specs.Prelude.{◌≡◌, ◌⊎◌, ◌↔◌, ◌&&◌, ◌-◌, ◌<◌, ◌≤◌, ℕ, nat_le, nat_lt, Bool, true, false, IsTrue, List, length, drop, Option, Some, None}
 use Rattle.std.specs.Borrow.{Bor}
 use Rattle.std.specs.Option.{IsSomeAnd, option_copied}
-use Rattle.wire_names.specs.rr.domain.DomainName.{DomainName}
-use Rattle.wire_names.specs.rr.domain.NameOrder.{Encloses}
+use Rattle.wire_names.specs.rr.domain.DomainName.{DomainName, cut}
+use Rattle.wire_names.specs.rr.domain.NameOrder.{Encloses, lower_labels}
 use Rattle.wire_messages.specs.declared.rr.rr_key.RrKey.{RrKey}
 use Rattle.hickory_base.specs.zone_store.ZoneAnswers.{records_at}
 use Rattle.hickory_zone.specs.Zones.{Records, Sets, Zone, any_of, at_node, type_dname, type_ns, Delegates, Exists, HasClosestEncloser, HasDname, IsAuthoritativeAt, IsCut, Outcome, Redirects, answer, alias, referral, no_data, no_name, redirection, ancestor, by_wildcard, rrset, wild_alias, wild_answer, wildcard}
+use Rattle.hickory_zone.specs.declared.features.Features.{Features}
 use Rattle.hickory_zone.specs.declared.find.Found.{Found}
 use Rattle.hickory_zone.specs.declared.find.Found.TheVariants as found
 use Rattle.hickory_zone.specs.declared.find.Neighbours.{Neighbours}
@@ -37,6 +38,25 @@ pub record EndsAt (zone : Zone) (name : DomainName) (cut : Delegation) : Type 0 
 abbrev pub CutAt : Zone → DomainName → Option Delegation → Type 0
 CutAt zone name None = IsAuthoritativeAt zone name
 CutAt zone name (Some cut) = EndsAt zone name cut
+
+-- Above the name the zone's authority ends at a cut with these servers.
+pub record EndsAbove (zone : Zone) (name : DomainName) (rs : Records) : Type 0 where
+  pub off : ℕ
+  pub above : 0 < off
+  pub delegates : Delegates zone name off
+  pub servers : rrset zone.sets (ancestor name off) type_ns ≡ Some rs
+
+abbrev pub CutAbove : Zone → DomainName → Option Records → Type 0
+CutAbove zone name None = (k : ℕ) → 0 < k → ¬ (IsCut zone (ancestor name k))
+CutAbove zone name (Some servers) = EndsAbove zone name servers
+
+-- the fully qualified name of labels in wire form
+abbrev pub name_of : List ℕ → DomainName
+name_of wire = record { labels = lower_labels (cut wire); is_fqdn = true }
+
+-- whether a zone may be cut at a name of this length, where the name at its apex has that one
+abbrev pub may_be_cut : ℕ → Features → ℕ → Bool
+may_be_cut apex has len = nat_lt apex len && (nat_le has.cuts.least len && nat_le len has.cuts.most)
 
 -- The name is redirected by these DNAME records, whose owner has so many labels.
 pub record RedirectedBy (zone : Zone) (name : DomainName) (by : Redirection) : Type 0 where

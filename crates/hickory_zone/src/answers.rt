@@ -167,6 +167,12 @@ fn may_be_lent(record_type: RecordType, records: &[Record]) -> bool
     record_type.value() != RecordType::SOA.value() && are_hostless(records)
 }
 
+/// Whether answers of the type are made and not lent: the servers of the zone go with the SOA, and for any type records of all types are
+/// put together.
+fn is_always_made(record_type: RecordType) -> bool {
+    record_type.value() == RecordType::SOA.value() || record_type.value() == RecordType::ANY.value()
+}
+
 /// Whether the server holds the zone or a copy of it.
 fn is_held(zone_type: ZoneType) -> bool
     ensures { result ≡ is_held zone_type }
@@ -208,6 +214,9 @@ fn stored_within<'z>(
     ensures { IfSome result (λ answer. StandsFor zone.now query.now (stored_result answer)) }
 {
     let record_type = query.query_type();
+    if is_always_made(record_type) {
+        return None;
+    }
     match look_up(
         alloc,
         zone.origin(),

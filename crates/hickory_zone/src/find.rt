@@ -6,19 +6,21 @@ ghost use Rattle.std.specs.Option.{option_copied};
 ghost use Rattle.hickory_base.specs.zone_store.ZoneAnswers.{records_at};
 ghost use Rattle.hickory_base.specs.zone_store.ZoneSets.{has_name, sets_of};
 ghost use Rattle.hickory_zone.specs.Zones.{AreOwners, Answers, AnswersDirectly, Exists, Sets, any_of, ancestor, at_node, by_wildcard, Zone, of_sets, rrset, type_any, type_cname, type_ds, type_ns, wildcard};
-ghost use Rattle.hickory_zone.specs.Features.{AreFeatures};
+ghost use Rattle.std.specs.Prelude.{IfSome, length};
+ghost use Rattle.wire_names.specs.rr.domain.DomainName.{AreLabels, IsWire, wire_form};
+ghost use Rattle.hickory_zone.specs.Features.{AreFeatures, IsOfLength};
 ghost use Rattle.hickory_zone.specs.FoundRecords.{first_or};
 ghost use Rattle.hickory_zone.specs.KeysBeside.{SharedMap, StandsBehind};
 ghost use Rattle.std.specs.Option.{unwrap_or};
 ghost use Rattle.wire_names.specs.rr.domain.DomainName.{DomainName};
-ghost use Rattle.hickory_zone.specs.FoundRecords.{CutAt, WildFound, outcome_of, IsAbove, IsEncloser, Tells};
+ghost use Rattle.hickory_zone.specs.FoundRecords.{CutAbove, CutAt, WildFound, may_be_cut, name_of, outcome_of, IsAbove, IsEncloser, Tells};
 ghost use Rattle.wire_names.specs.rr.domain.NameOrder.{Encloses};
 
-use crate::features::Features;
-use crate::redirections::{Redirection, redirection_of, top_dname};
+use crate::features::{Features, has_length};
+use crate::redirections::{Redirection, redirection_from, redirection_of};
 use crate::wildcards::wildcard_below;
 use hickory_base::zone_store::RecordSet;
-use hickory_wire::{LowerName, Record, RecordType, RrKey};
+use hickory_wire::{LowerName, Name, Record, RecordType, RrKey};
 use std::alloc::{AllocError, Global};
 use std::collections::BTreeMap;
 use std::rc::Rc;
@@ -148,7 +150,7 @@ fn keep_closest_encloser(beside: Neighbours<'_>, name: &mut LowerName) -> bool
 
 /// The closest encloser of the key's name, which is the name itself where that exists, with the key behind the name known. There is
 /// none where no name above exists.
-fn closest_encloser<'z>(
+fn encloser_beside<'z>(
     sets: &'z BTreeMap<RrKey, Rc<RecordSet>>,
     first: &RrKey,
     behind: Option<&'z RrKey>,
@@ -165,6 +167,27 @@ fn closest_encloser<'z>(
     } else {
         Ok(None)
     }
+}
+
+/// The same of a name that does not exist. Mostly the name right above it is at or above the key behind, and then no other key is looked for.
+fn closest_encloser<'z>(
+    sets: &'z BTreeMap<RrKey, Rc<RecordSet>>,
+    first: &RrKey,
+    behind: Option<&'z RrKey>,
+) -> Result<Option<LowerName>, AllocError>
+    requires least { first.now.record_type ≡ 0 }
+    requires qualified { first.now.name.is_fqdn ≡ true }
+    requires behind { StandsBehind sets.now first.now (option_copied behind) }
+    requires missing { ¬ (Exists (sets_of sets.now) first.now.name) }
+    ensures { (origin : DomainName) → AreOwners origin (sets_of sets.now) → IfOk result
+        (λ found. MatchOption found ((k : ℕ) → ¬ (Exists (sets_of sets.now) (ancestor first.now.name k))) (IsEncloser (sets_of sets.now) first.now.name)) }
+{
+    let mut parent = first.name.clone()?;
+    parent.remove_first_label();
+    if is_above(&parent, behind) {
+        return Ok(Some(parent));
+    }
+    encloser_beside(sets, first, behind)
 }
 
 /// The RRset under a key.
@@ -189,70 +212,108 @@ pub(crate) struct Delegation<'z> {
     pub(crate) is_at_name: bool,
 }
 
-/// Where the authority of the zone ends above a name in it or at it, if it does.
-fn highest_cut<'z>(
+/// The NS records of the fully qualified name of these labels.
+fn servers_of<'z>(
+    alloc: Global,
     sets: &'z BTreeMap<RrKey, Rc<RecordSet>>,
-    origin: &LowerName,
-    name: LowerName,
-    has: Features,
-) -> Option<Delegation<'z>>
-    requires within { Encloses origin.now.labels name.labels }
-    requires features { AreFeatures (record { origin = origin.now; sets = sets_of sets.now }) has }
-    ensures { CutAt (record { origin = origin.now; sets = sets_of sets.now }) name result }
+    wire: &[u8],
+) -> Result<Option<&'z [Record]>, AllocError>
+    requires { IsWire wire.now }
+    ensures { IfOk result (λ found. option_copied found ≡ rrset (sets_of sets.now) (name_of wire.now) type_ns) }
 {
-    if !has.cuts {
-        return None;
-    }
-    let mut key = RrKey::new(name, RecordType::NS);
-    let mut highest = None;
-    let mut is_at_name = true;
-    while !key.name.zone_of(origin) {
-        if let Some(servers) = set_under(sets, &key) {
-            highest = Some(Delegation {
-                servers,
-                is_at_name,
-            });
-        }
-        is_at_name = false;
-        key.name.remove_first_label();
-    }
-    highest
+    let name = Name::from_wire(alloc, wire, true)?;
+    let key = RrKey::new(LowerName::new(alloc, &name)?, RecordType::NS);
+    Ok(set_under(sets, &key))
 }
 
-/// The same of a name whose NS records are known.
-fn cut_at<'z>(
+/// Whether a zone may be cut at a name of this length, where the name at its apex has that one.
+fn may_be_cut(apex: usize, has: Features, len: usize) -> bool
+    ensures { result ≡ may_be_cut apex has len }
+{
+    apex < len && has_length(has.cuts, len)
+}
+
+/// The records that there are, or else those found before.
+fn or_before<'z>(found: Option<&'z [Record]>, before: Option<&'z [Record]>) -> Option<&'z [Record]>
+    ensures { option_copied result ≡ first_or (option_copied found.entry) (option_copied before.entry) }
+{
+    match found {
+        Some(records) => Some(records),
+        None => before,
+    }
+}
+
+/// The NS records of the name of these labels where the zone may be cut there, or else those found below.
+fn servers_or<'z>(
+    alloc: Global,
+    sets: &'z BTreeMap<RrKey, Rc<RecordSet>>,
+    apex: usize,
+    wire: &[u8],
+    has: Features,
+    below: Option<&'z [Record]>,
+) -> Result<Option<&'z [Record]>, AllocError>
+    requires { IsWire wire.now }
+    ensures { IfOk result (λ found. option_copied found ≡
+        cond (may_be_cut apex has (length wire.now)) (first_or (rrset (sets_of sets.now) (name_of wire.now) type_ns) (option_copied below.entry)) (option_copied below.entry)) }
+{
+    if may_be_cut(apex, has, wire.len()) {
+        Ok(or_before(servers_of(alloc, sets, wire)?, below))
+    } else {
+        Ok(below)
+    }
+}
+
+/// The servers of the highest cut above a name in the zone, if it is cut there.
+fn cut_above<'z>(
+    alloc: Global,
     sets: &'z BTreeMap<RrKey, Rc<RecordSet>>,
     origin: &LowerName,
     name: &LowerName,
-    servers: Option<&'z [Record]>,
     has: Features,
-) -> Result<Option<Delegation<'z>>, AllocError>
+) -> Result<Option<&'z [Record]>, AllocError>
+    requires qualified { name.now.is_fqdn ≡ true }
     requires within { Encloses origin.now.labels name.now.labels }
-    requires servers { option_copied servers ≡ rrset (sets_of sets.now) name.now type_ns }
     requires features { AreFeatures (record { origin = origin.now; sets = sets_of sets.now }) has }
-    ensures { IfOk result (CutAt (record { origin = origin.now; sets = sets_of sets.now }) name.now) }
+    ensures { IfOk result (λ found. CutAbove (record { origin = origin.now; sets = sets_of sets.now }) name.now (option_copied found)) }
 {
-    if !has.cuts {
-        return Ok(None);
+    let wire = name.as_name().as_wire();
+    let apex = origin.as_name().as_wire().len();
+    let mut highest = None;
+    let mut place = 0;
+    while place < wire.len() {
+        place += 1 + usize::from(wire[place]);
+        highest = servers_or(alloc, sets, apex, &wire[place..], has, highest)?;
     }
-    if name.zone_of(origin) {
-        return Ok(None);
-    }
-    let mut parent = name.clone()?;
-    parent.remove_first_label();
-    if let Some(cut) = highest_cut(sets, origin, parent, has) {
-        return Ok(Some(Delegation {
-            servers: cut.servers,
-            is_at_name: false,
-        }));
-    }
-    match servers {
-        Some(servers) => Ok(Some(Delegation {
+    Ok(highest)
+}
+
+/// Where the authority of a zone ends above a name or at it, where the servers of the highest cut above it are known, and its own NS records.
+fn cut_at<'z>(
+    origin: &LowerName,
+    name: &LowerName,
+    above: Option<&'z [Record]>,
+    servers: Option<&'z [Record]>,
+) -> Option<Delegation<'z>>
+    requires within { Encloses origin.now.labels name.now.labels }
+    ensures { (sets : Sets) → CutAbove (record { origin = origin.now; sets = sets }) name.now (option_copied above.entry) → option_copied servers.entry ≡ rrset sets name.now type_ns
+        → CutAt (record { origin = origin.now; sets = sets }) name.now result }
+{
+    if let Some(servers) = above {
+        return Some(Delegation {
             servers,
-            is_at_name: true,
-        })),
-        None => Ok(None),
+            is_at_name: false,
+        });
     }
+    let Some(servers) = servers else {
+        return None;
+    };
+    if name.zone_of(origin) {
+        return None;
+    }
+    Some(Delegation {
+        servers,
+        is_at_name: true,
+    })
 }
 
 /// What a zone has for a name and a type, where it lies.
@@ -397,10 +458,10 @@ fn find_wild<'z>(
     has: Features,
 ) -> Result<Found<'z>, AllocError>
     requires qualified { encloser.now.is_fqdn ≡ true }
-    requires features { has.wildcards ≡ false → ¬ (Exists (sets_of sets.now) (wildcard encloser.now)) }
+    requires features { AreLabels encloser.now.labels → Exists (sets_of sets.now) (wildcard encloser.now) → IsOfLength has.wildcards (length (wire_form encloser.now.labels)) }
     ensures { (origin : DomainName) → AreOwners origin (sets_of sets.now) → IfOk result (WildFound (sets_of sets.now) encloser.now record_type) }
 {
-    if !has.wildcards {
+    if !has_length(has.wildcards, encloser.as_name().as_wire().len()) {
         return Ok(Found::NoName);
     }
     let Some(source) = wildcard_below(alloc, encloser)? else {
@@ -415,6 +476,13 @@ fn find_wild<'z>(
     }
 }
 
+/// The servers of a cut above a name, where nothing can redirect the name before.
+fn referral_at_once<'z>(above: Option<&'z [Record]>, has: Features) -> Option<&'z [Record]>
+    ensures { IfSome result (λ servers. (option_copied above.entry ≡ Some servers.now) × (has.dnames ≡ false)) }
+{
+    if has.dnames { None } else { above }
+}
+
 /// What the zone has for a name in it that does not exist.
 fn look_above<'z>(
     alloc: Global,
@@ -423,6 +491,7 @@ fn look_above<'z>(
     first: &RrKey,
     record_type: RecordType,
     behind: Option<&'z RrKey>,
+    above: Option<&'z [Record]>,
     has: Features,
 ) -> Result<Found<'z>, AllocError>
     requires least { first.now.record_type ≡ 0 }
@@ -431,17 +500,18 @@ fn look_above<'z>(
     requires within { Encloses origin.now.labels first.now.name.labels }
     requires behind { StandsBehind sets.now first.now (option_copied behind) }
     requires missing { ¬ (Exists (sets_of sets.now) first.now.name) }
+    requires above { CutAbove (record { origin = origin.now; sets = sets_of sets.now }) first.now.name (option_copied above) }
     requires features { AreFeatures (record { origin = origin.now; sets = sets_of sets.now }) has }
     ensures { IfOk result (λ found. Answers (record { origin = origin.now; sets = sets_of sets.now }) first.now.name record_type (outcome_of (sets_of sets.now) first.now.name found)) }
 {
     let Some(encloser) = closest_encloser(sets, first, behind)? else {
         return Ok(Found::NoName);
     };
-    if let Some(by) = top_dname(sets, origin, encloser.clone()?, has) {
+    if let Some(by) = redirection_from(sets, origin, &encloser, has)? {
         return Ok(Found::Redirected(by));
     }
-    if let Some(cut) = highest_cut(sets, origin, encloser.clone()?, has) {
-        return Ok(Found::Referral(cut.servers));
+    if let Some(cut) = above {
+        return Ok(Found::Referral(cut));
     }
     find_wild(alloc, sets, &encloser, record_type, has)
 }
@@ -453,6 +523,7 @@ fn look_at<'z>(
     name: &LowerName,
     record_type: RecordType,
     node: Node<'z>,
+    above: Option<&'z [Record]>,
     has: Features,
 ) -> Result<Found<'z>, AllocError>
     requires within { Encloses origin.now.labels name.now.labels }
@@ -460,13 +531,14 @@ fn look_at<'z>(
     requires wanted { option_copied node.wanted ≡ rrset (sets_of sets.now) name.now record_type }
     requires alias { option_copied node.alias ≡ rrset (sets_of sets.now) name.now type_cname }
     requires servers { option_copied node.servers ≡ rrset (sets_of sets.now) name.now type_ns }
+    requires above { CutAbove (record { origin = origin.now; sets = sets_of sets.now }) name.now (option_copied above) }
     requires features { AreFeatures (record { origin = origin.now; sets = sets_of sets.now }) has }
     ensures { IfOk result (λ found. Answers (record { origin = origin.now; sets = sets_of sets.now }) name.now record_type (outcome_of (sets_of sets.now) name.now found)) }
 {
     if let Some(by) = redirection_of(sets, origin, name, has)? {
         return Ok(Found::Redirected(by));
     }
-    let cut = cut_at(sets, origin, name, node.servers, has)?;
+    let cut = cut_at(origin, name, above, node.servers);
     Ok(find_existing(node, record_type, cut))
 }
 
@@ -486,10 +558,23 @@ pub fn look_up<'z>(
     requires features { AreFeatures (record { origin = origin.now; sets = sets_of sets.now }) has }
     ensures { IfOk result (λ found. Answers (record { origin = origin.now; sets = sets_of sets.now }) first.now.name record_type (outcome_of (sets_of sets.now) first.now.name found)) }
 {
+    let above = cut_above(alloc, sets, origin, &first.name, has)?;
+    if let Some(servers) = referral_at_once(above, has) {
+        return Ok(Found::Referral(servers));
+    }
     let node = node_at(sets, first, record_type);
     if is_above(&first.name, node.behind) {
-        look_at(origin, sets, &first.name, record_type, node, has)
+        look_at(origin, sets, &first.name, record_type, node, above, has)
     } else {
-        look_above(alloc, origin, sets, first, record_type, node.behind, has)
+        look_above(
+            alloc,
+            origin,
+            sets,
+            first,
+            record_type,
+            node.behind,
+            above,
+            has,
+        )
     }
 }

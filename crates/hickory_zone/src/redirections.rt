@@ -83,7 +83,7 @@ fn higher<'z>(
 }
 
 /// The highest DNAME records from a name in the zone up, at or above which the zone is not cut.
-pub(crate) fn top_dname<'z>(
+fn top_dname<'z>(
     sets: &'z BTreeMap<RrKey, Rc<RecordSet>>,
     origin: &LowerName,
     name: LowerName,
@@ -107,6 +107,23 @@ pub(crate) fn top_dname<'z>(
     }
     key.record_type = RecordType::new(DNAME);
     higher(&key.name, false, set_under(sets, &key), highest)
+}
+
+/// The same, of a name that is kept.
+pub(crate) fn redirection_from<'z>(
+    sets: &'z BTreeMap<RrKey, Rc<RecordSet>>,
+    origin: &LowerName,
+    name: &LowerName,
+    has: Features,
+) -> Result<Option<Redirection<'z>>, AllocError>
+    requires within { Encloses origin.now.labels name.now.labels }
+    requires features { AreFeatures (record { origin = origin.now; sets = sets_of sets.now }) has }
+    ensures { IfOk result (TopDname (record { origin = origin.now; sets = sets_of sets.now }) name.now) }
+{
+    if !has.dnames {
+        return Ok(None);
+    }
+    Ok(top_dname(sets, origin, name.clone()?, has))
 }
 
 /// What redirects a name in the zone, if something above it does.

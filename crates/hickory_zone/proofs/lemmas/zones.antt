@@ -1,6 +1,7 @@
 -- What the keys of a zone tell of its names.
 pub mod Beside
 pub mod Cuts
+pub mod CutsAbove
 pub mod Every
 pub mod Features
 pub mod Nodes

@@ -3,8 +3,8 @@ use Rattle.std.specs.List.{All}
 use Rattle.std.specs.Prelude.{not}
 use Rattle.hickory_base.proofs.lemmas.zone_store.ZoneByName.{keys-shared}
 use Rattle.hickory_base.specs.zone_store.ZoneSets.{sets_of}
-use Rattle.hickory_zone.proofs.lemmas.zones.Features.{none_cut, none_redirecting, none_wild}
-use Rattle.hickory_zone.specs.Features.{CutsNothing, IsNoDname, IsStarless}
+use Rattle.hickory_zone.proofs.lemmas.zones.Features.{none_redirecting}
+use Rattle.hickory_zone.specs.Features.{IsNoDname}
 use Rattle.hickory_zone.specs.Zones.{Zone}
 use Rattle.hickory_zone.proofs.features.features_of.Goals as goal
 
@@ -15,9 +15,8 @@ turned false e = absurd cc
 pub returns : goal.returns
 returns c =
     let zone : Zone = record { origin = c.args.origin.now; sets = sets_of c.args.sets.now } in
-    let same = sym (keys-shared c.args.sets.now.entries) in
     record {
-      cuts = λ none. none_cut zone (subst (All (CutsNothing zone.origin)) same (c.are_cutting_nothing.ensures.0 (turned c.are_cutting_nothing.result none)));
-      dnames = λ none. none_redirecting zone (subst (All IsNoDname) same (c.are_no_dnames.ensures.0 (turned c.are_no_dnames.result none)));
-      wildcards = λ none. none_wild zone.sets (subst (All IsStarless) same (c.are_starless.ensures.0 (turned c.are_starless.result none)));
+      cuts = c.cut_lengths.ensures;
+      dnames = λ none. none_redirecting zone (subst (All IsNoDname) (sym (keys-shared c.args.sets.now.entries)) (c.are_no_dnames.ensures.0 (turned c.are_no_dnames.result none)));
+      wildcards = c.wildcard_lengths.ensures;
     }

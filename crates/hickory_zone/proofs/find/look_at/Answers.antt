@@ -12,4 +12,4 @@ pub returns : goal.returns
 returns c =
     let zone : Zone = record { origin = c.args.origin.now; sets = sets_of c.args.sets.now } in
     direct (as_direct zone c.args.name.now c.in_ok-by.field-0 c.in_default.is c.in_ok-by.ensures)
-    (c.find_existing.ensures zone c.args.name.now c.in_ok-cut.ensures c.requires.exists c.requires.wanted c.requires.alias)
+    (c.find_existing.ensures zone c.args.name.now (c.cut_at-cut.ensures zone.sets c.requires.above c.requires.servers) c.requires.exists c.requires.wanted c.requires.alias)

@@ -62,7 +62,7 @@ pushed_all wire i place labels w at are within done =
 pub too_long : (ls : List (List ℕ)) → 254 < length (wire_form ls) + 2 → 255 < name_len ((42 ∷ []) ∷ ls)
 too_long ls h = omega (arith, name_len-wire_form ls)
 
-lower_len : (ls : List (List ℕ)) → name_len (lower_labels ls) ≡ name_len ls
+pub lower_len : (ls : List (List ℕ)) → name_len (lower_labels ls) ≡ name_len ls
 lower_len [] = refl
 lower_len (l ∷ ls) = omega (arith, length-map l to_ascii_lowercase, lower_len ls)
 

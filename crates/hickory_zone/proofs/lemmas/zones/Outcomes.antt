@@ -87,20 +87,6 @@ module _ (zone : Zone) (q : DomainName) (t : ℕ) where
       | inr above ↦ none (j - k) (subst (IsCut zone) (sym (further j above)) c)
     ]
 
-    -- the highest cut above the encloser is the highest above the name
-    pub cut_above : (cut : Delegation) (e : EndsAt zone (ancestor q k) cut) → Delegates zone q (k + e.off) × (rrset zone.sets (ancestor q (k + e.off)) 2 ≡ Some cut.servers.now)
-    cut_above cut e =
-        let same : ancestor (ancestor q k) e.off ≡ ancestor q (k + e.off) = ancestor-ancestor q e.off k in (
-          record {
-            cut = subst (IsCut zone) same e.delegates.cut;
-            highest = λ j h c. e.delegates.highest (j - k) (omega arith) (subst (IsCut zone) (sym (further j (omega arith))) c);
-          },
-          sym (ap (λ n. rrset zone.sets n 2) same) ∙ e.servers,
-        )
-
-    pub refers : (cut : Delegation) → 0 < k → CutAt zone (ancestor q k) (Some cut) → AnswersDirectly zone q t (referral cut.servers.now)
-    refers cut more e = let r = cut_above cut e in delegated r.0 (λ zeros. absurd (omega arith)) r.1
-
   pub wild_or_not : (k : ℕ) (found : Found) → HasClosestEncloser zone.sets q k → 0 < k → IsAuthoritativeAt zone (ancestor q k) → WildFound zone.sets (ancestor q k) t found → AnswersDirectly zone q t (outcome_of zone.sets q found)
   wild_or_not zero found closest more auth w = absurd (omega arith)
   wild_or_not (suc k) found closest more auth (inl w) = subst (AnswersDirectly zone q t) (sym (w.1 q)) (wild (authoritative (suc k) closest auth) (closest.longest 0 (omega arith)) closest w.0)
@@ -177,12 +163,6 @@ pub below_encloser : (zone : Zone) (q encloser : DomainName) (t : ℕ) (cut : Op
 below_encloser zone q encloser t cut found e apart none at w =
     wild_or_not zone q t e.off found e.closest (is_above zone.sets q encloser e apart) (subst (λ (n : DomainName). CutAt zone n None) e.is (subst (CutAt zone encloser) none at))
     (subst (λ (n : DomainName). WildFound zone.sets n t found) e.is w)
-
--- where the zone is cut above a name that does not exist
-pub below_cut : (zone : Zone) (q encloser : DomainName) (t : ℕ) (cut : Option Delegation) (d : Delegation) (e : IsEncloser zone.sets q encloser) → ¬ (Exists zone.sets q) → cut ≡ Some d → CutAt zone encloser cut
-    → AnswersDirectly zone q t (referral d.servers.now)
-below_cut zone q encloser t cut d e apart some at =
-    refers zone q t e.off e.closest d (is_above zone.sets q encloser e apart) (subst (λ (n : DomainName). CutAt zone n (Some d)) e.is (subst (CutAt zone encloser) some at))
 
 pub within : (zone : Zone) (q encloser : DomainName) → AreOwners zone.origin zone.sets → Encloses zone.origin.labels q.labels → IsEncloser zone.sets q encloser → Encloses zone.origin.labels encloser.labels
 within zone q encloser owners inside e = subst (λ (n : DomainName). Encloses zone.origin.labels n.labels) (sym e.is) (encloser_within zone q e.off owners inside e.closest)
