@@ -1,15 +1,16 @@
 -- What holds of the replies of a server with keys.
-use Rattle.std.specs.Prelude.{◌≡◌, ℕ, Bool, false, List, length, [], ◌∷◌, ◌++◌, Option, Some, None, All}
+use Rattle.std.specs.Prelude.{◌≡◌, ℕ, Bool, false, List, length, [], ◌∷◌, ◌++◌, Option, Some, None, Contains}
 use Rattle.wire_names.specs.serialize.layout.Bytes.{AreBytes}
 use Rattle.wire_messages.specs.declared.rr.record.Record.{Record}
 use Rattle.wire_messages.specs.declared.rr.tsig.TSIG.{TSIG}
 use Rattle.tsig.specs.Judging.{HasKey, Judged}
+use Rattle.tsig.specs.Signing.{Reply as SignedReply}
 use Rattle.tsig.specs.Verifying.{IsWholeMessage, Verifies, VerifiesNext, is_mac_right}
 use Rattle.tsig.specs.declared.judgement.Judgement.{Judgement}
 use Rattle.tsig.specs.declared.judgement.Judgement.TheVariants.{Signed}
 use Rattle.tsig.specs.declared.judgement.Verdict.TheVariants.{Good}
 use Rattle.tsig.specs.declared.keys.Key.{Key}
-use Rattle.signed_server.specs.SignedAnswers.{AreSigned}
+use Rattle.signed_server.specs.SignedAnswers.{AreSigned, signed_behind}
 
 -- A message of bytes without a TSIG record, none of whose names leads into its header.
 pub record IsWhole (message : List ℕ) : Type 0 where
@@ -27,7 +28,7 @@ pub data AreVerified (key : Key) (request_mac : List ℕ) : List (List ℕ) → 
 -- Every reply to a request that was judged good carries a MAC that verifies under the request's key, over the bytes that leave.
 abbrev pub GoodRepliesVerify : Type 0
 GoodRepliesVerify = (keys : List Key) (request : List ℕ) (moment now : ℕ) (s : Record TSIG) (messages leaving : List (List ℕ)) (last : Option (List ℕ))
-    → Judged keys request moment (Signed s Good) → All IsWhole messages → AreSigned keys (Signed s Good) now messages leaving last
+    → Judged keys request moment (Signed s Good) → ((message : List ℕ) → Contains messages message → IsWhole message) → AreSigned keys (Signed s Good) now messages leaving last
     → (key : Key) × HasKey keys s key × AreVerified key s.rdata.mac leaving last
 
 -- There is a reply for every message that is to be signed.
@@ -42,5 +43,5 @@ has_right_mac other = false
 
 -- A reply to a request of a wrong key or MAC, or to one whose TSIG has no form, carries no MAC.
 abbrev pub BadRepliesAreBare : Type 0
-BadRepliesAreBare = (keys : List Key) (judgement : Judgement) (now : ℕ) (message : List ℕ) (leaving : List (List ℕ)) (last : Option (List ℕ))
-    → has_right_mac judgement ≡ false → AreSigned keys judgement now (message ∷ []) leaving last → last ≡ Some []
+BadRepliesAreBare = (keys : List Key) (judgement : Judgement) (message : List ℕ) (now : ℕ) (reply : SignedReply)
+    → has_right_mac judgement ≡ false → signed_behind keys judgement None message now ≡ Some reply → reply.mac ≡ []

@@ -37,7 +37,7 @@ fn serve(
 }
 
 /// Serves the message of a line, and puts what becomes of it behind a text, and a point behind that. A comment is put there as it is.
-fn serve_line(
+pub fn serve_line(
     alloc: Global,
     server: &mut Signing,
     line: &str,
@@ -51,18 +51,5 @@ fn serve_line(
     let answer = serve(alloc, server, &message)?;
     put_answer(alloc, &answer, text)?;
     text.push_str(".\n")?;
-    Ok(())
-}
-
-/// Serves the messages of lines, one after the other.
-pub fn serve_lines(
-    alloc: Global,
-    server: &mut Signing,
-    lines: &str,
-    text: &mut String,
-) -> Result<(), Fault> {
-    for line in lines.lines() {
-        serve_line(alloc, server, line, text)?;
-    }
     Ok(())
 }

@@ -9,45 +9,63 @@ mod fault;
 mod messages;
 mod zones;
 
-use crate::answers::serve_lines;
+use crate::answers::serve_line;
 use crate::fault::Fault;
-use crate::zones::served;
+use crate::zones::{Signing, served};
 use std::alloc::Global;
-use std::io::{self, Read};
+use std::io::{self, BufRead, BufReader};
 use std::process::ExitCode;
 
-/// The text of an input.
-fn input<R: Read>(alloc: Global, reader: &mut R) -> Result<String, Fault> {
-    let mut text = String::new(alloc);
-    match reader.read_to_string(&mut text) {
-        Ok(_) => Ok(text),
-        Err(e) if e.kind() == io::ErrorKind::OutOfMemory => Err(Fault::Memory),
+/// Why an input gave no line.
+fn fault_of(e: &io::Error) -> Fault {
+    match e.kind() {
+        io::ErrorKind::OutOfMemory => Fault::Memory,
+        _ => Fault::Stream,
+    }
+}
+
+/// Serves the message of a line, and prints what becomes of it, whole or not at all.
+fn answer<R: Print + Alloc<A = Global>>(
+    rt: &R,
+    server: &mut Signing,
+    line: &str,
+) -> Result<(), Fault> {
+    let mut text = String::new(rt.alloc());
+    serve_line(rt.alloc(), server, line, &mut text)?;
+    match print!(rt; "{text}") {
+        Ok(()) => Ok(()),
         Err(_) => Err(Fault::Stream),
     }
 }
 
-/// Serves the standard input, and puts what is printed behind a text.
-fn serve<R: Input + Alloc<A = Global>>(rt: &R, text: &mut String) -> Result<(), Fault> {
-    let alloc = rt.alloc();
-    let lines = input(alloc, &mut rt.reader())?;
-    serve_lines(alloc, &mut served(alloc)?, &lines, text)
+/// Serves the lines of the standard input, each before the next is read.
+fn serve<R: Print + Input + Alloc<A = Global>>(rt: &R) -> Result<(), Fault> {
+    let mut server = served(rt.alloc())?;
+    let reader = match BufReader::new(rt.alloc(), rt.reader()) {
+        Ok(reader) => reader,
+        Err(e) => return Err(fault_of(&e)),
+    };
+    for line in reader.lines(rt.alloc()) {
+        match line {
+            Ok(line) => answer(rt, &mut server, &line)?,
+            Err(e) => return Err(fault_of(&e)),
+        }
+    }
+    Ok(())
 }
 
-/// Prints a text, and gives the status of what was printed.
-fn print<R: Print>(rt: &R, text: &str, served: Result<(), Fault>) -> u8 {
-    let told = match served {
-        Ok(()) => print!(rt; "{text}"),
-        Err(fault) => println!(rt; "{text}{fault}"),
+/// Tells a fault, and gives the status.
+fn status_of<R: Print>(rt: &R, served: Result<(), Fault>) -> u8 {
+    let Err(fault) = served else {
+        return 0;
     };
-    match (told, served) {
-        (Err(_), _) => 4,
-        (Ok(()), Ok(())) => 0,
-        (Ok(()), Err(fault)) => fault.status(),
+    match println!(rt; "{fault}") {
+        Ok(()) => fault.status(),
+        Err(_) => 4,
     }
 }
 
 fn main(rt: HostRuntime) -> ExitCode {
-    let mut text = String::new(rt.alloc());
-    let served = serve(&rt, &mut text);
-    ExitCode::from(print(&rt, text.as_str(), served))
+    let served = serve(&rt);
+    ExitCode::from(status_of(&rt, served))
 }

@@ -1,6 +1,6 @@
 //! A message without the TSIG record that it ends in.
 
-ghost use Rattle.std.specs.Prelude.{◌≡◌, IfOk};
+ghost use Rattle.std.specs.Prelude.{◌≡◌, IfOk, MatchOption};
 ghost use Rattle.tsig.specs.Stripping.{IsStripped, without_last};
 
 use crate::digest::{front, part};
@@ -26,18 +26,28 @@ fn without_last(
     Ok(out)
 }
 
+/// The message without its TSIG record, where its last record is one.
+fn without_signature(alloc: Global, bytes: &[u8]) -> Result<Option<Vec<u8>>, AllocError>
+    ensures { IfOk result (λ found. MatchOption found (IsStripped bytes.now bytes.now) (λ out. IsStripped bytes.now out.items)) }
+{
+    match signature_of(alloc, bytes) {
+        Ok(Some(p)) => {
+            let out = without_last(alloc, bytes, p.additionals, p.place)?;
+            Ok(Some(out))
+        }
+        Ok(None) => Ok(None),
+        Err(DecodeError::Memory) => Err(AllocError),
+        Err(_) => Ok(None),
+    }
+}
+
 /// The message without its TSIG record, where its last record is one (RFC 8945 section 5.1); and else the message as it is. The id
 /// stays. It reads each record once, and takes memory for a copy only where there is a TSIG.
 pub fn stripped(alloc: Global, message: Octets) -> Result<Octets, AllocError>
     ensures { IfOk result (IsStripped message) }
 {
-    match signature_of(alloc, message.as_slice()) {
-        Ok(Some(p)) => {
-            let out = without_last(alloc, message.as_slice(), p.additionals, p.place)?;
-            Ok(Octets::from_vec(out))
-        }
-        Ok(None) => Ok(message),
-        Err(DecodeError::Memory) => Err(AllocError),
-        Err(_) => Ok(message),
+    match without_signature(alloc, message.as_slice())? {
+        None => Ok(message),
+        Some(out) => Ok(Octets::from_vec(out)),
     }
 }
