@@ -18,7 +18,7 @@ use Rattle.tsig.specs.declared.keys.Key.{Key}
 use Rattle.signed_server.specs.SignedAnswers.{AreSigned, signed_behind}
 use Rattle.signed_server.specs.SignedAnswers.AreSigned.{none, more}
 use Rattle.signed_server.specs.SignedLaws.{AreVerified, IsWhole, has_right_mac}
-use Rattle.signed_server.specs.SignedLaws.AreVerified as verified
+use Rattle.signed_server.specs.SignedLaws.AreVerified.{first_reply, further, nothing}
 
 -- ---- the key of a request that is good
 
@@ -46,11 +46,11 @@ one_reply o r q a b = cc
 
 nothing_before : (keys : List Key) (j : Judgement) (now : ℕ) (messages leaving : List (List ℕ)) (last : Option (List ℕ)) → AreSigned keys j now messages leaving last → last ≡ None → leaving ≡ []
 nothing_before keys j now messages leaving last none is = refl
-nothing_before keys j now messages leaving last (more before by) is = absurd cc
+nothing_before keys j now messages leaving last (more m before by) is = absurd cc
 
 pub as_many : (keys : List Key) (j : Judgement) (now : ℕ) (messages leaving : List (List ℕ)) (last : Option (List ℕ)) → AreSigned keys j now messages leaving last → length messages ≡ length leaving
 as_many keys j now messages leaving last none = refl
-as_many keys j now messages leaving last (more {messages = ms} {leaving = ls} {prior = p} {message = m} {reply = r} before by) =
+as_many keys j now messages leaving last (more {messages = ms} {leaving = ls} {prior = p} m {reply = r} before by) =
     let so_far = as_many keys j now ms ls p before in
     let a = length-append ms (m ∷ []) in
     let b = length-append ls (r.bytes ∷ []) in
@@ -80,13 +80,13 @@ module _ (first : First) (next : Next) (keys : List Key) (request : List ℕ) (m
   one_more : (leaving : List (List ℕ)) (prior : Option (List ℕ)) (message : List ℕ) (reply : Reply) → AreVerified key s.rdata.mac leaving prior → (prior ≡ None → leaving ≡ []) → IsWhole message
       → signed_behind keys (Signed s Good) prior message now ≡ Some reply → AreVerified key s.rdata.mac (leaving ++ reply.bytes ∷ []) (Some reply.mac)
   one_more leaving None message reply before empty w by =
-      subst (λ (ls : List (List ℕ)). AreVerified key s.rdata.mac (ls ++ reply.bytes ∷ []) (Some reply.mac)) (sym (empty refl)) (verified.first (first_verifies message reply w by))
-  one_more leaving (Some prior) message reply before empty w by = verified.next before (next_verifies message prior reply w by)
+      subst (λ (ls : List (List ℕ)). AreVerified key s.rdata.mac (ls ++ reply.bytes ∷ []) (Some reply.mac)) (sym (empty refl)) (first_reply (first_verifies message reply w by))
+  one_more leaving (Some prior) message reply before empty w by = further before (next_verifies message prior reply w by)
 
   all_verify : (messages leaving : List (List ℕ)) (last : Option (List ℕ)) → AreSigned keys (Signed s Good) now messages leaving last → ((message : List ℕ) → Contains messages message → IsWhole message)
       → AreVerified key s.rdata.mac leaving last
-  all_verify messages leaving last none whole = verified.none
-  all_verify messages leaving last (more {messages = ms} {leaving = ls} {prior = p} {message = m} {reply = r} before by) whole =
+  all_verify messages leaving last none whole = nothing
+  all_verify messages leaving last (more {messages = ms} {leaving = ls} {prior = p} m {reply = r} before by) whole =
       one_more ls p m r (all_verify ms ls p before (λ x h. whole x (Contains-append_left ms (m ∷ []) x h))) (nothing_before keys (Signed s Good) now ms ls p before) (whole m (Contains-push ms m)) by
 
 -- All replies to a request that is good verify.
@@ -104,6 +104,6 @@ some_mac r q o a b = let same : r ≡ q = cc in ap (λ (x : Reply). x.mac) (sym 
 
 pub bad_replies : ((keys : List Key) (s : Record TSIG) (verdict : Verdict) (message : List ℕ) (now : ℕ) (reply : Reply) → is_mac_right verdict ≡ false → reply_of keys (Signed s verdict) message now ≡ Some reply → reply.mac ≡ [])
     → (keys : List Key) (j : Judgement) (message : List ℕ) (now : ℕ) (reply : Reply) → has_right_mac j ≡ false → reply_of keys j message now ≡ Some reply → reply.mac ≡ []
-bad_replies wrong keys Unsigned message now reply no is = some_mac (plain message) reply (reply_of keys Unsigned message now) refl is
-bad_replies wrong keys FormErr message now reply no is = some_mac (plain message) reply (reply_of keys FormErr message now) refl is
-bad_replies wrong keys (Signed s v) message now reply no is = wrong keys s v message now reply no is
+bad_replies wrong keys Unsigned message now reply wrong_mac is = some_mac (plain message) reply (reply_of keys Unsigned message now) refl is
+bad_replies wrong keys FormErr message now reply wrong_mac is = some_mac (plain message) reply (reply_of keys FormErr message now) refl is
+bad_replies wrong keys (Signed s v) message now reply wrong_mac is = wrong keys s v message now reply wrong_mac is

@@ -1,5 +1,5 @@
 -- What stands in the place of a signature until the server signs.
-use Rattle.std.specs.Prelude.{[]}
+use Rattle.std.specs.Prelude.{[], true}
 use Rattle.wire_messages.specs.declared.rr.record.Proof.TheVariants.{Indeterminate}
 use Rattle.wire_messages.specs.declared.rr.record.Record.{Record}
 use Rattle.wire_messages.specs.declared.rr.tsig.TSIG.{TSIG}

@@ -90,5 +90,6 @@ pub data ServedWithKeys {H : Type 0} (keys : List Key) (rules : Rules) (server :
 
 -- The zones after a message for which memory was refused: as before, or as after it where it was served and its replies are missing.
 abbrev pub LeavesWithKeys : {H : Type 0} → Rules → Server H → Arrival → ServeError → List (DomainName × List H) → Type 0
-LeavesWithKeys rules server came e zones = ((e ≡ Memory) × (zones ≡ server.zones)) ⊎ LeavesBytes rules server came.bytes came.source came.protocol came.now e zones
-    ⊎ ((e ≡ MemoryAfterHandling) × (answer : Answer) × IsServed rules server came answer zones)
+LeavesWithKeys rules server came e zones = ((e ≡ Memory) × (zones ≡ server.zones))
+    ⊎ (LeavesBytes rules server came.bytes came.source came.protocol came.now e zones
+    ⊎ ((e ≡ MemoryAfterHandling) × (answer : Answer) × IsServed rules server came answer zones))

@@ -1,6 +1,7 @@
 -- The replies to signed requests (RFC 8945 sections 5.2 and 5.3): which messages are signed, and how one is signed behind the other.
 use Rattle.std.specs.Prelude.{◌≡◌, ◌≤◌, ◌-◌, ℕ, min, max, List, [], ◌∷◌, ◌++◌, length, Option, Some, None, All, true}
 use Rattle.std.specs.List.{AllZip}
+use Rattle.wire_messages.specs.op.EdnsFields.{EdnsFields}
 use Rattle.wire_messages.specs.op.Metadata.{response_to}
 use Rattle.wire_messages.specs.serialize.writing.Reply.{Reply}
 use Rattle.wire_messages.specs.declared.op.header.Header.{Header}
@@ -12,7 +13,6 @@ use Rattle.hickory_base.specs.requests.Questions.{payload_limit}
 use Rattle.hickory_base.specs.requests.Requests.{ReceivedRequest}
 use Rattle.hickory_base.specs.responses.Responses.{error_metadata}
 use Rattle.hickory_base.specs.declared.requests.message_request.MessageRequest.{MessageRequest}
-use Rattle.hickory_catalog.specs.Replies.{bare_contents, plain_reply}
 use Rattle.hickory_catalog.specs.ReplyEdns.{reply_edns}
 use Rattle.hickory_server.specs.Ruling.{udp_limit}
 use Rattle.hickory_server.specs.declared.server.answer.Answer.{Answer}
@@ -38,13 +38,28 @@ reply_limit rules request = limit_over request.protocol (min (payload_limit requ
 
 -- What is left of it for the message, beside its TSIG record (section 5.3); a header, of twelve bytes, in any case.
 abbrev pub message_limit : List Key → Judgement → Rules → ReceivedRequest → ℕ
-message_limit keys judgement rules request = max 12 (reply_limit rules request - room_of keys judgement)
+message_limit keys judgement rules request = max (reply_limit rules request - room_of keys judgement) 12
 
 -- ---- messages of a question alone
 
--- The bytes are a message of this header, with the questions of the request, its EDNS where it has EDNS, and nothing else, within the limit.
+-- a message without records, but for its OPT record
+abbrev pub bare_message : Metadata → List ℕ → ℕ → Option EdnsFields → Reply
+bare_message metadata question count edns = record {
+  metadata = metadata;
+  question = question;
+  question_count = count;
+  edns = edns;
+  answers = [];
+  authorities = [];
+  soa = [];
+  additionals = [];
+  signature = None;
+}
+
+-- The bytes are such a message within the limit, for a request: of this header, with the request's questions, and EDNS where it has EDNS.
 abbrev pub IsBare : ℕ → MessageRequest → Metadata → List ℕ → Type 0
-IsBare limit request metadata bytes = (header : Header) × ReplyEncoded limit (plain_reply request (reply_edns None request.edns) (bare_contents metadata)) bytes header
+IsBare limit request metadata bytes = (header : Header)
+    × ReplyEncoded limit (bare_message metadata request.queries.bytes (length request.queries.queries) (reply_edns None request.edns)) bytes header
 
 -- TC, and no error: the whole reply is to be had over TCP (section 5.3)
 abbrev pub truncated : Metadata → Metadata
@@ -58,15 +73,14 @@ refusal_code other = 1
 -- ---- what is signed
 
 -- The message is within the limit, has a header, and one more record can be counted in it.
-pub record Fits (limit : ℕ) (message : List ℕ) : Type 0 where
-  pub within : length message ≤ limit
-  pub room : HasRoom message
+abbrev pub Fits : ℕ → List ℕ → Type 0
+Fits limit message = (length message ≤ limit) × HasRoom message
 
 -- The messages that are signed in the place of replies. They are these, without the signature that one may have; where one has no room for its
 -- TSIG record, there is one message alone, of the question, with TC and no error (section 5.3).
 pub data AreToBeSigned (limit : ℕ) (request : MessageRequest) (replies : List (List ℕ)) (messages : List (List ℕ)) : Type 0 where
   whole : AllZip IsStripped replies messages → All (Fits limit) messages → AreToBeSigned limit request replies messages
-  cut : {bytes : List ℕ} {stripped : List (List ℕ)} → AllZip IsStripped replies stripped → ¬ (All (Fits limit) stripped)
+  cut : {bytes : List ℕ} (stripped : List (List ℕ)) → AllZip IsStripped replies stripped → ¬ (All (Fits limit) stripped)
       → IsBare limit request (truncated request.metadata) bytes → messages ≡ bytes ∷ [] → AreToBeSigned limit request replies messages
 
 -- ---- how they are signed
@@ -79,7 +93,7 @@ signed_behind keys judgement (Some prior) message now = next_of keys judgement p
 -- What leaves of messages, one behind the other, at this moment; with the MAC of the last.
 pub data AreSigned (keys : List Key) (judgement : Judgement) (now : ℕ) : List (List ℕ) → List (List ℕ) → Option (List ℕ) → Type 0 where
   none : AreSigned keys judgement now [] [] None
-  more : {messages leaving : List (List ℕ)} {prior : Option (List ℕ)} {message : List ℕ} {reply : SignedReply} → AreSigned keys judgement now messages leaving prior
+  more : {messages leaving : List (List ℕ)} {prior : Option (List ℕ)} (message : List ℕ) {reply : SignedReply} → AreSigned keys judgement now messages leaving prior
       → signed_behind keys judgement prior message now ≡ Some reply
       → AreSigned keys judgement now (messages ++ message ∷ []) (leaving ++ reply.bytes ∷ []) (Some reply.mac)
 

@@ -20,9 +20,9 @@ pub record IsWhole (message : List ℕ) : Type 0 where
 -- Replies verify by the key, one behind the other: the first for the MAC of the request (RFC 8945 section 5.3), and each further one behind the
 -- MAC of the one before it (section 5.3.1); with the MAC of the last.
 pub data AreVerified (key : Key) (request_mac : List ℕ) : List (List ℕ) → Option (List ℕ) → Type 0 where
-  none : AreVerified key request_mac [] None
-  first : {bytes mac : List ℕ} → Verifies key request_mac bytes → AreVerified key request_mac (bytes ∷ []) (Some mac)
-  next : {leaving : List (List ℕ)} {prior bytes mac : List ℕ} → AreVerified key request_mac leaving (Some prior) → VerifiesNext key prior bytes
+  nothing : AreVerified key request_mac [] None
+  first_reply : {bytes mac : List ℕ} → Verifies key request_mac bytes → AreVerified key request_mac (bytes ∷ []) (Some mac)
+  further : {leaving : List (List ℕ)} {prior bytes mac : List ℕ} → AreVerified key request_mac leaving (Some prior) → VerifiesNext key prior bytes
       → AreVerified key request_mac (leaving ++ bytes ∷ []) (Some mac)
 
 -- Every reply to a request that was judged good carries a MAC that verifies under the request's key, over the bytes that leave.

@@ -1,9 +1,11 @@
 //! Messages of a question alone.
 
-ghost use Rattle.std.specs.Prelude.{◌≡◌, ◌≤◌, [], IfOk, None, Some, max, length};
+ghost use Rattle.std.specs.Prelude.{◌≡◌, IfOk, None, Some};
 ghost use Rattle.std.specs.Option.{option_copied};
+ghost use Rattle.wire_messages.specs.declared.op.header.Header.{Header};
+ghost use Rattle.hickory_wire.specs.serialize.writing.ReplyParts.{ReplyEncoded};
 ghost use Rattle.hickory_catalog.specs.ReplyEdns.{reply_edns};
-ghost use Rattle.signed_server.specs.SignedAnswers.{IsBare};
+ghost use Rattle.signed_server.specs.SignedAnswers.{IsBare, bare_message};
 
 use hickory_base::message_request::MessageRequest;
 use hickory_wire::{Edns, Metadata, Octets, Record, ReplyParts, encode_message_parts};
@@ -29,22 +31,22 @@ fn edns_of(alloc: Global, message: &MessageRequest) -> Option<Edns>
     }
 }
 
-/// The bytes of a message of this header, with the questions of a request, within a limit.
-fn encoded(
+/// The bytes of a message without records, but for its OPT record, within a limit.
+fn encoded<'a>(
     alloc: Global,
-    message: &MessageRequest,
     metadata: Metadata,
-    edns: Option<&Edns>,
+    question: &'a [u8],
+    question_count: u16,
+    edns: Option<&'a Edns>,
     limit: u16,
 ) -> Result<Octets, AllocError>
-    requires { option_copied edns.entry ≡ reply_edns None message.now.edns }
-    ensures { IfOk result (IsBare limit message.now metadata) }
+    ensures { IfOk result (λ bytes. (header : Header) × ReplyEncoded limit (bare_message metadata question.now question_count (option_copied edns.entry)) bytes header) }
 {
     let nothing: &[Record] = &[];
     let parts = ReplyParts {
         metadata,
-        question: message.queries.as_bytes(),
-        question_count: message.queries.len() as u16,
+        question,
+        question_count,
         edns,
         answers: nothing.iter(),
         authorities: nothing.iter(),
@@ -68,7 +70,9 @@ pub(crate) fn bare(
     ensures { IfOk result (IsBare limit message.now metadata) }
 {
     let edns = edns_of(alloc, message);
-    let made = encoded(alloc, message, metadata, edns.as_ref(), limit);
+    let count = message.queries.len() as u16;
+    let question = message.queries.as_bytes();
+    let made = encoded(alloc, metadata, question, count, edns.as_ref(), limit);
     drop(edns);
     made
 }

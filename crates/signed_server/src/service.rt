@@ -1,6 +1,6 @@
 //! A server with keys.
 
-ghost use Rattle.std.specs.Prelude.{◌≡◌, ◌↔◌, IfErr, IfOk, IsTrue, Ok};
+ghost use Rattle.std.specs.Prelude.{◌≡◌, ◌≢◌, ◌↔◌, IfErr, IfOk, IsTrue};
 ghost use Rattle.hickory_catalog.specs.Server.{server_of};
 ghost use Rattle.hickory_server.specs.declared.server.answer.Answer.{Answer as Outcome};
 ghost use Rattle.tsig.specs.Judging.{Judged};

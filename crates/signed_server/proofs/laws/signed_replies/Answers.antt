@@ -10,4 +10,4 @@ pub returns-clause-every : goal.returns-clause-every
 returns-clause-every c = λ keys judgement now messages leaving last are. as_many keys judgement now messages leaving last are
 
 pub returns-clause-bad : goal.returns-clause-bad
-returns-clause-bad c = λ keys judgement message now reply no is. bad_replies c.replies_verify.ensures.wrong keys judgement message now reply no is
+returns-clause-bad c = λ keys judgement message now reply right is. bad_replies c.replies_verify.ensures.wrong keys judgement message now reply right is
