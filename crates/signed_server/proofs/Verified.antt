@@ -1,5 +1,5 @@
 -- Replies that are signed one behind the other verify so.
-use Rattle.std.proofs.Common.{◌≡◌, ℕ, List, [], ◌∷◌, ◌++◌, length, length-append, Bool, true, false, Contains, Option, Some, None, refl, sym, ap, subst, ◌∙◌, arith}
+use Rattle.std.proofs.Common.{◌≡◌, ℕ, List, [], ◌∷◌, ◌++◌, length, length-append, true, false, Contains, Option, Some, None, refl, sym, ap, subst, arith}
 use Rattle.std.proofs.lemmas.List.Elements.{Contains-append_left, Contains-push}
 use Rattle.wire_names.specs.serialize.layout.Bytes.{AreBytes}
 use Rattle.wire_messages.specs.declared.rr.record.Record.{Record}
@@ -7,7 +7,6 @@ use Rattle.wire_messages.specs.declared.rr.tsig.TSIG.{TSIG}
 use Rattle.tsig.specs.Judging.{HasKey, Judged, JudgedBy}
 use Rattle.tsig.specs.Judging.Judged.{unsigned, signed, malformed}
 use Rattle.tsig.specs.Judging.JudgedBy.{ill_formed, bad_key, bad_len, bad_sig, bad_time, bad_trunc, good}
-use Rattle.tsig.specs.Keys.{key_of}
 use Rattle.tsig.specs.Signing.{Reply, next_of, plain, reply_of}
 use Rattle.tsig.specs.Verifying.{IsWholeMessage, Verifies, VerifiesNext, is_mac_right}
 use Rattle.tsig.specs.declared.judgement.Judgement.{Judgement}

@@ -5,8 +5,6 @@ use Rattle.std.specs.declared.net.SocketAddr.{SocketAddr}
 use Rattle.wire_names.specs.rr.domain.DomainName.{DomainName}
 use Rattle.wire_names.specs.declared.error.ProtoError.{ProtoError}
 use Rattle.wire_messages.specs.declared.protocol.Protocol.{Protocol}
-use Rattle.wire_messages.specs.declared.rr.record.Record.{Record}
-use Rattle.wire_messages.specs.declared.rr.tsig.TSIG.{TSIG}
 use Rattle.wire_reading.specs.serialize.layout.WholeMessage.{MessageAt}
 use Rattle.wire_reading.specs.serialize.reading.MessageReading.{Reads}
 use Rattle.access_control.specs.Access.{IsAllowed}

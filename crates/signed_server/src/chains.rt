@@ -70,7 +70,14 @@ pub(crate) fn signed(
     let mut leaving = Items::new(alloc);
     let mut prior: Option<Octets> = None;
     for message in messages {
-        let made = signed_behind(alloc, keys, judgement, prior.as_ref(), message.as_slice(), now)?;
+        let made = signed_behind(
+            alloc,
+            keys,
+            judgement,
+            prior.as_ref(),
+            message.as_slice(),
+            now,
+        )?;
         leaving.push(made.bytes)?;
         prior = Some(made.mac);
     }

@@ -4,9 +4,7 @@ ghost use Rattle.std.specs.Prelude.{◌≡◌, Some};
 ghost use Rattle.signed_server.specs.Placeholders.{placeholder};
 
 use hickory_catalog::signer::{ReplySigner, SignError};
-use hickory_wire::{
-    Boxed, DNSClass, Name, Octets, Proof, Record, TSIG, TSigResponseContext,
-};
+use hickory_wire::{Boxed, DNSClass, Name, Octets, Proof, Record, TSIG, TSigResponseContext};
 use std::alloc::Global;
 
 /// The signer of a catalog whose replies a [`SignedServer`](crate::SignedServer) signs. It computes no digest: each reply has a TSIG record that signs

@@ -28,12 +28,14 @@ fn put_answer(alloc: Global, answer: &Answer, text: &mut String) -> Result<(), A
 }
 
 /// Serves a message.
-fn serve(
-    alloc: Global,
-    server: &mut Signing,
-    message: &Message,
-) -> Result<Answer, Fault> {
-    Ok(server.serve(alloc, &message.bytes, message.src, message.protocol, message.now)?)
+fn serve(alloc: Global, server: &mut Signing, message: &Message) -> Result<Answer, Fault> {
+    Ok(server.serve(
+        alloc,
+        &message.bytes,
+        message.src,
+        message.protocol,
+        message.now,
+    )?)
 }
 
 /// Serves the message of a line, and puts what becomes of it behind a text, and a point behind that. A comment is put there as it is.

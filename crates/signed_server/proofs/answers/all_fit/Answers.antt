@@ -1,5 +1,5 @@
 -- One message more fits; and all do at the end.
-use Rattle.std.proofs.Common.{◌≡◌, ℕ, List, rules, refl, subst}
+use Rattle.std.proofs.Common.{rules, refl, subst}
 use Rattle.std.specs.List.{All}
 use Rattle.std.proofs.lemmas.List.{take_all}
 use Rattle.std.proofs.lemmas.List.Elements.{All-more}

@@ -1,6 +1,5 @@
 -- What is put is the reply behind the one before, or the first.
-use Rattle.std.proofs.Common.{◌≡◌}
-use Rattle.tsig.specs.Signing.{next_of, reply_of}
+use Rattle.tsig.specs.Signing.{reply_of}
 use Rattle.signed_server.proofs.Puts.{puts_made}
 use Rattle.signed_server.proofs.chains.put_signed.Goals as goal
 

@@ -1,5 +1,5 @@
 -- The replies of the server are signed, or lost.
-use Rattle.std.proofs.Common.{◌≡◌, inl, inr, refl}
+use Rattle.std.proofs.Common.{inr, refl}
 use Rattle.hickory_server.specs.declared.server.answer.Answer.TheVariants.{Replies}
 use Rattle.signed_server.proofs.service.serve_good.Goals as goal
 

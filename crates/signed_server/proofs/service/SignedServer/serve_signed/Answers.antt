@@ -3,6 +3,7 @@ use Rattle.std.proofs.Common.{◌≡◌, rules, refl, sym, ◌∙◌}
 use Rattle.hickory_base.proofs.lemmas.ResultMaps.{if_ok_map}
 use Rattle.signed_server.specs.ServedWithKeys.{IsRequestOf, arrival, course_of}
 use Rattle.signed_server.specs.ServedWithKeys.ServedWithKeys.{bad, good, unreadable}
+use Rattle.signed_server.specs.declared.service.Course.TheVariants.{Sign}
 use Rattle.signed_server.proofs.Courses.{sign_is_left}
 use Rattle.signed_server.proofs.service.SignedServer.serve_signed.Goals as goal
 
@@ -27,12 +28,12 @@ returns-in_default g c =
     let it = c.in-Ok.ensures in
     let read : IsRequestOf (arrival c.args.bytes.now c.args.src c.args.protocol c.args.now) c.read_in_place.new.self =
     record { stands = it.stands; reads = it.found; questions = it.questions; raw = it.raw; source_is = it.source.0; protocol_is = it.source.1 } in
-    let left : course_of c.args.judgement.now ≡ _ = sign_is_left (course_of c.args.judgement.now) c.requires.signed (λ is. c.in_default.not-Refuse (c.course_of.ensures ∙ is)) in record {
+    let left : course_of c.args.judgement.now ≡ Sign = sign_is_left (course_of c.args.judgement.now) c.requires.signed (λ is. c.in_default.not-Refuse (c.course_of.ensures ∙ is)) in record {
       keys = refl;
       rules = c.serve_good.ensures.rules;
       others = c.serve_good.ensures.others;
       ok = if_ok_map c.serve_good.result _ _ c.serve_good.ensures.ok (λ answer t.
-        let (served, is_served, is_sent) = t in
-        good {judgement = c.args.judgement.now} {served = served} c.requires.judging c.requires.judged left read is_served is_sent);
+          let (served, is_served, is_sent) = t in
+          good {judgement = c.args.judgement.now} {served = served} c.requires.judging c.requires.judged left read is_served is_sent);
       err = c.serve_good.ensures.err;
     }
