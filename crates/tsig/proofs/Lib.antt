@@ -6,4 +6,5 @@ mod Rooms
 mod SameBytes
 mod Signatures
 mod Skips
+mod Strips
 mod Walks

@@ -8,5 +8,6 @@ pub mod Keys
 pub mod Reading
 pub mod Signing
 pub mod Standing
+pub mod Stripping
 pub mod Validity
 pub mod Verifying

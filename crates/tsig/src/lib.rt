@@ -13,6 +13,7 @@ mod macs;
 mod reading;
 mod signer;
 mod signing;
+mod stripping;
 mod verifier;
 mod writing;
 
@@ -26,4 +27,6 @@ pub use laws::{replies_take_their_room, replies_verify, signed_requests_are_good
 pub use macs::{hmac, is_same_mac, mac};
 pub use signer::TsigSigner;
 pub use signing::{SigningError, room, sign, sign_next};
+pub use stripping::stripped;
 pub use verifier::TsigVerifier;
+pub use writing::has_room;

@@ -30,7 +30,7 @@ pub(crate) fn id_of(message: &[u8]) -> u16
 }
 
 /// Whether a message has a header, and one more additional record can be counted in it.
-pub(crate) fn has_room(message: &[u8]) -> bool
+pub fn has_room(message: &[u8]) -> bool
     ensures { IsTrue result ↔ HasRoom message.now }
 {
     message.len() >= 12 && number_at(message, 10) < u16::MAX

@@ -1,0 +1,3 @@
+mod Courses
+mod Puts
+mod Verified

@@ -1,0 +1,39 @@
+-- A signed message is served and its replies signed, or it is refused.
+use Rattle.std.proofs.Common.{◌≡◌, rules, refl, sym, ◌∙◌}
+use Rattle.hickory_base.proofs.lemmas.ResultMaps.{if_ok_map}
+use Rattle.signed_server.specs.ServedWithKeys.{IsRequestOf, arrival, course_of}
+use Rattle.signed_server.specs.ServedWithKeys.ServedWithKeys.{bad, good, unreadable}
+use Rattle.signed_server.specs.declared.service.Course.TheVariants.{Sign}
+use Rattle.signed_server.proofs.Courses.{sign_is_left}
+use Rattle.signed_server.proofs.service.SignedServer.serve_signed.Goals as goal
+
+pub returns-in-Err : goal.returns-in-Err
+returns-in-Err g c = record {
+  keys = refl;
+  rules = refl;
+  others = refl;
+  ok = unreadable {judgement = c.args.judgement.now} {e = c.in-Err.field-0} c.requires.judging c.requires.judged (c.in-Err.ensures.fault (search rules)) refl refl;
+  err = tt;
+}
+
+pub returns-in-Ok-refused-clause-ok : goal.returns-in-Ok-refused-clause-ok
+returns-in-Ok-refused-clause-ok g c =
+    let it = c.in-Ok.ensures in
+    let read : IsRequestOf (arrival c.args.bytes.now c.args.src c.args.protocol c.args.now) c.read_in_place.new.self =
+    record { stands = it.stands; reads = it.found; questions = it.questions; raw = it.raw; source_is = it.source.0; protocol_is = it.source.1 } in
+    bad {judgement = c.args.judgement.now} c.requires.judging c.requires.judged (sym c.course_of.ensures ∙ c.in-Refuse.is) read c.in-Ok-refused.ensures refl refl
+
+pub returns-in_default : goal.returns-in_default
+returns-in_default g c =
+    let it = c.in-Ok.ensures in
+    let read : IsRequestOf (arrival c.args.bytes.now c.args.src c.args.protocol c.args.now) c.read_in_place.new.self =
+    record { stands = it.stands; reads = it.found; questions = it.questions; raw = it.raw; source_is = it.source.0; protocol_is = it.source.1 } in
+    let left : course_of c.args.judgement.now ≡ Sign = sign_is_left (course_of c.args.judgement.now) c.requires.signed (λ is. c.in_default.not-Refuse (c.course_of.ensures ∙ is)) in record {
+      keys = refl;
+      rules = c.serve_good.ensures.rules;
+      others = c.serve_good.ensures.others;
+      ok = if_ok_map c.serve_good.result _ _ c.serve_good.ensures.ok (λ answer t.
+          let (served, is_served, is_sent) = t in
+          good {judgement = c.args.judgement.now} {served = served} c.requires.judging c.requires.judged left read is_served is_sent);
+      err = c.serve_good.ensures.err;
+    }

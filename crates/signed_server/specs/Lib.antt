@@ -1,0 +1,4 @@
+pub mod Placeholders
+pub mod ServedWithKeys
+pub mod SignedAnswers
+pub mod SignedLaws

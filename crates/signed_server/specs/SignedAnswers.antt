@@ -1,0 +1,118 @@
+-- The replies to signed requests (RFC 8945 sections 5.2 and 5.3): which messages are signed, and how one is signed behind the other.
+use Rattle.std.specs.Prelude.{◌≡◌, ◌≤◌, ◌-◌, ℕ, min, max, List, [], ◌∷◌, ◌++◌, length, Option, Some, None, All, true}
+use Rattle.std.specs.List.{AllZip}
+use Rattle.wire_messages.specs.op.EdnsFields.{EdnsFields}
+use Rattle.wire_messages.specs.op.Metadata.{response_to}
+use Rattle.wire_messages.specs.serialize.writing.Reply.{Reply}
+use Rattle.wire_messages.specs.declared.op.header.Header.{Header}
+use Rattle.wire_messages.specs.declared.op.header.Metadata.{Metadata}
+use Rattle.wire_messages.specs.declared.protocol.Protocol.{Protocol}
+use Rattle.wire_messages.specs.declared.protocol.Protocol.TheVariants.{Udp}
+use Rattle.hickory_wire.specs.serialize.writing.ReplyParts.{ReplyEncoded}
+use Rattle.hickory_base.specs.requests.Questions.{payload_limit}
+use Rattle.hickory_base.specs.requests.Requests.{ReceivedRequest}
+use Rattle.hickory_base.specs.responses.Responses.{error_metadata}
+use Rattle.hickory_base.specs.declared.requests.message_request.MessageRequest.{MessageRequest}
+use Rattle.hickory_catalog.specs.ReplyEdns.{reply_edns}
+use Rattle.hickory_server.specs.Ruling.{udp_limit}
+use Rattle.hickory_server.specs.declared.server.answer.Answer.{Answer}
+use Rattle.hickory_server.specs.declared.server.answer.Answer.TheVariants.{Replies}
+use Rattle.hickory_server.specs.declared.server.rules.Rules.{Rules}
+use Rattle.tsig.specs.Signing.{HasRoom, next_of, reply_of, room_of}
+use Rattle.tsig.specs.Signing.{Reply as SignedReply}
+use Rattle.tsig.specs.Stripping.{IsStripped}
+use Rattle.tsig.specs.declared.judgement.Judgement.{Judgement}
+use Rattle.tsig.specs.declared.judgement.Judgement.TheVariants.{Signed}
+use Rattle.tsig.specs.declared.keys.Key.{Key}
+
+-- ---- limits
+
+-- How many bytes a reply has at most, its signature with it: over UDP what the client takes (RFC 6891 section 6.2.3) and the server allows;
+-- over a stream what a length of 16 bits allows (RFC 1035 section 4.2.2).
+abbrev pub limit_over : Protocol → ℕ → ℕ
+limit_over Udp datagram = datagram
+limit_over stream datagram = 65535
+
+abbrev pub reply_limit : Rules → ReceivedRequest → ℕ
+reply_limit rules request = limit_over request.protocol (min (payload_limit request.message.edns) (udp_limit rules))
+
+-- What is left of it for the message, beside its TSIG record (section 5.3); a header, of twelve bytes, in any case.
+abbrev pub message_limit : List Key → Judgement → Rules → ReceivedRequest → ℕ
+message_limit keys judgement rules request = max (reply_limit rules request - room_of keys judgement) 12
+
+-- ---- messages of a question alone
+
+-- a message without records, but for its OPT record
+abbrev pub bare_message : Metadata → List ℕ → ℕ → Option EdnsFields → Reply
+bare_message metadata question count edns = record {
+  metadata = metadata;
+  question = question;
+  question_count = count;
+  edns = edns;
+  answers = [];
+  authorities = [];
+  soa = [];
+  additionals = [];
+  signature = None;
+}
+
+-- The bytes are such a message within the limit, for a request: of this header, with the request's questions, and EDNS where it has EDNS.
+abbrev pub IsBare : ℕ → MessageRequest → Metadata → List ℕ → Type 0
+IsBare limit request metadata bytes = (header : Header)
+    × ReplyEncoded limit (bare_message metadata request.queries.bytes (length request.queries.queries) (reply_edns None request.edns)) bytes header
+
+-- TC, and no error: the whole reply is to be had over TCP (section 5.3)
+abbrev pub truncated : Metadata → Metadata
+truncated request = record (response_to request) { truncation = true }
+
+-- NOTAUTH, which is 9, for a wrong key, MAC or time (section 5.2); and FORMERR, which is 1, for a signature without its form
+abbrev pub refusal_code : Judgement → ℕ
+refusal_code (Signed s verdict) = 9
+refusal_code other = 1
+
+-- ---- what is signed
+
+-- The message is within the limit, has a header, and one more record can be counted in it.
+abbrev pub Fits : ℕ → List ℕ → Type 0
+Fits limit message = (length message ≤ limit) × HasRoom message
+
+-- The messages that are signed in the place of replies. They are these, without the signature that one may have; where one has no room for its
+-- TSIG record, there is one message alone, of the question, with TC and no error (section 5.3).
+pub data AreToBeSigned (limit : ℕ) (request : MessageRequest) (replies : List (List ℕ)) (messages : List (List ℕ)) : Type 0 where
+  whole : AllZip IsStripped replies messages → All (Fits limit) messages → AreToBeSigned limit request replies messages
+  cut : {bytes : List ℕ} (stripped : List (List ℕ)) → AllZip IsStripped replies stripped → ¬ (All (Fits limit) stripped)
+      → IsBare limit request (truncated request.metadata) bytes → messages ≡ bytes ∷ [] → AreToBeSigned limit request replies messages
+
+-- ---- how they are signed
+
+-- The first reply is signed over the MAC of the request (section 5.3), and each further one over the MAC of the one before it (section 5.3.1).
+abbrev pub signed_behind : List Key → Judgement → Option (List ℕ) → List ℕ → ℕ → Option SignedReply
+signed_behind keys judgement None message now = reply_of keys judgement message now
+signed_behind keys judgement (Some prior) message now = next_of keys judgement prior message now
+
+-- What leaves of messages, one behind the other, at this moment; with the MAC of the last.
+pub data AreSigned (keys : List Key) (judgement : Judgement) (now : ℕ) : List (List ℕ) → List (List ℕ) → Option (List ℕ) → Type 0 where
+  none : AreSigned keys judgement now [] [] None
+  more : {messages leaving : List (List ℕ)} {prior : Option (List ℕ)} (message : List ℕ) {reply : SignedReply} → AreSigned keys judgement now messages leaving prior
+      → signed_behind keys judgement prior message now ≡ Some reply
+      → AreSigned keys judgement now (messages ++ message ∷ []) (leaving ++ reply.bytes ∷ []) (Some reply.mac)
+
+-- What leaves in the place of replies to a request that was judged so.
+pub record AreSent (keys : List Key) (judgement : Judgement) (rules : Rules) (request : ReceivedRequest) (now : ℕ) (replies leaving : List (List ℕ)) : Type 0 where
+  pub messages : List (List ℕ)
+  pub last : Option (List ℕ)
+  pub to_be_signed : AreToBeSigned (message_limit keys judgement rules request) request.message replies messages
+  pub signed : AreSigned keys judgement now messages leaving last
+
+-- What leaves in the place of an answer: of its replies, these; and an answer without a reply stays.
+abbrev pub IsSent : List Key → Judgement → Rules → ReceivedRequest → ℕ → Answer → Answer → Type 0
+IsSent keys judgement rules request now (Replies replies) answer = (leaving : List (List ℕ)) × AreSent keys judgement rules request now replies leaving × (answer ≡ Replies leaving)
+IsSent keys judgement rules request now other answer = answer ≡ other
+
+-- What leaves for a request whose signature is bad: the question with the code, and a TSIG record that tells why, where the request's had its form
+-- (sections 5.2 and 5.3.2).
+pub record IsRefused (keys : List Key) (judgement : Judgement) (rules : Rules) (request : ReceivedRequest) (now : ℕ) (leaving : List (List ℕ)) : Type 0 where
+  pub message : List ℕ
+  pub last : Option (List ℕ)
+  pub bare : IsBare (message_limit keys judgement rules request) request.message (error_metadata request.message.metadata (refusal_code judgement)) message
+  pub signed : AreSigned keys judgement now (message ∷ []) leaving last

@@ -1,0 +1,14 @@
+//! A server with keys: it judges the transaction signature (TSIG, RFC 8945) of every message before its zones are asked, and signs every reply to
+//! a signed request over the bytes that leave.
+#![tactic(auto)]
+
+mod answers;
+mod bare;
+mod chains;
+mod laws;
+mod placeholders;
+mod service;
+
+pub use laws::signed_replies;
+pub use placeholders::LeftToServer;
+pub use service::SignedServer;

@@ -1,0 +1,209 @@
+//! A server with keys.
+
+ghost use Rattle.std.specs.Prelude.{◌≡◌, ◌≢◌, ◌↔◌, IfErr, IfOk, IsTrue};
+ghost use Rattle.hickory_catalog.specs.Server.{server_of};
+ghost use Rattle.hickory_server.specs.declared.server.answer.Answer.{Answer as Outcome};
+ghost use Rattle.tsig.specs.Judging.{Judged};
+ghost use Rattle.signed_server.specs.ServedWithKeys.{IsForJudging, IsServed, LeavesWithKeys, ServedWithKeys, arrival, course_of};
+ghost use Rattle.signed_server.specs.SignedAnswers.{IsSent};
+
+use crate::answers::{refused, sent};
+use hickory_base::server::Request;
+use hickory_base::zone_store::ZoneHandler;
+use hickory_catalog::catalog::Catalog;
+use hickory_catalog::signer::ReplySigner;
+use hickory_server::server::serve::ServeError;
+use hickory_server::server::{Answer, Rules, Server};
+use hickory_wire::{ProtoError, Protocol};
+use std::alloc::{AllocError, Global};
+use std::net::{IpAddr, Ipv4Addr, SocketAddr};
+use tsig::{Judgement, Keys, Verdict, judge};
+
+/// How many bytes the header of a message has (RFC 1035 section 4.1.1).
+const HEADER_LEN: usize = 12;
+
+/// Which way a message goes.
+#[derive(Clone, Copy, Debug, PartialEq, Eq)]
+pub(crate) enum Course {
+    /// It has no signature, and is served as it is.
+    Plain,
+    /// Its signature is good: it is served, and its replies are signed.
+    Sign,
+    /// Its signature is bad, and no zone is asked.
+    Refuse,
+}
+
+/// Which way a message goes that was judged so.
+fn course_of(judgement: &Judgement) -> Course
+    ensures { result ≡ course_of judgement.now }
+{
+    match judgement {
+        Judgement::Unsigned => Course::Plain,
+        Judgement::FormErr => Course::Refuse,
+        Judgement::Signed { verdict, .. } => match verdict {
+            Verdict::Good => Course::Sign,
+            Verdict::BadKey | Verdict::BadSig | Verdict::BadTime | Verdict::BadTrunc => {
+                Course::Refuse
+            }
+        },
+    }
+}
+
+/// Whether a message is judged.
+fn is_for_judging(rules: &Rules, bytes: &[u8], src: SocketAddr) -> bool
+    ensures { IsTrue result ↔ IsForJudging rules.now bytes.now src }
+{
+    rules.access.allow(src.ip()) && bytes.len() >= HEADER_LEN && bytes[2] < 128
+}
+
+/// Serves a message whose signature is good, and signs its replies.
+fn serve_good<S: ReplySigner, H: ZoneHandler>(
+    alloc: Global,
+    keys: &Keys,
+    judgement: &Judgement,
+    request: &Request,
+    server: &mut Server<S, H>,
+    bytes: &[u8],
+    src: SocketAddr,
+    protocol: Protocol,
+    now: u64,
+) -> Result<Answer, ServeError>
+    ensures rules { server.new.rules ≡ server.old.rules }
+    ensures others { server.new.catalog ≡ record server.old.catalog { zones = server.new.catalog.zones } }
+    ensures ok { IfOk result (λ answer. (served : Outcome) ×
+        IsServed server.old.rules (server_of H.ZoneHandler S.signature_for server.old.catalog) (arrival bytes.now src protocol now) served server.new.catalog.zones ×
+        IsSent keys.now judgement.now server.old.rules request.now now served answer) }
+    ensures err { IfErr result (λ e. LeavesWithKeys server.old.rules (server_of H.ZoneHandler S.signature_for server.old.catalog) (arrival bytes.now src protocol now) e server.new.catalog.zones) }
+{
+    let replies = match server.serve(alloc, bytes, src, protocol, now) {
+        Ok(Answer::Replies(replies)) => replies,
+        Ok(other) => return Ok(other),
+        Err(e) => return Err(e),
+    };
+    match sent(alloc, keys, judgement, &server.rules, request, now, replies) {
+        Ok(leaving) => Ok(Answer::Replies(leaving)),
+        Err(_) => Err(ServeError::MemoryAfterHandling),
+    }
+}
+
+/// A request without a question, in whose place others are read.
+fn empty_request(alloc: Global) -> Result<Request, AllocError> {
+    let bytes = vec![in alloc; 0; HEADER_LEN]?;
+    let source = SocketAddr::new(IpAddr::V4(Ipv4Addr::LOCALHOST), 53);
+    match Request::from_bytes(alloc, bytes, source, Protocol::Udp) {
+        Ok(request) => Ok(request),
+        Err(_) => Err(AllocError),
+    }
+}
+
+/// A server with keys: the server, the keys that it judges signatures by, and the signed request that it read last, in whose place it reads the next.
+///
+/// The handlers of zones that take updates are to judge by a [`TsigVerifier`](tsig::TsigVerifier) of the same keys. Whatever signer the catalog has, the
+/// signatures that it gives are taken off, and replies are signed anew; [`LeftToServer`](crate::LeftToServer) computes none.
+#[derive(Drop)]
+pub struct SignedServer<S: ReplySigner, H: ZoneHandler> {
+    /// The server.
+    pub server: Server<S, H>,
+    /// The keys.
+    pub keys: Keys,
+    request: Request,
+}
+
+impl<S: ReplySigner, H: ZoneHandler> SignedServer<S, H> {
+    /// A server with these keys.
+    pub fn new(
+        alloc: Global,
+        server: Server<S, H>,
+        keys: Keys,
+    ) -> Result<SignedServer<S, H>, AllocError>
+        ensures server { IfOk result (λ made. made.server ≡ server) }
+        ensures keys { IfOk result (λ made. made.keys ≡ keys) }
+    {
+        Ok(SignedServer {
+            server,
+            keys,
+            request: empty_request(alloc)?,
+        })
+    }
+
+    /// Serves a message that was judged, and has a signature.
+    fn serve_signed(
+        &mut self,
+        alloc: Global,
+        judgement: &Judgement,
+        bytes: &[u8],
+        src: SocketAddr,
+        protocol: Protocol,
+        now: u64,
+    ) -> Result<Answer, ServeError>
+        requires judging { IsForJudging self.old.server.rules bytes.now src }
+        requires judged { Judged self.old.keys bytes.now now judgement.now }
+        requires signed { course_of judgement.now ≢ Course.Plain }
+        ensures keys { self.new.keys ≡ self.old.keys }
+        ensures rules { self.new.server.rules ≡ self.old.server.rules }
+        ensures others { self.new.server.catalog ≡ record self.old.server.catalog { zones = self.new.server.catalog.zones } }
+        ensures ok { IfOk result (λ answer. ServedWithKeys self.old.keys self.old.server.rules (server_of H.ZoneHandler S.signature_for self.old.server.catalog) (arrival bytes.now src protocol now) answer self.new.server.catalog.zones) }
+        ensures err { IfErr result (λ e. LeavesWithKeys self.old.server.rules (server_of H.ZoneHandler S.signature_for self.old.server.catalog) (arrival bytes.now src protocol now) e self.new.server.catalog.zones) }
+    {
+        match self.request.read_in_place(alloc, bytes, src, protocol) {
+            Ok(()) => {}
+            Err(ProtoError::Memory) => return Err(ServeError::Memory),
+            Err(_) => return Ok(Answer::Unreadable),
+        }
+        let (keys, request) = (&self.keys, &self.request);
+        match course_of(judgement) {
+            Course::Refuse => {
+                match refused(alloc, keys, judgement, &self.server.rules, request, now) {
+                    Ok(leaving) => Ok(Answer::Replies(leaving)),
+                    Err(_) => Err(ServeError::Memory),
+                }
+            }
+            _ => {
+                let server = &mut self.server;
+                serve_good(
+                    alloc, keys, judgement, request, server, bytes, src, protocol, now,
+                )
+            }
+        }
+    }
+
+    /// Serves one message, which came from this address over this transport, at this moment in seconds since 1970: what becomes of it.
+    ///
+    /// It is judged by the keys (RFC 8945 section 5.2), unless its address may not use the server, or it has no header, or is itself a response: then,
+    /// and where it has no TSIG record, it is served as [`Server::serve`] serves it. Where its signature is good, it is served so too, TSIG record and
+    /// all, and every reply is signed over the bytes that leave, the first over the MAC of the request, and each further one of a transfer over the MAC
+    /// of the one before it (sections 5.3 and 5.3.1). A reply that has no room for its TSIG record is replaced by the question alone, with TC and no
+    /// error (section 5.3). The room is what the client takes and the rules allow over UDP, and 65,535 bytes over a stream.
+    ///
+    /// Where the signature is bad, no zone is asked. The reply is NOTAUTH with BADKEY, BADSIG, BADTIME or BADTRUNC in its TSIG record; of these BADTIME,
+    /// with the server's time, and BADTRUNC are signed (section 5.2). It is FORMERR, without a TSIG record, where the TSIG record has no form. A message
+    /// that cannot be read, as one with a record behind its TSIG record, is unreadable, and has no reply.
+    ///
+    /// `Memory` says that the catalog is as before, and `MemoryAfterHandling` that the message was handled and its replies are missing. An unsigned
+    /// message is read once more than by [`Server::serve`]; of a signed one, and of each reply to it, each byte is hashed once.
+    pub fn serve(
+        &mut self,
+        alloc: Global,
+        bytes: &[u8],
+        src: SocketAddr,
+        protocol: Protocol,
+        now: u64,
+    ) -> Result<Answer, ServeError>
+        ensures keys { self.new.keys ≡ self.old.keys }
+        ensures rules { self.new.server.rules ≡ self.old.server.rules }
+        ensures others { self.new.server.catalog ≡ record self.old.server.catalog { zones = self.new.server.catalog.zones } }
+        ensures ok { IfOk result (λ answer. ServedWithKeys self.old.keys self.old.server.rules (server_of H.ZoneHandler S.signature_for self.old.server.catalog) (arrival bytes.now src protocol now) answer self.new.server.catalog.zones) }
+        ensures err { IfErr result (λ e. LeavesWithKeys self.old.server.rules (server_of H.ZoneHandler S.signature_for self.old.server.catalog) (arrival bytes.now src protocol now) e self.new.server.catalog.zones) }
+    {
+        if !is_for_judging(&self.server.rules, bytes, src) {
+            return self.server.serve(alloc, bytes, src, protocol, now);
+        }
+        let Ok(judgement) = judge(alloc, &self.keys, bytes, now) else {
+            return Err(ServeError::Memory);
+        };
+        match course_of(&judgement) {
+            Course::Plain => self.server.serve(alloc, bytes, src, protocol, now),
+            _ => self.serve_signed(alloc, &judgement, bytes, src, protocol, now),
+        }
+    }
+}
