@@ -1,13 +1,13 @@
 -- Digits that are none, and digits of too great a number; whole groups of digits in base 32.
 use Rattle.std.proofs.Common.{◌≡◌, ◌∙◌, ◌+◌, ◌*◌, ◌^◌, ◌<◌, ◌≤◌, ℕ, zero, suc, List, [], ◌∷◌, ◌++◌, length, take, drop, get_or, sym, ap, subst, refl, inl, inr, arith, length-append}
 use Rattle.std.proofs.lemmas.Bool.{cases_lt}
-use Rattle.std.proofs.lemmas.List.{take_at, drop_at, drop-append-le, take-append-le, length-drop}
+use Rattle.std.proofs.lemmas.List.{drop_at, drop-append-le, take-append-le, length-drop}
 use Rattle.std.proofs.lemmas.Int.Digits.{digits_value-lt, digits_value_more}
 use Rattle.std.proofs.lemmas.Str.Parse.{digits_value-take-le}
 use Rattle.std.specs.Char.{digit_value}
 use Rattle.std.specs.Int.{w64, to_be_bytes}
 use Rattle.std.specs.Str.Parse.{AllDigits, digits_value}
-use Rattle.record_text.specs.Groups.{IsBase32, SpellsGroups}
+use Rattle.record_text.specs.Groups.{IsBase32, IsHex, SpellsGroups}
 use Rattle.record_text.specs.Groups.SpellsGroups.{none, more}
 
 pub digit_in : (radix : ℕ) (ds : List ℕ) (i : ℕ) → AllDigits radix ds → i < length ds → digit_value (get_or ds i 0) < radix
@@ -48,9 +48,9 @@ group_at (more {text = text} {piece = piece} n before eight is) k within = elim 
       (n, subst (λ (t : List ℕ). IsBase32 t n) (sym same) is)
 ]
   where
-  take_whole : (t : List ℕ) → take (length t) t ≡ t
-  take_whole [] = refl
-  take_whole (c ∷ cs) = ap (λ (t : List ℕ). c ∷ t) (take_whole cs)
+    take_whole : (t : List ℕ) → take (length t) t ≡ t
+    take_whole [] = refl
+    take_whole (c ∷ cs) = ap (λ (t : List ℕ). c ∷ t) (take_whole cs)
 
 -- a group's number has forty bits
 pub forty_bits : (piece : List ℕ) (n : ℕ) → length piece ≡ 8 → IsBase32 piece n → n < 2 ^ 64
@@ -62,9 +62,26 @@ forty_bits piece n eight is =
 -- eight digits are five octets
 pub group_octets : {text octets : List ℕ} → SpellsGroups text octets → 5 * length text ≡ 8 * length octets
 group_octets none = refl
-group_octets (more {text = text} {octets = octets} {piece = piece} n before eight is) =
+group_octets (more {text = text} {piece = piece} {octets = octets} n before eight is) =
     let rest : 5 * length text ≡ 8 * length octets = group_octets before in
     omega (arith, length-append text piece, length-append octets (drop 3 (to_be_bytes w64 n)), rest, eight, five n)
   where
-  five : (n : ℕ) → length (drop 3 (to_be_bytes w64 n)) ≡ 5
-  five n = refl
+    five : (n : ℕ) → length (drop 3 (to_be_bytes w64 n)) ≡ 5
+    five n = refl
+
+-- two digits are a number of eight bits, and four at most one of sixteen
+pub eight_bits : (digits : List ℕ) (n : ℕ) → length digits ≡ 2 → IsHex digits n → n < 256
+eight_bits digits n two is =
+    let small : digits_value 16 digits < 16 ^ length digits = digits_value-lt 16 digits is.digits in
+    let less : digits_value 16 digits < 16 ^ 2 = subst (λ (m : ℕ). digits_value 16 digits < 16 ^ m) two small in
+    omega (arith, less, is.value)
+
+pub sixteen_bits : (digits : List ℕ) (n : ℕ) → length digits ≤ 4 → IsHex digits n → n < 2 ^ 16
+sixteen_bits digits n few is = omega (arith, is.value, small digits few (digits_value-lt 16 digits is.digits)) where
+  small : (digits : List ℕ) → length digits ≤ 4 → digits_value 16 digits < 16 ^ length digits → digits_value 16 digits < 65536
+  small [] few less = omega (arith, less)
+  small (a ∷ []) few less = omega (arith, less)
+  small (a ∷ b ∷ []) few less = omega (arith, less)
+  small (a ∷ b ∷ c ∷ []) few less = omega (arith, less)
+  small (a ∷ b ∷ c ∷ d ∷ []) few less = omega (arith, less)
+  small (a ∷ b ∷ c ∷ d ∷ e ∷ digits) few less = absurd (omega arith)

@@ -1,7 +1,11 @@
 pub mod DataLen
 pub mod Digits
+pub mod Formed
+pub mod GenericData
 pub mod HexGroups
+pub mod HexSteps
 pub mod NoField
+pub mod NoMoment
 pub mod NoRow
 pub mod OneLength
 pub mod RowSteps

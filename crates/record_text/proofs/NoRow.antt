@@ -1,6 +1,6 @@
 -- Where a word of a row stands for nothing that the row needs, the words are no data of the row.
-use Rattle.std.proofs.Common.{◌≡◌, ◌∙◌, ◌+◌, ◌<◌, ◌≤◌, ℕ, false, List, [], ◌∷◌, ◌++◌, length, get_or, drop, Option, Some, Result, Ok, sym, ap, subst, refl, inl, inr, arith}
-use Rattle.std.specs.Prelude.{◌≢◌, All}
+use Rattle.std.proofs.Common.{◌≡◌, ◌∙◌, ◌<◌, ℕ, false, List, [], ◌∷◌, ◌++◌, length, get_or, drop, Option, Some, None, Ok, sym, ap, subst, refl, inl, inr, arith}
+use Rattle.std.specs.Prelude.{◌≢◌}
 use Rattle.std.proofs.lemmas.Bool.{cases_lt}
 use Rattle.std.proofs.lemmas.List.{length_push, get_or_push, get_or_append_left, drop_at, length-append}
 use Rattle.base64.specs.Engines.{standard}
@@ -132,3 +132,17 @@ not_generic (strings some are) e = absurd (cc)
 not_generic (hex some plain is) e = absurd (cc)
 not_generic (base64 some plain bytes is) e = absurd (cc)
 not_generic (types is) e = absurd (cc)
+
+-- words of which one stands for nothing of its field
+pub no_field : (origin : Option DomainName) (number : ℕ) (row : TypeRow) (words : List Word) (i : ℕ) (e : Field) (d : Word) → row_of number ≡ Some row → i < length row.fields → HasNone (IsField origin (get_or row.fields i e) (get_or words i d))
+    → HasNone (IsData origin number words)
+no_field origin number row words i e d found below none = none_of_row origin number row words found (none_of_fields origin row words (none_at origin row.fields words i e d below none))
+
+-- words that are nothing that stands behind no fields
+pub no_rest : (origin : Option DomainName) (number : ℕ) (row : TypeRow) (words : List Word) → row_of number ≡ Some row → row.fields ≡ [] → HasNone (IsRest row.rest words) → HasNone (IsData origin number words)
+no_rest origin number row words found no_fields_before none =
+    none_of_row origin number row words found (none_of_rest origin row words words [] ([], refl, subst (λ (fs : List Field). AreFields origin fs [] []) (sym no_fields_before) no_fields) none)
+
+-- a type without a row has no data in a form
+pub no_row : (origin : Option DomainName) (number : ℕ) (words : List Word) → row_of number ≡ None → HasNone (IsData origin number words)
+no_row origin number words missing octets (in_form {row = row} found is) = absurd (cc)

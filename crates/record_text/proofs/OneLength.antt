@@ -1,8 +1,7 @@
 -- Words are data of one length at most, whichever octets they stand for.
-use Rattle.std.proofs.Common.{◌≡◌, ◌∙◌, ◌+◌, ◌*◌, ◌<◌, ◌≤◌, ℕ, Bool, true, false, List, [], ◌∷◌, ◌++◌, length, Option, Some, Ok, Result, sym, ap, subst, refl, arith, length-append}
+use Rattle.std.proofs.Common.{◌≡◌, ◌∙◌, ◌+◌, ◌*◌, ℕ, List, [], ◌∷◌, ◌++◌, length, Option, Ok, Result, sym, ap, subst, refl, arith, length-append}
 use Rattle.std.proofs.NetLemmas.Theorems.{IsIpv4Text_unique, IsIpv6Text_unique}
-use Rattle.std.proofs.lemmas.List.{drop_at, take_at, same_from_push, length_push}
-use Rattle.std.specs.Int.{w16, w32, to_be_bytes}
+use Rattle.std.proofs.lemmas.List.{drop_at, take_at, same_from_push}
 use Rattle.std.specs.Net.Addr.{ipv4_octets, ipv6_octets}
 use Rattle.std.specs.Prelude.{drop, take}
 use Rattle.base64.specs.Engines.{standard}
@@ -16,10 +15,10 @@ use Rattle.record_text.specs.declared.data.field.Field.{Field}
 use Rattle.record_text.specs.declared.data.field.Rest.{Rest}
 use Rattle.record_text.specs.declared.data.hex_groups.Group.{Group}
 use Rattle.record_text.specs.declared.data.hex_groups.Group.TheVariants as group
-use Rattle.record_text.specs.Groups.{IsGroup, SpellsGroups, SpellsHexGroups}
+use Rattle.record_text.specs.Groups.{IsGroup, SpellsHexGroups}
 use Rattle.record_text.specs.Groups.IsGroup.{octet, bits16}
 use Rattle.record_text.specs.Groups.SpellsHexGroups.{first, more as one_group}
-use Rattle.record_text.specs.RecordText.{AreFields, AreStrings, AreTypes, IsData, IsField, IsRest, IsRow, IsTypeSet, SpellsType, bytes_of}
+use Rattle.record_text.specs.RecordText.{AreFields, AreStrings, AreTypes, IsData, IsField, IsRest, IsRow, SpellsType, bytes_of}
 use Rattle.record_text.specs.RecordText.IsField.{number8, number16, number32, time, name, string, text, ipv4, ipv6, type, moment, no_salt, salt, hash, eui48, eui64, locator64}
 use Rattle.record_text.specs.RecordText.AreFields.{none as no_fields, more as one_field}
 use Rattle.record_text.specs.RecordText.AreStrings.{none as no_words, more as one_string}
@@ -27,36 +26,36 @@ use Rattle.record_text.specs.RecordText.AreTypes.{none as no_names, more as one_
 use Rattle.record_text.specs.RecordText.IsData.{in_form}
 use Rattle.record_text.specs.RecordText.IsRest.{nothing, strings, hex, base64, types}
 use Rattle.record_text.specs.TypeBitmaps.{windows}
-use Rattle.record_text.specs.TypeTable.{TypeRow, row_of}
+use Rattle.record_text.specs.TypeTable.{TypeRow}
 use Rattle.record_text.proofs.Digits.{group_octets}
 use Rattle.record_text.proofs.NoRow.{fields_len}
 use Rattle.text_words.specs.declared.words.Word.{Word}
 use Rattle.text_words.specs.Spelling.{BytesSpelledOnce, IsString, NamesSpelledOnce, StringsSpelledOnce}
 
 -- how many octets a group is
-width : Group → ℕ
+abbrev width : Group → ℕ
 width group.Octet = 1
 width group.Bits16 = 2
 
-group_len : (kind : Group) (text octets : List ℕ) → IsGroup kind text octets → length octets ≡ width kind
-group_len kind text octets (octet two is) = refl
-group_len kind text octets (bits16 some few is) = refl
+group_len : (kind : Group) (digits octets : List ℕ) → IsGroup kind digits octets → length octets ≡ width kind
+group_len kind digits octets (octet two is) = refl
+group_len kind digits octets (bits16 some few is) = refl
 
-groups_len : (between : ℕ) (kind : Group) (count : ℕ) (text octets : List ℕ) → SpellsHexGroups between kind count text octets → length octets ≡ count * width kind
-groups_len between kind count text octets (first {text = t} is) = omega (arith, group_len kind t octets is)
-groups_len between kind count text octets (one_group {count = n} {text = t} {octets = front} {piece = piece} {own = own} before is) =
+groups_len : (between : ℕ) (kind : Group) (count : ℕ) (whole octets : List ℕ) → SpellsHexGroups between kind count whole octets → length octets ≡ count * width kind
+groups_len between kind count whole octets (first {text = t} is) = omega (arith, group_len kind t octets is)
+groups_len between kind count whole octets (one_group {count = n} {text = t} {octets = front} {piece = piece} {own = own} before is) =
     let rest : length front ≡ n * width kind = groups_len between kind n t front before in
     omega (arith, length-append front own, rest, group_len kind piece own is, product n)
   where
-  product : (n : ℕ) → (n + 1) * width kind ≡ n * width kind + width kind
-  product n = elim kind as (λ k. (n + 1) * width k ≡ n * width k + width k) [ group.Octet ↦ omega arith | group.Bits16 ↦ omega arith ]
+    product : (n : ℕ) → (n + 1) * width kind ≡ n * width kind + width kind
+    product n = elim kind as (λ k. (n + 1) * width k ≡ n * width k + width k) [ group.Octet ↦ omega arith | group.Bits16 ↦ omega arith ]
 
 decoded_once : (r : Result (List ℕ) FromHexError) (a b : List ℕ) → r ≡ Ok a → r ≡ Ok b → a ≡ b
 decoded_once r a b one two = cc
 
 -- types are spelled once
 abbrev pub TypesOnce : Type 0
-TypesOnce = (text : List ℕ) (n m : ℕ) → SpellsType text n → SpellsType text m → n ≡ m
+TypesOnce = (word : List ℕ) (n m : ℕ) → SpellsType word n → SpellsType word m → n ≡ m
 
 -- octets are encoded in one way
 abbrev pub Base64Once : Type 0

@@ -1,10 +1,8 @@
 -- The same words at the same places are the same data.
-use Rattle.std.proofs.Common.{◌≡◌, ◌∙◌, ◌<◌, ℕ, Bool, false, List, [], ◌∷◌, ◌++◌, length, Option, Ok, sym, ap, subst, refl}
+use Rattle.std.proofs.Common.{◌≡◌, ◌∙◌, ℕ, false, List, [], ◌∷◌, ◌++◌, length, Option, Ok, sym, ap, subst, refl}
 use Rattle.std.proofs.lemmas.List.Elements.{All-cons, All-head, All-nil, All-tail}
 use Rattle.std.specs.Prelude.{◌≢◌}
 use Rattle.std.specs.Net.Grammar.{IsIpv4Text, IsIpv6Text}
-use Rattle.base64.specs.Engines.{standard}
-use Rattle.base64.specs.GeneralPurpose.{encode_of}
 use Rattle.hex.specs.Hex.{decode_of}
 use Rattle.wire_names.specs.rr.domain.DomainName.{DomainName}
 use Rattle.wire_messages.specs.declared.rr.rdata.RData.{RData}
@@ -13,7 +11,7 @@ use Rattle.record_text.specs.declared.data.field.Rest.{Rest}
 use Rattle.record_text.specs.declared.data.hex_groups.Group.TheVariants as group
 use Rattle.record_text.specs.Groups.{SpellsGroups, SpellsHexGroups}
 use Rattle.record_text.specs.Moments.{SpellsMoment}
-use Rattle.record_text.specs.RecordText.{AreFields, ArePlain, AreStrings, AreTypes, BeginGeneric, IsData, IsField, IsGenericData, IsRest, IsRow, IsTypeSet, SpellsData, SpellsType, bytes_of}
+use Rattle.record_text.specs.RecordText.{AreFields, ArePlain, AreStrings, AreTypes, BeginGeneric, IsData, IsField, IsGenericData, IsRest, IsRow, SpellsData, SpellsType, bytes_of}
 use Rattle.record_text.specs.RecordText.IsField.{number8, number16, number32, time, name, string, text, ipv4, ipv6, type, moment, no_salt, salt, hash, eui48, eui64, locator64}
 use Rattle.record_text.specs.RecordText.AreFields.{none as no_fields, more as one_field}
 use Rattle.record_text.specs.RecordText.AreStrings.{none as no_words, more as one_string}

@@ -1,17 +1,17 @@
 -- A text is the mnemonic of one type at most, or TYPE and one number.
-use Rattle.std.proofs.Common.{◌≡◌, ◌≢◌, ◌∙◌, ◌+◌, ◌<◌, ℕ, zero, suc, Bool, true, false, List, [], ◌∷◌, ◌++◌, length, take, drop, get_or, sym, ap, subst, refl, arith}
+use Rattle.std.proofs.Common.{◌≡◌, ◌∙◌, ◌<◌, ℕ, zero, suc, Bool, true, false, List, [], ◌∷◌, length, take, drop, get_or, sym, ap, subst, refl, arith}
 use Rattle.std.proofs.lemmas.Bool.{and_parts, eqb-true}
 use Rattle.std.proofs.lemmas.List.{drop_at, length-map, map-append, take_at}
 use Rattle.std.proofs.lemmas.Slice.Eq.{bytes_eq-Decides}
 use Rattle.std.specs.Char.{to_ascii_lowercase}
 use Rattle.std.specs.Prelude.{◌==◌, ◌&&◌, if◌then◌else◌, bytes_eq, codes, map, not}
-use Rattle.record_text.specs.RecordText.{IsTypeNumber, SpellsMnemonic, SpellsType}
+use Rattle.record_text.specs.RecordText.{IsTypeNumber, SameLetters, SpellsMnemonic}
 use Rattle.record_text.specs.RecordText.SpellsType.{mnemonic, numbered}
 use Rattle.record_text.specs.TypeTable.{TypeRow, rows}
 use Rattle.record_text.proofs.OneLength.{TypesOnce}
 use Rattle.text_words.specs.Spelling.{IsNumber}
 
-abbrev low : List ℕ → List ℕ
+abbrev pub low : List ℕ → List ℕ
 low text = map to_ascii_lowercase text
 
 -- the number of the first row with these letters, or one that no type has
@@ -45,7 +45,7 @@ not_true : (b : Bool) → not b ≡ true → b ≡ true → ⊥
 not_true true e f = cc
 not_true false e f = cc
 
-four : (front : List ℕ) → low (codes "TYPE") ≡ low front → length front ≡ 4
+pub four : (front : List ℕ) → SameLetters (codes "TYPE") front → length front ≡ 4
 four front e = sym (length-map front to_ascii_lowercase) ∙ sym (ap length e)
 
 -- no mnemonic begins so

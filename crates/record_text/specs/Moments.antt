@@ -52,7 +52,7 @@ pub record SpellsDate (text : List ℕ) (date : Date) : Type 0 where
   pub minutes : IsNumber minute date.minute
   pub seconds : IsNumber second date.second
 
--- A moment: fourteen digits are a date, and otherwise they are seconds since 1970. What goes beyond 32 bits is left out.
+-- A moment: fourteen digits are a date, of whose seconds since 1970 is left out what goes beyond 32 bits, and otherwise digits are the seconds, of 32 bits.
 pub data SpellsMoment : List ℕ → ℕ → Type 0 where
   date : {text : List ℕ} {date : Date} → IsDate date → SpellsDate text date → SpellsMoment text (date_seconds date % 2 ^ 32)
-  seconds : {text : List ℕ} {n : ℕ} → length text ≢ 14 → IsNumber text n → SpellsMoment text n
+  seconds : {text : List ℕ} {n : ℕ} → length text ≢ 14 → IsNumber text n → n < 2 ^ 32 → SpellsMoment text n

@@ -140,6 +140,8 @@ pub(crate) fn data_of(
 /// `1h30m`, bytes as hexadecimal digits or in base 64. Names are fully qualified. Data of any type may be `\#`, their length, and two
 /// hexadecimal digits for each byte, which blanks may stand between; of a type that has no form in the table they have to be (RFC 3597
 /// section 5). Then no bytes are `RData::Update0`, but for an OPT record, and names may not be compressed. Data have at most 65,535 bytes.
+///
+/// What is refused, but for want of memory, is no data of the type.
 pub fn read_data(alloc: Global, record_type: RecordType, text: &str) -> Result<RData, TextError>
     ensures form { IfOk result (λ rdata. type_of rdata ≡ record_type) }
     ensures fits { IfOk result (λ rdata. data_len rdata ≤ 65535) }

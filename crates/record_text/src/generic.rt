@@ -3,10 +3,11 @@
 ghost use Rattle.std.specs.Prelude.{◌≡◌, ◌≢◌, ◌↔◌, ◌<◌, ◌≤◌, ◌^◌, ◌++◌, length, IsTrue, IfErr, IfOk, OnOk};
 ghost use Rattle.std.specs.Int.{w16, w32, to_be_bytes};
 ghost use Rattle.std.specs.List.{AllByRecursion, flat_map};
-ghost use Rattle.wire_messages.specs.rr.RecordData.{IsOption, character_string, option_octets, type_of};
+ghost use Rattle.wire_messages.specs.rr.RecordData.{IsOption, character_string, option_octets, soa_numbers, type_of};
 ghost use Rattle.wire_messages.specs.serialize.layout.RecordLayout.{IsFormed};
 ghost use Rattle.wire_messages.specs.serialize.writing.FullForm.{data_octets, name_octets, soa_octets, tsig_octets};
 ghost use Rattle.wire_messages.specs.serialize.writing.RecordSize.{data_len};
+ghost use Rattle.wire_messages.specs.declared.rr.rdata.RData.{RData};
 ghost use Rattle.text_words.specs.declared.error.TextError.TheVariants.{Memory};
 ghost use Rattle.record_text.specs.RecordText.{AreReadOf, HasNone, IsGenericData, root_record};
 
@@ -65,17 +66,25 @@ fn put_mx(mx: &MX, bytes: &mut Vec<u8>) -> Result<(), AllocError>
     write_name(bytes, &mx.exchange)
 }
 
+/// Puts the numbers of the start of a zone behind bytes.
+fn put_soa_numbers(soa: &SOA, bytes: &mut Vec<u8>) -> Result<(), AllocError>
+    ensures { OnOk result (bytes.new.items ≡ bytes.old.items ++ soa_numbers soa.now) }
+{
+    put_u32(soa.serial, bytes)?;
+    put_u32(soa.refresh, bytes)?;
+    put_u32(soa.retry, bytes)?;
+    put_u32(soa.expire, bytes)?;
+    put_u32(soa.minimum, bytes)?;
+    Ok(())
+}
+
 /// Puts the start of a zone behind bytes (RFC 1035 section 3.3.13).
 fn put_soa(soa: &SOA, bytes: &mut Vec<u8>) -> Result<(), AllocError>
     ensures { OnOk result (bytes.new.items ≡ bytes.old.items ++ soa_octets soa.now) }
 {
     write_name(bytes, &soa.mname)?;
     write_name(bytes, &soa.rname)?;
-    put_u32(soa.serial, bytes)?;
-    put_u32(soa.refresh, bytes)?;
-    put_u32(soa.retry, bytes)?;
-    put_u32(soa.expire, bytes)?;
-    put_u32(soa.minimum, bytes)
+    put_soa_numbers(soa, bytes)
 }
 
 /// Puts a transaction signature behind bytes (RFC 8945 section 4.2).
@@ -154,6 +163,28 @@ fn is_form(
     Ok(full.as_slice() == data)
 }
 
+/// The data that are read of these bytes as a record has them.
+fn data_read(
+    alloc: Global,
+    record_type: RecordType,
+    len: u16,
+    data: &[u8],
+    place: &Word<'_>,
+) -> Result<RData, TextError>
+    requires { len ≡ length «data».now }
+    ensures read { IfOk result (AreReadOf record_type «data».now) }
+    ensures formed { IfOk result IsFormed }
+    ensures only { IfOk result (λ rdata. (other : RData) → AreReadOf record_type «data».now other → other ≡ rdata) }
+    ensures refused { IfErr result (λ e. e ≢ Memory → HasNone (AreReadOf record_type «data».now)) }
+{
+    let bytes = record_bytes(alloc, record_type, len, data)?;
+    match BinDecoder::new(bytes.as_slice()).read_record(alloc) {
+        Ok(record) => Ok(record.rdata),
+        Err(DecodeError::Memory) => Err(TextError::Memory),
+        Err(_) => Err(place.fault(TextFault::WrongData)),
+    }
+}
+
 /// The data of a type that these bytes are, without compression.
 fn data_of_bytes(
     alloc: Global,
@@ -168,18 +199,11 @@ fn data_of_bytes(
     ensures in_full { IfOk result (λ rdata. data_octets rdata ≡ «data».now) }
     ensures refused { IfErr result (λ e. e ≢ Memory → HasNone (λ rdata. AreReadOf record_type «data».now rdata × (type_of rdata ≡ record_type) × (data_octets rdata ≡ «data».now))) }
 {
-    let bytes = record_bytes(alloc, record_type, len, data)?;
-    match BinDecoder::new(bytes.as_slice()).read_record(alloc) {
-        Ok(record) => {
-            if is_form(alloc, &record.rdata, record_type, data)? {
-                Ok(record.rdata)
-            } else {
-                Err(place.fault(TextFault::WrongData))
-            }
-        }
-        Err(DecodeError::Memory) => Err(TextError::Memory),
-        Err(_) => Err(place.fault(TextFault::WrongData)),
+    let rdata = data_read(alloc, record_type, len, data, place)?;
+    if is_form(alloc, &rdata, record_type, data)? {
+        return Ok(rdata);
     }
+    Err(place.fault(TextFault::WrongData))
 }
 
 /// Reads what stands behind `\#`: a length, and hexadecimal digits.

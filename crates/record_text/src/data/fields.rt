@@ -29,8 +29,13 @@ pub(crate) fn ipv4(word: &Word<'_>) -> Result<Ipv4Addr, TextError>
     ensures refused { OnErr result (HasNone (λ address. (word.now.quoted ≡ false) × IsIpv4Text word.now.bytes.now address)) }
 {
     let bad = word.fault(TextFault::BadAddress);
-    let text = word.plain_text().ok_or(bad)?;
-    text.parse::<Ipv4Addr>().map_err(|_| bad)
+    if word.quoted {
+        return Err(bad);
+    }
+    match Ipv4Addr::parse_ascii(word.bytes) {
+        Ok(address) => Ok(address),
+        Err(_) => Err(bad),
+    }
 }
 
 /// The IPv6 address that a word is.
@@ -39,8 +44,13 @@ pub(crate) fn ipv6(word: &Word<'_>) -> Result<Ipv6Addr, TextError>
     ensures refused { OnErr result (HasNone (λ address. (word.now.quoted ≡ false) × IsIpv6Text word.now.bytes.now address)) }
 {
     let bad = word.fault(TextFault::BadAddress);
-    let text = word.plain_text().ok_or(bad)?;
-    text.parse::<Ipv6Addr>().map_err(|_| bad)
+    if word.quoted {
+        return Err(bad);
+    }
+    match Ipv6Addr::parse_ascii(word.bytes) {
+        Ok(address) => Ok(address),
+        Err(_) => Err(bad),
+    }
 }
 
 /// The number of 8 bits that a word is.
@@ -49,7 +59,10 @@ fn number8(word: &Word<'_>) -> Result<u8, TextError>
     ensures refused { OnErr result (HasNone (λ n. (word.now.quoted ≡ false) × IsNumber word.now.bytes.now n × (n < 2 ^ 8))) }
 {
     let number = word.number()?;
-    u8::try_from(number).map_err(|_| word.fault(TextFault::NumberOutOfRange))
+    match u8::try_from(number) {
+        Ok(number) => Ok(number),
+        Err(_) => Err(word.fault(TextFault::NumberOutOfRange)),
+    }
 }
 
 /// The number of 16 bits that a word is.
@@ -58,7 +71,10 @@ pub(crate) fn number16(word: &Word<'_>) -> Result<u16, TextError>
     ensures refused { OnErr result (HasNone (λ n. (word.now.quoted ≡ false) × IsNumber word.now.bytes.now n × (n < 2 ^ 16))) }
 {
     let number = word.number()?;
-    u16::try_from(number).map_err(|_| word.fault(TextFault::NumberOutOfRange))
+    match u16::try_from(number) {
+        Ok(number) => Ok(number),
+        Err(_) => Err(word.fault(TextFault::NumberOutOfRange)),
+    }
 }
 
 fn put_number8(word: &Word<'_>, data: &mut Vec<u8>) -> Result<(), TextError>

@@ -1,11 +1,12 @@
 //! Salts and hashes of names (RFC 5155 section 3.3).
 
-ghost use Rattle.std.specs.Prelude.{◌≡◌, ◌<◌, Option, IfOk, IfSome, OnOk};
+ghost use Rattle.std.specs.Prelude.{◌≡◌, ◌≢◌, ◌<◌, ◌≤◌, ◌^◌, Option, IfErr, IfNone, IfOk, IfSome, OnOk};
 ghost use Rattle.std.specs.Char.{digit_value};
 ghost use Rattle.wire_names.specs.rr.domain.DomainName.{DomainName};
 ghost use Rattle.record_text.specs.declared.data.field.Field.TheVariants as field;
+ghost use Rattle.text_words.specs.declared.error.TextError.TheVariants.{Memory};
 ghost use Rattle.text_words.specs.Spelling.{Puts};
-ghost use Rattle.record_text.specs.RecordText.{IsField};
+ghost use Rattle.record_text.specs.RecordText.{HasNone, IsField};
 ghost use Rattle.record_text.specs.Groups.{IsBase32, SpellsGroups};
 
 use hex::FromHexError;
@@ -40,7 +41,7 @@ pub(crate) fn put_salt(alloc: Global, word: &Word<'_>, data: &mut Vec<u8>) -> Re
 /// The value of a digit in base 32.
 fn digit_of(digit: u8) -> Option<u8>
     ensures value { IfSome result (λ value. (digit_value digit ≡ value) × (value < 32)) }
-    ensures none { IfNone result ((value : ℕ) → digit_value digit ≡ value → value < 32 → ⊥) }
+    ensures none { IfNone result (32 ≤ digit_value digit) }
 {
     match digit {
         b'0'..=b'9' => Some(digit - b'0'),

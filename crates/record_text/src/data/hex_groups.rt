@@ -1,12 +1,13 @@
 //! Groups of hexadecimal digits with a byte between them: addresses of 48 and 64 bits (RFC 7043), and identifiers of nodes (RFC 6742).
 
-ghost use Rattle.std.specs.Prelude.{◌≡◌, ◌≤◌, ◌<◌, ◌^◌, ◌-◌, Option, length, take, drop, IfOk, IfSome, OnOk};
+ghost use Rattle.std.specs.Prelude.{◌≡◌, ◌≢◌, ◌≤◌, ◌<◌, ◌^◌, ℕ, Option, get_or, length, IfErr, IfNone, IfSome, OnOk};
 ghost use Rattle.std.specs.Char.{digit_value};
 ghost use Rattle.wire_names.specs.rr.domain.DomainName.{DomainName};
 ghost use Rattle.record_text.specs.declared.data.field.Field.TheVariants as field;
 ghost use Rattle.record_text.specs.declared.data.hex_groups.Group.TheVariants as group;
+ghost use Rattle.text_words.specs.declared.error.TextError.TheVariants.{Memory};
 ghost use Rattle.text_words.specs.Spelling.{Puts};
-ghost use Rattle.record_text.specs.RecordText.{IsField};
+ghost use Rattle.record_text.specs.RecordText.{HasNone, IsField};
 ghost use Rattle.record_text.specs.Groups.{IsGroup, IsHex, SpellsHexGroups};
 
 use text_words::{TextError, TextFault, Word};
@@ -22,7 +23,8 @@ pub(crate) enum Group {
 
 /// The value of a hexadecimal digit.
 fn digit_of(digit: u8) -> Option<u8>
-    ensures { IfSome result (λ value. (digit_value digit ≡ value) × (value < 16)) }
+    ensures value { IfSome result (λ value. (digit_value digit ≡ value) × (value < 16)) }
+    ensures none { IfNone result (16 ≤ digit_value digit) }
 {
     match digit {
         b'0'..=b'9' => Some(digit - b'0'),
@@ -34,7 +36,8 @@ fn digit_of(digit: u8) -> Option<u8>
 
 /// The number of 16 bits that hexadecimal digits are.
 fn number_of_hex(digits: &[u8]) -> Option<u16>
-    ensures { IfSome result (IsHex digits.now) }
+    ensures value { IfSome result (IsHex digits.now) }
+    ensures none { IfNone result (HasNone (λ n. IsHex digits.now n × (n < 2 ^ 16))) }
 {
     let mut number = 0u16;
     for digit in digits {
@@ -44,73 +47,71 @@ fn number_of_hex(digits: &[u8]) -> Option<u16>
     Some(number)
 }
 
-/// The hexadecimal digits from a place on, as many as stand there: their number, and where they end.
-fn group_at(text: &[u8], place: usize) -> Option<(u16, usize)>
-    ensures on { IfSome result (λ found. place ≤ found.1) }
-    ensures within { IfSome result (λ found. found.1 ≤ length text.now) }
-    ensures spelled { IfSome result (λ found. IsHex (take (found.1 - place) (drop place text.now)) found.0) }
+/// Where the part of a text ends that begins at a place: before the next byte between parts, or with the text.
+fn part_end(text: &[u8], place: usize, between: u8) -> usize
+    requires { place ≤ length text.now }
+    ensures on { place ≤ result }
+    ensures within { result ≤ length text.now }
+    ensures apart { (i : ℕ) → place ≤ i → i < result → get_or text.now i 0 ≢ between }
+    ensures last { result < length text.now → get_or text.now result 0 ≡ between }
 {
-    if place > text.len() {
-        return None;
+    for end in place..text.len() {
+        if text[end] == between {
+            return end;
+        }
     }
-    let rest = &text[place..];
-    let digits = rest.iter().position(|byte| !byte.is_ascii_hexdigit());
-    let len = digits.unwrap_or(rest.len());
-    let number = number_of_hex(&rest[..len])?;
-    Some((number, place + len))
+    text.len()
 }
 
-/// Puts the octet of a group of two digits behind others, and tells where the group ends.
-fn put_octet(word: &Word<'_>, place: usize, data: &mut Vec<u8>) -> Result<usize, TextError>
-    ensures on { IfOk result (λ end. place ≤ end) }
-    ensures within { IfOk result (λ end. end ≤ length word.now.bytes.now) }
-    ensures spelled { IfOk result (λ end. Puts (IsGroup group.Octet (take (end - place) (drop place word.now.bytes.now))) «data».old.items «data».new.items) }
+/// Puts the octet behind others that two digits are.
+fn put_octet(word: &Word<'_>, digits: &[u8], data: &mut Vec<u8>) -> Result<(), TextError>
+    ensures put { OnOk result (Puts (IsGroup group.Octet digits.now) «data».old.items «data».new.items) }
+    ensures refused { IfErr result (λ e. e ≢ Memory → HasNone (IsGroup group.Octet digits.now)) }
 {
     let bad = word.fault(TextFault::BadAddress);
-    let Some((number, end)) = group_at(word.bytes, place) else {
-        return Err(bad);
-    };
-    if end - place != 2 {
+    if digits.len() != 2 {
         return Err(bad);
     }
+    let Some(number) = number_of_hex(digits) else {
+        return Err(bad);
+    };
     let Ok(octet) = u8::try_from(number) else {
         return Err(bad);
     };
     data.push(octet)?;
-    Ok(end)
+    Ok(())
 }
 
-/// Puts the two octets of a group of one to four digits behind others, and tells where the group ends.
-fn put_bits16(word: &Word<'_>, place: usize, data: &mut Vec<u8>) -> Result<usize, TextError>
-    ensures on { IfOk result (λ end. place ≤ end) }
-    ensures within { IfOk result (λ end. end ≤ length word.now.bytes.now) }
-    ensures spelled { IfOk result (λ end. Puts (IsGroup group.Bits16 (take (end - place) (drop place word.now.bytes.now))) «data».old.items «data».new.items) }
+/// Puts the two octets behind others that one to four digits are.
+fn put_bits16(word: &Word<'_>, digits: &[u8], data: &mut Vec<u8>) -> Result<(), TextError>
+    ensures put { OnOk result (Puts (IsGroup group.Bits16 digits.now) «data».old.items «data».new.items) }
+    ensures refused { IfErr result (λ e. e ≢ Memory → HasNone (IsGroup group.Bits16 digits.now)) }
 {
     let bad = word.fault(TextFault::BadAddress);
-    let Some((number, end)) = group_at(word.bytes, place) else {
-        return Err(bad);
-    };
-    if end == place || end - place > 4 {
+    let len = digits.len();
+    if len == 0 || len > 4 {
         return Err(bad);
     }
+    let Some(number) = number_of_hex(digits) else {
+        return Err(bad);
+    };
     data.extend_from_slice(&number.to_be_bytes())?;
-    Ok(end)
+    Ok(())
 }
 
-/// Puts the octets of a group behind others, and tells where the group ends.
+/// Puts the octets of a group of digits behind others.
 fn put_group(
     kind: Group,
     word: &Word<'_>,
-    place: usize,
+    digits: &[u8],
     data: &mut Vec<u8>,
-) -> Result<usize, TextError>
-    ensures on { IfOk result (λ end. place ≤ end) }
-    ensures within { IfOk result (λ end. end ≤ length word.now.bytes.now) }
-    ensures spelled { IfOk result (λ end. Puts (IsGroup kind (take (end - place) (drop place word.now.bytes.now))) «data».old.items «data».new.items) }
+) -> Result<(), TextError>
+    ensures put { OnOk result (Puts (IsGroup kind digits.now) «data».old.items «data».new.items) }
+    ensures refused { IfErr result (λ e. e ≢ Memory → HasNone (IsGroup kind digits.now)) }
 {
     match kind {
-        Group::Octet => put_octet(word, place, data),
-        Group::Bits16 => put_bits16(word, place, data),
+        Group::Octet => put_octet(word, digits, data),
+        Group::Bits16 => put_bits16(word, digits, data),
     }
 }
 
@@ -122,24 +123,33 @@ fn put_groups(
     word: &Word<'_>,
     data: &mut Vec<u8>,
 ) -> Result<(), TextError>
-    ensures { OnOk result (Puts (SpellsHexGroups between kind count word.now.bytes.now) «data».old.items «data».new.items) }
+    requires no_digit { 16 ≤ digit_value between }
+    requires some { 0 < count }
+    ensures put { OnOk result (Puts (SpellsHexGroups between kind count word.now.bytes.now) «data».old.items «data».new.items) }
+    ensures refused { IfErr result (λ e. e ≢ Memory → HasNone (SpellsHexGroups between kind count word.now.bytes.now)) }
 {
     let bad = word.fault(TextFault::BadAddress);
-    let mut place = put_group(kind, word, 0, data)?;
-    let mut groups = 1;
-    'groups: while place < word.bytes.len() {
-        if word.bytes[place] != between || groups >= count {
+    let text = word.bytes;
+    let mut place = 0;
+    let mut groups = 0;
+    'groups: loop {
+        let end = part_end(text, place, between);
+        put_group(kind, word, &text[place..end], data)?;
+        groups += 1;
+        if end == text.len() {
+            return if groups == count { Ok(()) } else { Err(bad) };
+        }
+        if groups == count {
             return Err(bad);
         }
-        place = put_group(kind, word, place + 1, data)?;
-        groups += 1;
+        place = end + 1;
     }
-    if groups == count { Ok(()) } else { Err(bad) }
 }
 
 /// Puts an address of 48 bits behind other bytes: six octets with hyphens between them (RFC 7043 section 3.2).
 pub(crate) fn put_eui48(word: &Word<'_>, data: &mut Vec<u8>) -> Result<(), TextError>
-    ensures { OnOk result ((origin : Option DomainName) → Puts (IsField origin field.Eui48 word.now) «data».old.items «data».new.items) }
+    ensures put { OnOk result ((origin : Option DomainName) → Puts (IsField origin field.Eui48 word.now) «data».old.items «data».new.items) }
+    ensures refused { IfErr result (λ e. e ≢ Memory → (origin : Option DomainName) → HasNone (IsField origin field.Eui48 word.now)) }
 {
     if word.quoted {
         return Err(word.fault(TextFault::BadAddress));
@@ -149,7 +159,8 @@ pub(crate) fn put_eui48(word: &Word<'_>, data: &mut Vec<u8>) -> Result<(), TextE
 
 /// Puts an address of 64 bits behind other bytes: eight octets with hyphens between them (RFC 7043 section 4.2).
 pub(crate) fn put_eui64(word: &Word<'_>, data: &mut Vec<u8>) -> Result<(), TextError>
-    ensures { OnOk result ((origin : Option DomainName) → Puts (IsField origin field.Eui64 word.now) «data».old.items «data».new.items) }
+    ensures put { OnOk result ((origin : Option DomainName) → Puts (IsField origin field.Eui64 word.now) «data».old.items «data».new.items) }
+    ensures refused { IfErr result (λ e. e ≢ Memory → (origin : Option DomainName) → HasNone (IsField origin field.Eui64 word.now)) }
 {
     if word.quoted {
         return Err(word.fault(TextFault::BadAddress));
@@ -159,7 +170,8 @@ pub(crate) fn put_eui64(word: &Word<'_>, data: &mut Vec<u8>) -> Result<(), TextE
 
 /// Puts the identifier of a node, or a locator, of 64 bits behind other bytes: four groups with colons between them (RFC 6742 section 2.1.2).
 pub(crate) fn put_locator64(word: &Word<'_>, data: &mut Vec<u8>) -> Result<(), TextError>
-    ensures { OnOk result ((origin : Option DomainName) → Puts (IsField origin field.Locator64 word.now) «data».old.items «data».new.items) }
+    ensures put { OnOk result ((origin : Option DomainName) → Puts (IsField origin field.Locator64 word.now) «data».old.items «data».new.items) }
+    ensures refused { IfErr result (λ e. e ≢ Memory → (origin : Option DomainName) → HasNone (IsField origin field.Locator64 word.now)) }
 {
     if word.quoted {
         return Err(word.fault(TextFault::BadAddress));

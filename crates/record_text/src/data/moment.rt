@@ -1,6 +1,7 @@
 //! Moments in text (RFC 4034 section 3.2).
 
-ghost use Rattle.std.specs.Prelude.{◌≡◌, ◌<◌, false, length, IfOk, IfSome, IsTrue};
+ghost use Rattle.std.specs.Prelude.{◌≡◌, ◌↔◌, ◌<◌, false, length, IfNone, IfOk, IfSome, IsTrue, OnErr};
+ghost use Rattle.record_text.specs.RecordText.{HasNone};
 ghost use Rattle.record_text.specs.Moments.{IsDate, SpellsDate, SpellsMoment, date_seconds, days_before_month, days_before_year, is_leap};
 
 use text_words::{TextError, TextFault, Word, number_of_digits};
@@ -105,11 +106,16 @@ pub(crate) fn moment(word: &Word<'_>) -> Result<u32, TextError>
         return Err(bad);
     }
     if word.bytes.len() != 14 {
-        let number = number_of_digits(word.bytes).ok_or(bad)?;
+        let Some(number) = number_of_digits(word.bytes) else {
+            return Err(bad);
+        };
         return Ok(number);
     }
-    match date_of_digits(word.bytes) {
-        Some(date) if is_date(date) => Ok((date_seconds(date) % 0x1_0000_0000) as u32),
-        _ => Err(bad),
+    let Some(date) = date_of_digits(word.bytes) else {
+        return Err(bad);
+    };
+    if is_date(date) {
+        return Ok((date_seconds(date) % 0x1_0000_0000) as u32);
     }
+    Err(bad)
 }

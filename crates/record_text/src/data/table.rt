@@ -1,8 +1,8 @@
 //! The types that have a mnemonic.
 
-ghost use Rattle.std.specs.Prelude.{◌≡◌, ◌==◌, false, find, map, Any, IfOk, IfSome};
+ghost use Rattle.std.specs.Prelude.{◌≡◌, ◌==◌, ℕ, false, find, map, Any, IfNone, IfOk, IfSome, OnErr};
 ghost use Rattle.std.specs.Option.{option_copied, option_map};
-ghost use Rattle.record_text.specs.RecordText.{SameLetters, SpellsMnemonic, SpellsType, row_view};
+ghost use Rattle.record_text.specs.RecordText.{HasNone, IsTypeNumber, SameLetters, SpellsMnemonic, SpellsType, row_view};
 ghost use Rattle.record_text.specs.TypeTable.{row_of, rows};
 
 use crate::data::field::{Field, Rest, Row};

@@ -1,10 +1,14 @@
-use Rattle.std.proofs.Common.{◌≡◌, ◌∙◌, ◌+◌, ◌-◌, ◌≤◌, ℕ, List, ◌++◌, Option, length, take, drop, ap, sym, subst, arith, length-drop}
+use Rattle.std.proofs.Common.{◌≡◌, ◌∙◌, ◌+◌, ◌*◌, ◌^◌, ◌<◌, ◌-◌, ◌≤◌, ℕ, List, ◌++◌, Option, None, Some, Err, refl, length, take, drop, ap, sym, subst, arith, length-drop}
 use Rattle.std.proofs.Math.Seq.{take-add}
 use Rattle.std.proofs.lemmas.List.{length-take-le}
 use Rattle.std.specs.Int.{w64, to_be_bytes}
-use Rattle.std.specs.Option.{IfSome}
+use Rattle.std.specs.Option.{IfNone, IfSome, ok_or}
 use Rattle.record_text.specs.Groups.{IsBase32, SpellsGroups}
 use Rattle.record_text.specs.Groups.SpellsGroups.{none, more}
+use Rattle.std.proofs.lemmas.Result.{err_from_is_err_and}
+use Rattle.text_words.specs.declared.error.TextError.{TextError}
+use Rattle.record_text.specs.RecordText.{HasNone}
+use Rattle.record_text.proofs.Digits.{eights, forty_bits, group_at}
 use Rattle.record_text.proofs.data.hashes.groups.Goals as goal
 
 more_groups : (text : List ℕ) (place k n : ℕ) (octets after bytes : List ℕ) → k ≡ 8 → place + 8 ≤ length text → after ≡ octets ++ take 5 (drop 3 bytes) → bytes ≡ to_be_bytes w64 n → SpellsGroups (take place text) octets
@@ -29,5 +33,38 @@ groups-preserved c =
     record {
       within = inside;
       spelled = more_groups text place (place + 8 - place) c.in_ok-number.number c.groups.bytes.items c.extend_from_slice.new.self.items c.to_be_bytes.result (omega arith) inside c.in_ok-extend_from_slice.ensures.items c.to_be_bytes.ensures
-          c.groups.invariant.spelled (subst (λ (o : Option ℕ). IfSome o (IsBase32 (take (place + 8 - place) (drop place text)))) c.in_ok-number.ensures.ok_part c.number_of_group.ensures);
+          c.groups.invariant.spelled (subst (λ (o : Option ℕ). IfSome o (IsBase32 (take (place + 8 - place) (drop place text)))) c.in_ok-number.ensures.ok_part c.number_of_group.ensures.value);
     }
+
+-- less than a whole group is left
+part_left : (text octets : List ℕ) (place : ℕ) → place < length text → length text - place < 8 → SpellsGroups (take place text) octets → HasNone (SpellsGroups text)
+part_left text octets place below few before all is =
+    let front : (k : ℕ) × (length (take place text) ≡ 8 * k) = eights before in
+    let whole : (k : ℕ) × (length text ≡ 8 * k) = eights is in
+    absurd (omega (arith, length-take-le place text (omega (arith, below)), front.1, whole.1, below, few))
+
+-- a group is no number
+no_group : (text octets : List ℕ) (place k : ℕ) → k ≡ 8 → place + 8 ≤ length text → SpellsGroups (take place text) octets → HasNone (λ n. IsBase32 (take k (drop place text)) n × (n < 2 ^ 64)) → HasNone (SpellsGroups text)
+no_group text octets place k e within before refused all is =
+    let front : (j : ℕ) × (length (take place text) ≡ 8 * j) = eights before in
+    let here : 8 * front.0 ≡ place = omega (arith, length-take-le place text (omega (arith, within)), front.1) in
+    let at : (n : ℕ) × IsBase32 (take 8 (drop (8 * front.0) text)) n = group_at is front.0 (omega (arith, here, within)) in
+    let own : IsBase32 (take 8 (drop place text)) at.0 = subst (λ (p : ℕ). IsBase32 (take 8 (drop p text)) at.0) here at.1 in
+    let small : at.0 < 2 ^ 64 = forty_bits (take 8 (drop place text)) at.0 (length-take-le 8 (drop place text) (omega (arith, length-drop place text, within))) own in
+    refused at.0 (subst (λ (m : ℕ). IsBase32 (take m (drop place text)) at.0) (sym e) own, small)
+
+from_err : (o : Option ℕ) (e f : TextError) → Err f ≡ ok_or o e → o ≡ None
+from_err None e f same = refl
+from_err (Some m) e f same = absurd (cc)
+
+pub returns-then-text-place-lt8-clause-refused : goal.returns-then-text-place-lt8-clause-refused
+returns-then-text-place-lt8-clause-refused c = λ other. part_left c.args.word.now.bytes.now c.groups.bytes.items c.groups.place c.groups-test.true c.if-text-place-lt8.true c.groups.invariant.spelled
+
+pub returns-in_err-number-clause-refused : goal.returns-in_err-number-clause-refused
+returns-in_err-number-clause-refused c =
+    let text : List ℕ = c.args.word.now.bytes.now in
+    let place : ℕ = c.groups.place in
+    let p = err_from_is_err_and c.from_residual.result c.from_residual.ensures.1 in
+    let missing : c.number_of_group.result ≡ None = from_err c.number_of_group.result c.fault-bad.result c.in_err-number.field-0.0 c.in_err-number.ensures.value in
+    let refused : HasNone (λ n. IsBase32 (take (place + 8 - place) (drop place text)) n × (n < 2 ^ 64)) = subst (λ (o : Option ℕ). IfNone o (HasNone (λ n. IsBase32 (take (place + 8 - place) (drop place text)) n × (n < 2 ^ 64)))) missing c.number_of_group.ensures.none in
+    rw p.1 (λ other. no_group text c.groups.bytes.items place (place + 8 - place) (omega arith) (omega (arith, c.if-text-place-lt8.false, c.groups-test.true)) c.groups.invariant.spelled refused)

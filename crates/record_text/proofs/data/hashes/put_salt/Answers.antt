@@ -7,11 +7,11 @@ use Rattle.record_text.proofs.data.hashes.put_salt.Goals as goal
 joined : (old bytes after all : List ℕ) (len : ℕ) → all ≡ after ++ bytes → after ≡ old ++ len ∷ [] → len ≡ length bytes → all ≡ old ++ (length bytes ∷ bytes)
 joined old bytes after all len e f g = rw (e, f, g, append_assoc old (length bytes ∷ []) bytes)
 
-pub returns-then-eq : goal.returns-then-eq
-returns-then-eq c = λ origin. (0 ∷ [], c.in_ok-push.ensures.items, no_salt c.if-word.false (same c.args.word.now.bytes.now c.as_slice.result.now c.if-eq.ensures ∙ c.as_slice.ensures))
+pub returns-then-eq-clause-put : goal.returns-then-eq-clause-put
+returns-then-eq-clause-put c = λ origin. (0 ∷ [], c.in_ok-push.ensures.items, no_salt c.if-word.false (same c.args.word.now.bytes.now c.as_slice.result.now c.if-eq.ensures ∙ c.as_slice.ensures))
 
-pub returns : goal.returns
-returns c = λ origin. (
+pub returns-clause-put : goal.returns-clause-put
+returns-clause-put c = λ origin. (
   character_string c.in-Ok.salt.items,
   joined c.args.data.now.items c.in-Ok.salt.items c.push-2.new.self.items c.extend_from_slice.new.self.items c.len-2.result (rw c.as_slice-2.ensures.value at c.in_ok-extend_from_slice.ensures.items) c.in_ok-push-2.ensures.items
       (omega (arith, c.len-2.ensures, c.in-Ok.salt.ok.0)),

@@ -1,18 +1,22 @@
-use Rattle.std.proofs.Common.{◌≡◌, ◌<◌, ◌^◌, ℕ, Option, Some, None, Ok, refl, subst}
-use Rattle.std.specs.Option.{IfSome, ok_or}
-use Rattle.text_words.specs.declared.error.TextError.{TextError}
+use Rattle.std.proofs.Common.{◌≡◌, ℕ, List, true, false, length, refl}
+use Rattle.record_text.specs.declared.data.moment.Date.{Date}
+use Rattle.record_text.specs.Moments.{IsDate, SpellsDate, SpellsMoment}
 use Rattle.record_text.specs.Moments.SpellsMoment.{date, seconds}
-use Rattle.text_words.specs.Spelling.{IsNumber}
+use Rattle.record_text.specs.RecordText.{HasNone}
+use Rattle.record_text.proofs.NoMoment.{no_date, no_digits}
 use Rattle.record_text.proofs.data.moment.moment.Goals as goal
 
-from_ok : (o : Option ℕ) (e : TextError) (n : ℕ) → Ok n ≡ ok_or o e → o ≡ Some n
-from_ok None e n same = absurd (cc)
-from_ok (Some m) e n same = cc
+pub returns-then-word-ne14-clause-spelled : goal.returns-then-word-ne14-clause-spelled
+returns-then-word-ne14-clause-spelled c = (c.if-word.false, seconds c.if-word-ne14.true c.in-Some.ensures.number.0 c.in-Some.ensures.number.1)
 
-pub returns-then-word-ne14 : goal.returns-then-word-ne14
-returns-then-word-ne14 c =
-    let found : c.number_of_digits.result ≡ Some c.in_ok-number.number = from_ok c.number_of_digits.result c.fault-bad.result c.in_ok-number.number c.in_ok-number.ensures.value in
-    (c.if-word.false, seconds c.if-word-ne14.true (subst (λ (o : Option ℕ). IfSome o (λ n. IsNumber c.args.word.now.bytes.now n × (n < 2 ^ 32))) found c.number_of_digits.ensures).0)
+pub returns-in_default-date_of_digits-clause-refused : goal.returns-in_default-date_of_digits-clause-refused
+returns-in_default-date_of_digits-clause-refused c = λ n is. no_digits c.args.word.now.bytes.now c.if-word-ne14.false c.in_default-date_of_digits.ensures.none n is.1
 
-pub returns-in-Some : goal.returns-in-Some
-returns-in-Some c = (c.if-word.false, rw c.date_seconds.ensures (date (c.if-is_date.ensures refl) c.in-Some.ensures))
+pub returns-then-is_date-clause-spelled : goal.returns-then-is_date-clause-spelled
+returns-then-is_date-clause-spelled c = (c.if-word.false, rw c.date_seconds.ensures (date (c.if-is_date.ensures.0 refl) c.in-Some-date_of_digits.ensures.spelled))
+
+no_day : (text : List ℕ) (d : Date) → length text ≡ 14 → SpellsDate text d → (IsDate d → false ≡ true) → HasNone (SpellsMoment text)
+no_day text d len spelled told = no_date text d len spelled (λ is. let t : false ≡ true = told is in cc)
+
+pub returns-clause-refused : goal.returns-clause-refused
+returns-clause-refused c = λ n is. no_day c.args.word.now.bytes.now c.in-Some-date_of_digits.date c.if-word-ne14.false c.in-Some-date_of_digits.ensures.spelled c.if-is_date.ensures.1 n is.1

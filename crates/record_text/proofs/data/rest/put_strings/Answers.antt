@@ -1,9 +1,11 @@
 use Rattle.std.proofs.Common.{◌∙◌, ◌+◌, ◌<◌, ℕ, List, [], ◌++◌, length, take, get_or, sym, ap, subst, append_assoc, append-nil}
 use Rattle.std.proofs.lemmas.List.{take_more}
+use Rattle.std.proofs.lemmas.Result.{err_from_is_err_and}
 use Rattle.text_words.specs.declared.words.Word.{Word}
 use Rattle.text_words.specs.Spelling.{IsString, Puts}
 use Rattle.record_text.specs.RecordText.{AreStrings}
 use Rattle.record_text.specs.RecordText.AreStrings.{none, more}
+use Rattle.record_text.proofs.NoRow.{no_string_at}
 use Rattle.record_text.proofs.data.rest.put_strings.Goals as goal
 
 pub loop-word-init : goal.loop-word-init
@@ -17,4 +19,9 @@ more_strings words i d old before after below all one = (
 )
 
 pub loop-word-preserved : goal.loop-word-preserved
-loop-word-preserved c = more_strings c.args.words.now c.loop-word.word-index _ c.args.data.now.items c.loop-word.data.items c.put_string.new.bytes.items c.loop-word-test.true c.loop-word.invariant c.in_ok-put_string.ensures
+loop-word-preserved c = more_strings c.args.words.now c.loop-word.word-index _ c.args.data.now.items c.loop-word.data.items c.put_string.new.bytes.items c.loop-word-test.true c.loop-word.invariant c.in_ok-put_string.ensures.put
+
+pub returns-in_err-put_string-clause-refused : goal.returns-in_err-put_string-clause-refused
+returns-in_err-put_string-clause-refused c =
+    let p = err_from_is_err_and c.from_residual.result c.from_residual.ensures.1 in
+    rw (p.1, p.2) (λ other. no_string_at c.args.words.now c.loop-word.word-index _ c.loop-word-test.true (c.in_err-put_string.ensures.refused other))
