@@ -1,12 +1,11 @@
 -- What stands behind an owner name is told in one way.
-use Rattle.std.proofs.Common.{◌≡◌, ◌∙◌, ℕ, List, [], ◌∷◌, ◌++◌, Option, Some, None, sym, ap, subst, refl}
+use Rattle.std.proofs.Common.{◌≡◌, ◌∙◌, ℕ, List, ◌∷◌, ◌++◌, Option, Some, None, sym, ap, subst, refl}
 use Rattle.text_words.specs.declared.words.Word.{Word}
 use Rattle.text_words.proofs.SpelledOnce.{times_once}
 use Rattle.record_text.specs.RecordText.{HasNone}
-use Rattle.record_text.proofs.TypesOnce.{types_once}
 use Rattle.zone_text.specs.ZoneFiles.{AreTtlAndClass, BeginsWith, IsClassIn, IsFrontOf, IsTtl, IsTypeWord}
 use Rattle.zone_text.specs.ZoneFiles.AreTtlAndClass.{neither, class, ttl, class_ttl, ttl_class}
-use Rattle.zone_text.specs.ZoneFaults.{BeginsWithNoFront, IsNoFront}
+use Rattle.zone_text.specs.ZoneFaults.{BeginsWithNoFront}
 use Rattle.zone_text.proofs.WordKinds.{class_no_type, ttl_no_class, ttl_no_type}
 
 heads : (a b : Word) (r s : List Word) → (a ∷ r) ≡ (b ∷ s) → (a ≡ b) × (r ≡ s)

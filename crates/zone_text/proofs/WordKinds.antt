@@ -1,18 +1,18 @@
 -- A word is a TTL, the class IN or a type, and no two of them.
-use Rattle.std.proofs.Common.{◌≡◌, ◌≢◌, ◌∙◌, ◌+◌, ◌<◌, ◌≤◌, ℕ, zero, suc, Bool, true, false, List, [], ◌∷◌, ◌++◌, Some, length, take, get_or, sym, ap, subst, refl, arith}
-use Rattle.std.proofs.lemmas.Bool.{and_parts, eqb-true}
+use Rattle.std.proofs.Common.{◌≡◌, ◌∙◌, ◌<◌, ◌≤◌, ℕ, zero, suc, Bool, true, false, List, [], ◌∷◌, ◌++◌, length, take, get_or, sym, ap, subst, refl, arith}
+use Rattle.std.proofs.lemmas.Bool.{and_parts}
 use Rattle.std.proofs.lemmas.Bool.Decides.{nat_tests}
-use Rattle.std.proofs.lemmas.List.{length-map, map-append, take_at}
+use Rattle.std.proofs.lemmas.List.{map-append}
 use Rattle.std.proofs.lemmas.Slice.Eq.{bytes_eq-Decides}
 use Rattle.std.proofs.lemmas.Str.Parse.{digit_from_value}
 use Rattle.std.specs.Char.{digit_value, to_ascii_lowercase}
 use Rattle.std.specs.Int.{IsInRange}
-use Rattle.std.specs.Prelude.{◌==◌, ◌&&◌, bytes_eq, codes, map, nat_lt, not}
+use Rattle.std.specs.Prelude.{◌&&◌, bytes_eq, codes, map, nat_lt, not}
 use Rattle.text_words.specs.declared.words.Word.{Word}
-use Rattle.text_words.specs.Spelling.{IsNumber, SpellsTime, SpellsUnits, unit_seconds}
+use Rattle.text_words.specs.Spelling.{IsNumber, SpellsTime, SpellsUnits}
 use Rattle.text_words.specs.Spelling.SpellsTime.{seconds, units}
 use Rattle.text_words.specs.Spelling.SpellsUnits.{nothing, more}
-use Rattle.record_text.specs.RecordText.{IsTypeNumber, SameLetters, SpellsMnemonic, SpellsType}
+use Rattle.record_text.specs.RecordText.{SpellsType}
 use Rattle.record_text.specs.RecordText.SpellsType.{mnemonic, numbered}
 use Rattle.record_text.specs.TypeTable.{TypeRow, rows}
 use Rattle.zone_text.specs.ZoneFiles.{IsClass1, IsClassIn, IsTtl, IsTypeWord}

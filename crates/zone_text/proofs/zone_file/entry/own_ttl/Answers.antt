@@ -1,4 +1,3 @@
-use Rattle.std.proofs.Common.{◌<◌, ℕ, arith}
 use Rattle.std.proofs.lemmas.Result.{err_from_is_err_and}
 use Rattle.text_words.proofs.NoUnits.{out_of_digits}
 use Rattle.zone_text.proofs.WordKinds.{digit_no_class, digit_no_type, time_first}

@@ -1,6 +1,5 @@
 use Rattle.std.proofs.Common.{sym, refl}
 use Rattle.zone_text.specs.ZoneFiles.IsEntry.{origin_of, default_ttl_of}
-use Rattle.std.proofs.lemmas.Result.{err_from_is_err_and}
 use Rattle.zone_text.proofs.zone_file.entry.read_directive.Goals as goal
 
 pub returns-then-eq_ignore_ascii_case-clause-entry : goal.returns-then-eq_ignore_ascii_case-clause-entry

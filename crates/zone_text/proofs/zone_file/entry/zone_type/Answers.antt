@@ -1,4 +1,4 @@
-use Rattle.std.proofs.Common.{◌≡◌, ℕ, true, false, sym, subst}
+use Rattle.std.proofs.Common.{◌≡◌, true, false, subst}
 use Rattle.record_text.proofs.TypesOnce.{types_once}
 use Rattle.zone_text.specs.ZoneFiles.{IsZoneType}
 use Rattle.zone_text.proofs.zone_file.entry.zone_type.Goals as goal
