@@ -13,7 +13,7 @@ use Rattle.zone_text.specs.declared.error.ZoneFileFault.{ZoneFileFault}
 use Rattle.zone_text.specs.declared.zone_file.entry.Before.{Before}
 use Rattle.zone_text.specs.declared.zone_file.fault.EntryError.{EntryError}
 use Rattle.zone_text.specs.declared.zone_file.fault.EntryError.TheVariants.{At, Memory}
-use Rattle.zone_text.specs.ZoneFaults.{IsEntryFault, IsFileFault, IsFirstFault, IsMovedInto, IsNoEntry, IsRefused, IsToldOf, IsWithin, IsWordsFault, error_of}
+use Rattle.zone_text.specs.ZoneFaults.{IsEntryFault, IsFileFault, IsFirstFault, IsMovedInto, IsNoEntry, IsRefused, IsToldOf, IsWithin, error_of}
 use Rattle.zone_text.specs.ZoneFaults.IsEntryFault.{memory as entry_memory, at as entry_at}
 use Rattle.zone_text.specs.ZoneFaults.IsFileFault.{entry}
 use Rattle.zone_text.specs.ZoneFaults.IsFirstFault.{memory as first_memory, at as first_at}
@@ -34,9 +34,9 @@ refused_words bytes place before w e given moved a b k d is m none = of_error e 
 
 -- a fault of an entry whose words stand
 pub refused_entry : (bytes : List ℕ) (place end : ℕ) (before : Before) (begins_blank : Bool) (words : List Word) (given moved : EntryError) → AreWordsTo ZoneFile bytes place 0 words end → end ≤ length bytes → begins_blank ≡ is_blank (get_or bytes place 0)
-    → IsWordsFault before begins_blank words given → IsMovedInto place end given moved → IsEntryFault bytes place before moved
+    → (given ≢ Memory → IsNoEntry before begins_blank words) → IsMovedInto place end given moved → IsEntryFault bytes place before moved
 refused_entry bytes place end before begins_blank words (At old fault) (At at same) stand inside blank h m =
-    entry_at m.0 (no_entry stand m.1 inside (subst (λ (b : Bool). IsNoEntry before b words same) blank (subst (λ (f : ZoneFileFault). IsNoEntry before begins_blank words f) (sym m.2) h)))
+    entry_at m.0 (no_entry stand m.1 inside (subst (λ (b : Bool). IsNoEntry before b words) blank (h (λ e. cc))))
 refused_entry bytes place end before begins_blank words (At old fault) Memory stand inside blank h m = absurd m
 refused_entry bytes place end before begins_blank words Memory (At at same) stand inside blank h m = absurd m
 refused_entry bytes place end before begins_blank words Memory Memory stand inside blank h m = entry_memory
@@ -58,3 +58,8 @@ first_fault origin bytes text e what same h t = subst (λ (x : List ℕ). IsFirs
   of_file (At at fault) told.Memory h t = absurd t
   of_file (At at fault) (told.At line column word same) (entry {place = place} {before = before} front within (entry_at on refused)) t =
       first_at front within on (subst (λ (f : ZoneFileFault). IsRefused bytes place before at f) (sym t.2) refused) t.0 t.1
+
+-- where an entry's reader does not want memory, neither did that of a text
+pub not_wanting : (e : TextError) (given : EntryError) → given ≡ error_of e → given ≢ Memory → e ≢ text.Memory
+not_wanting (text.At column what) given is other = λ same. cc
+not_wanting text.Memory given is other = λ same. other is

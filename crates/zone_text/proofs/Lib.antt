@@ -1,2 +1,5 @@
-pub mod FieldFaults
+pub mod BehindOwner
 pub mod FirstFaults
+pub mod FrontOnce
+pub mod Minimum
+pub mod WordKinds

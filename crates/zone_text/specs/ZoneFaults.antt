@@ -15,7 +15,8 @@ use Rattle.zone_text.specs.declared.zone_file.entry.Entry.{Entry}
 use Rattle.zone_text.specs.declared.zone_file.fault.EntryError.{EntryError}
 use Rattle.zone_text.specs.declared.zone_file.fault.EntryError.TheVariants.{At, Memory}
 use Rattle.zone_text.specs.declared.zone_file.fault_word.FaultWord.{FaultWord}
-use Rattle.zone_text.specs.ZoneFiles.{IsEntry, IsFront}
+use Rattle.record_text.specs.RecordText.{HasNone}
+use Rattle.zone_text.specs.ZoneFiles.{BeginsWith, IsClassIn, IsEntry, IsFront, IsTtl, IsTypeWord}
 
 -- a byte that ends a line
 abbrev pub is_line_feed : ℕ → Bool
@@ -36,23 +37,25 @@ pub record IsShownAt (text : List ℕ) (place : ℕ) (word : FaultWord) : Type 0
   pub within : place + word.len ≤ length text
   pub shown : take word.len word.bytes ≡ take word.len (drop place text)
 
--- The fault is one of the words of an entry together, and not of a single field: no directive of this name is taken, or no record stands before that has an
--- owner name.
-abbrev pub IsOfEntry : ZoneFileFault → Type 0
-IsOfEntry fault.UnknownDirective = Unit {0}
-IsOfEntry fault.IncludeNotTaken = Unit {0}
-IsOfEntry fault.NoOwner = Unit {0}
-IsOfEntry other = ⊥
+-- The words are no entry behind what stands before.
+abbrev pub IsNoEntry : Before → Bool → List Word → Type 0
+IsNoEntry before begins_blank words = (entry : Entry) → IsEntry before begins_blank words entry → ⊥
 
--- Where a fault is one of the words together, they are no entry behind what stands before.
-abbrev pub IsNoEntry : Before → Bool → List Word → ZoneFileFault → Type 0
-IsNoEntry before begins_blank words fault = IsOfEntry fault → (entry : Entry) → IsEntry before begins_blank words entry → ⊥
+-- A word is none of those that may stand first behind an owner name: no TTL, not the class IN, and no type.
+pub record IsNoFront (word : Word) : Type 0 where
+  pub no_ttl : HasNone (IsTtl word)
+  pub not_in : IsClassIn word → ⊥
+  pub no_type : (number : ℕ) → IsTypeWord number word → ⊥
+
+-- The first of some words is none of them.
+abbrev pub BeginsWithNoFront : List Word → Type 0
+BeginsWithNoFront words = (behind : List Word) × BeginsWith IsNoFront words behind
 
 -- Why no entry is read from a place of a text on, with what stands before: no words stand to an end, or those that stand are none. The fault is told at a
 -- place of the entry.
 pub data IsRefused (text : List ℕ) (place : ℕ) (before : Before) (at : ℕ) (fault : ZoneFileFault) : Type 0 where
   no_words : HasNoWords ZoneFile text place 0 → at ≤ length text → IsRefused text place before at fault
-  no_entry : {words : List Word} {end : ℕ} → AreWordsTo ZoneFile text place 0 words end → at ≤ end → end ≤ length text → IsNoEntry before (is_blank (get_or text place 0)) words fault → IsRefused text place before at fault
+  no_entry : {words : List Word} {end : ℕ} → AreWordsTo ZoneFile text place 0 words end → at ≤ end → end ≤ length text → IsNoEntry before (is_blank (get_or text place 0)) words → IsRefused text place before at fault
 
 -- The first fault of a text: entries stand up to a place, from there on none is read, and the fault is told by the line and the column of a place of that
 -- entry. Or memory was refused.
@@ -91,13 +94,3 @@ abbrev pub IsToldOf : List ℕ → EntryError → ZoneFileError → Type 0
 IsToldOf text (At place fault) (told.At line column word same) = IsPlaced text place line column × IsShownAt text place word × (same ≡ fault)
 IsToldOf text Memory told.Memory = Unit {0}
 IsToldOf text e other = ⊥
-
--- What the reader of an entry tells of its words: where it does not want memory, and the fault is one of the words together, they are no entry.
-abbrev pub IsWordsFault : Before → Bool → List Word → EntryError → Type 0
-IsWordsFault before begins_blank words (At place fault) = IsNoEntry before begins_blank words fault
-IsWordsFault before begins_blank words Memory = Unit {0}
-
--- a fault of a single field
-abbrev pub IsOfField : EntryError → Type 0
-IsOfField (At place fault) = IsOfEntry fault → ⊥
-IsOfField Memory = Unit {0}

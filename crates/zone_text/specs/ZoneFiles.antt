@@ -6,7 +6,7 @@ use Rattle.wire_messages.specs.declared.rr.rdata.RData.TheVariants as rdata
 use Rattle.wire_messages.specs.declared.rr.record.Record.{Record}
 use Rattle.wire_messages.specs.declared.rr.record.Proof.TheVariants.{Indeterminate}
 use Rattle.wire_messages.specs.rr.RecordData.{type_of}
-use Rattle.wire_names.specs.rr.domain.DomainName.{DomainName}
+use Rattle.wire_names.specs.rr.domain.DomainName.{DomainName, name_len}
 use Rattle.wire_messages.specs.serialize.writing.RecordSize.{data_len}
 use Rattle.text_words.specs.declared.words.TextKind.TheVariants.{ZoneFile}
 use Rattle.text_words.specs.declared.words.Word.{Word}
@@ -37,10 +37,10 @@ pub record IsZoneRecord (r : Record RData) : Type 0 where
 abbrev pub last_record : List (Record RData) → Option (Record RData)
 last_record records = slice_get records (length records - 1)
 
--- the last number of a zone's start (RFC 1035 section 3.3.13)
+-- the last number of a zone's start, whose type is 6 (RFC 1035 section 3.3.13), and 0 where its data stand as octets with no numbers of their own
 abbrev pub zone_minimum : RData → Option ℕ
 zone_minimum (rdata.SOA soa) = Some soa.minimum
-zone_minimum content = None
+zone_minimum content = if type_of content == 6 then Some 0 else None
 
 -- The TTL of a record that has this one or none of its own: its own, else that of the last $TTL (RFC 2308 section 4), else that of the record
 -- before (RFC 1035 section 5.1), else the minimum of a zone's start (RFC 2308 section 4), else none.
@@ -60,11 +60,12 @@ pub record IsDirective (word : Word) : Type 0 where
   pub unquoted : word.quoted ≡ false
   pub dollar : get_or word.bytes.now 0 0 ≡ 36
 
--- the word is a name, relative to an origin where no dot ends it
+-- the word is a name, relative to an origin where no dot ends it, of at most 255 bytes in wire form (RFC 1035 section 2.3.4)
 pub record IsName (origin : DomainName) (word : Word) (name : DomainName) : Type 0 where
   pub unquoted : word.quoted ≡ false
   pub spelled : SpellsName (Some origin) word.bytes.now name.labels
   pub qualified : name.is_fqdn ≡ true
+  pub short : name_len name.labels ≤ 255
 
 -- the word is a TTL: a time of 32 bits in seconds
 pub record IsTtl (word : Word) (seconds : ℕ) : Type 0 where
@@ -72,10 +73,23 @@ pub record IsTtl (word : Word) (seconds : ℕ) : Type 0 where
   pub spelled : SpellsTime word.bytes.now seconds
   pub short : seconds < 2 ^ 32
 
--- the word is the class IN, or CLASS and its number, which is 1 (RFC 3597 section 5), in any letter case
+-- CLASS, in any letter case, and the number of the class IN, which is 1 (RFC 3597 section 5)
+pub record IsClass1 (text : List ℕ) : Type 0 where
+  pub front : List ℕ
+  pub digits : List ℕ
+  pub in_order : text ≡ front ++ digits
+  pub letters : SameLetters (codes "CLASS") front
+  pub spelled : IsNumber digits 1
+
+-- the word is the class IN, in any letter case, or CLASS and its number
 pub data IsClassIn (word : Word) : Type 0 where
   mnemonic : IsKeyword (codes "IN") word → IsClassIn word
-  numbered : (front digits : List ℕ) → word.quoted ≡ false → word.bytes.now ≡ front ++ digits → SameLetters (codes "CLASS") front → IsNumber digits 1 → IsClassIn word
+  numbered : word.quoted ≡ false → IsClass1 word.bytes.now → IsClassIn word
+
+-- the word is a type
+pub record IsTypeWord (number : ℕ) (word : Word) : Type 0 where
+  pub unquoted : word.quoted ≡ false
+  pub spelled : SpellsType word.bytes.now number
 
 -- The first of some words is such as a fact says, and these stand behind it.
 abbrev pub BeginsWith : (Word → Type 0) → List Word → List Word → Type 0
@@ -101,19 +115,36 @@ last_ttl records = option_map (λ r. r.ttl) (last_record records)
 abbrev pub last_owner : List (Record RData) → Option DomainName
 last_owner records = option_map (λ r. r.name) (last_record records)
 
+-- TTL and class, then a type, and the words behind it
+pub record IsFrontOf (words : List Word) (own : Option ℕ) (number : ℕ) (behind : List Word) : Type 0 where
+  pub front : List Word
+  pub rest : List Word
+  pub in_order : words ≡ front ++ rest
+  pub timed : AreTtlAndClass front own
+  pub typed : BeginsWith (IsTypeWord number) rest behind
+
+-- Types whose data are never no octets: A, NS, CNAME, SOA, PTR, MX, TXT and AAAA (RFC 1035 sections 3.3 and 3.4, RFC 3596 section 2.2)
+abbrev pub has_octets : ℕ → Bool
+has_octets number = if number == 1 then true else if number == 2 then true else if number == 5 then true else if number == 6 then true else if number == 12 then true else if number == 15 then true else if number == 16 then true else number == 28
+
+-- `\#` and a length, with no octets behind (RFC 3597 section 5)
+abbrev pub AreNoOctets : List Word → Type 0
+AreNoOctets (mark ∷ size ∷ []) = (mark.quoted ≡ false) × (mark.bytes.now ≡ 92 ∷ 35 ∷ [])
+AreNoOctets words = ⊥
+
+-- Data of a type whose data are never no octets are not written as none.
+abbrev pub MayBeData : ℕ → List Word → Type 0
+MayBeData number words = has_octets number ≡ true → AreNoOctets words → ⊥
+
 -- What stands behind the owner name of a record: TTL and class, the type, and the data. Where no TTL is among them, that is in force which the entries
 -- before leave.
 pub record IsBehindOwner (before : Before) (words : List Word) (r : Record RData) : Type 0 where
-  pub front : List Word
-  pub type : Word
-  pub behind : List Word
   pub own : Option ℕ
-  pub in_order : words ≡ front ++ type ∷ behind
-  pub timed : AreTtlAndClass front own
+  pub behind : List Word
+  pub front : IsFrontOf words own (type_of r.rdata) behind
   pub in_force : ttl_in_force own before.default_ttl (last_ttl before.records) (zone_minimum r.rdata) ≡ Some r.ttl
-  pub unquoted : type.quoted ≡ false
-  pub typed : SpellsType type.bytes.now (type_of r.rdata)
   pub spelled : SpellsData (Some before.origin) (type_of r.rdata) behind r.rdata
+  pub some : MayBeData (type_of r.rdata) behind
   pub kept : IsZoneRecord r
 
 -- A record: where its line begins with a blank, it has the owner name of the record before; otherwise the first word is the owner name, and no directive.

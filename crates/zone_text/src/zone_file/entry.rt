@@ -1,14 +1,15 @@
 //! One entry of a zone file (RFC 1035 section 5.1).
 
-ghost use Rattle.std.specs.Prelude.{◌≡◌, ◌≢◌, ◌↔◌, ◌≤◌, ◌++◌, ◌⊎◌, [], ◌∷◌, All, List, Some, None, false, true, IfErr, IfOk, IfSome, IsTrue, OnOk};
+ghost use Rattle.std.specs.Prelude.{◌≡◌, ◌≢◌, ◌↔◌, ◌≤◌, ◌++◌, ◌⊎◌, ℕ, [], ◌∷◌, All, List, Option, Some, None, false, true, IfErr, IfNone, IfOk, IfSome, IsTrue, OnErr, OnOk};
+ghost use Rattle.wire_messages.specs.declared.rr.rdata.RData.{RData as RDataOf};
 ghost use Rattle.wire_messages.specs.rr.RecordData.{type_of};
 ghost use Rattle.wire_messages.specs.serialize.writing.RecordSize.{data_len};
 ghost use Rattle.text_words.specs.declared.words.Word.{Word as WordOf};
-ghost use Rattle.record_text.specs.RecordText.{SpellsData, SpellsType};
-ghost use Rattle.zone_text.specs.ZoneFiles.{AreTtlAndClass, BeginsWith, IsBehindOwner, IsClassIn, IsDirective, IsEntry, IsRecordEntry};
+ghost use Rattle.record_text.specs.RecordText.{HasNone, SpellsData};
+ghost use Rattle.zone_text.specs.ZoneFiles.{AreNoOctets, AreTtlAndClass, BeginsWith, IsBehindOwner, IsClass1, IsClassIn, IsDirective, IsEntry, IsFrontOf, IsRecordEntry};
 ghost use Rattle.zone_text.specs.declared.zone_file.fault.EntryError.TheVariants.{Memory};
-ghost use Rattle.zone_text.specs.ZoneFaults.{IsOfField, IsWordsFault};
-ghost use Rattle.zone_text.specs.ZoneFiles.{IsTtl, IsZoneRecord, IsZoneType, MayBeginWithTtl, after, last_owner, ttl_in_force, zone_minimum};
+ghost use Rattle.zone_text.specs.ZoneFaults.{BeginsWithNoFront, IsNoEntry, IsNoFront};
+ghost use Rattle.zone_text.specs.ZoneFiles.{IsTtl, IsTypeWord, IsZoneRecord, IsZoneType, MayBeData, MayBeginWithTtl, after, has_octets, last_owner, ttl_in_force, zone_minimum};
 
 use crate::error::ZoneFileFault;
 use crate::zone_file::fault::{EntryError, fault_of};
@@ -60,6 +61,7 @@ fn zone_minimum(rdata: &RData) -> Option<u32>
 {
     match rdata {
         RData::SOA(soa) => Some(soa.get().minimum),
+        RData::Update0(code) | RData::Unknown { code, .. } if code.value() == 6 => Some(0),
         _ => None,
     }
 }
@@ -67,7 +69,8 @@ fn zone_minimum(rdata: &RData) -> Option<u32>
 /// The TTL that a field is, if it begins with a digit, as neither a class nor a type does.
 fn own_ttl(word: &Word<'_>) -> Result<Option<u32>, EntryError>
     ensures ttl { IfOk result (λ own. IfSome own (IsTtl word.now)) }
-    ensures fault { IfErr result IsOfField }
+    ensures none { IfOk result (λ own. IfNone own (HasNone (IsTtl word.now))) }
+    ensures refused { IfErr result (λ e. e ≢ Memory → IsNoFront word.now) }
 {
     match word.bytes {
         [first, ..] if first.is_ascii_digit() => {
@@ -78,12 +81,11 @@ fn own_ttl(word: &Word<'_>) -> Result<Option<u32>, EntryError>
     }
 }
 
-/// Whether a field is `CLASS1` (RFC 3597 section 5).
-fn is_class_1(word: &Word<'_>) -> bool
-    requires { word.now.quoted ≡ false }
-    ensures { IsTrue result → IsClassIn word.now }
+/// Whether a text is `CLASS1` (RFC 3597 section 5).
+fn is_class_1(text: &[u8]) -> bool
+    ensures { IsTrue result ↔ IsClass1 text.now }
 {
-    let Some((front, digits)) = word.bytes.split_at_checked(5) else {
+    let Some((front, digits)) = text.split_at_checked(5) else {
         return false;
     };
     if !front.eq_ignore_ascii_case(b"CLASS") {
@@ -95,38 +97,29 @@ fn is_class_1(word: &Word<'_>) -> bool
     }
 }
 
-/// Whether a field is the class IN. Another class is a fault.
-fn is_class_in(word: &Word<'_>) -> Result<bool, EntryError>
-    ensures class { IfOk result (λ is. IsTrue is → IsClassIn word.now) }
-    ensures fault { IfErr result IsOfField }
+/// Whether a field is the class IN.
+fn is_class_in(word: &Word<'_>) -> bool
+    ensures { IsTrue result ↔ IsClassIn word.now }
 {
     if word.quoted {
-        return Ok(false);
+        return false;
     }
     if word.bytes.eq_ignore_ascii_case(b"IN") {
-        return Ok(true);
+        return true;
     }
-    if is_class_1(word) {
-        return Ok(true);
-    }
-    match class_of(word) {
-        Ok(_) => Err(fault_of(word, ZoneFileFault::ClassNotIn)),
-        Err(_) => Ok(false),
-    }
+    is_class_1(word.bytes)
 }
 
 /// The fields behind the class IN, where the first of them is that.
-fn behind_class<'a, 'w>(words: &'w [Word<'a>]) -> Result<Option<&'w [Word<'a>]>, EntryError>
-    ensures class { IfOk result (λ found. IfSome found (λ behind. BeginsWith IsClassIn words.now behind.now)) }
-    ensures fault { IfErr result IsOfField }
+fn behind_class<'a, 'w>(words: &'w [Word<'a>]) -> Option<&'w [Word<'a>]>
+    ensures class { IfSome result (λ behind. BeginsWith IsClassIn words.now behind.now) }
+    ensures none { IfNone result (HasNone (BeginsWith IsClassIn words.now)) }
 {
-    let Some((word, behind)) = words.split_first() else {
-        return Ok(None);
-    };
-    if is_class_in(word)? {
-        Ok(Some(behind))
+    let (word, behind) = words.split_first()?;
+    if is_class_in(word) {
+        Some(behind)
     } else {
-        Ok(None)
+        None
     }
 }
 
@@ -135,7 +128,8 @@ fn ttl_and_behind<'a, 'w>(
     words: &'w [Word<'a>],
 ) -> Result<(Option<u32>, &'w [Word<'a>]), EntryError>
     ensures ttl { IfOk result (λ found. MayBeginWithTtl words.now found.0 found.1.now) }
-    ensures fault { IfErr result IsOfField }
+    ensures none { IfOk result (λ found. IfNone found.0 ((seconds : ℕ) → HasNone (BeginsWith (λ word. IsTtl word seconds) words.now))) }
+    ensures refused { IfErr result (λ e. e ≢ Memory → BeginsWithNoFront words.now) }
 {
     let Some((word, behind)) = words.split_first() else {
         return Ok((None, words));
@@ -149,10 +143,11 @@ fn ttl_and_behind<'a, 'w>(
 /// TTL and class, in either order and either left out: the TTL, if there is one, and the fields behind them.
 fn ttl_and_class<'a, 'w>(words: &'w [Word<'a>]) -> Result<(Option<u32>, &'w [Word<'a>]), EntryError>
     ensures timed { IfOk result (λ found. (front : List WordOf) × (words.now ≡ front ++ found.1.now) × AreTtlAndClass front found.0) }
-    ensures fault { IfErr result IsOfField }
+    ensures most { IfOk result (λ found. (own : Option ℕ) (number : ℕ) → (behind : List WordOf) → IsFrontOf words.now own number behind → (own ≡ found.0) × BeginsWith (IsTypeWord number) found.1.now behind) }
+    ensures refused { IfErr result (λ e. e ≢ Memory → (own : Option ℕ) (number : ℕ) → HasNone (IsFrontOf words.now own number)) }
 {
     let (ttl, fields) = ttl_and_behind(words)?;
-    let Some(behind) = behind_class(fields)? else {
+    let Some(behind) = behind_class(fields) else {
         return Ok((ttl, fields));
     };
     match ttl {
@@ -168,31 +163,43 @@ fn is_zone_type(record_type: RecordType) -> bool
     !matches!(record_type.value(), 0 | 41 | 128..=255)
 }
 
-/// Whether no bytes are data of this type. Of types that are not known any bytes are (RFC 3597 section 5).
-fn may_be_empty(record_type: RecordType) -> bool {
-    !matches!(
-        record_type,
-        RecordType::A
-            | RecordType::AAAA
-            | RecordType::NS
-            | RecordType::CNAME
-            | RecordType::PTR
-            | RecordType::MX
-            | RecordType::SOA
-            | RecordType::TXT
-    )
+/// Whether the data of a type are never no bytes. Of types that are not known any bytes are data (RFC 3597 section 5).
+fn has_octets(record_type: RecordType) -> bool
+    ensures { result ≡ has_octets record_type }
+{
+    matches!(record_type.value(), 1 | 2 | 5 | 6 | 12 | 15 | 16 | 28)
+}
+
+/// Whether fields are `\#` and a length, with no bytes behind (RFC 3597 section 5).
+fn are_no_octets(words: &[Word<'_>]) -> bool
+    ensures { IsTrue result ↔ AreNoOctets words.now }
+{
+    match words {
+        [mark, _] => !mark.quoted && mark.bytes == b"\\#".as_slice(),
+        _ => false,
+    }
+}
+
+/// Why a field is no type of a zone's records: it is another class than IN, or what else is wrong with it.
+fn type_fault(word: &Word<'_>, fault: EntryError) -> EntryError {
+    match class_of(word) {
+        Ok(class) if class.value() != 1 => fault_of(word, ZoneFileFault::ClassNotIn),
+        _ => fault,
+    }
 }
 
 /// The type of a record of a zone.
 fn zone_type(word: &Word<'_>) -> Result<RecordType, EntryError>
-    ensures unquoted { IfOk result (λ number. word.now.quoted ≡ false) }
-    ensures typed { IfOk result (SpellsType word.now.bytes.now) }
+    ensures typed { IfOk result (λ number. IsTypeWord number word.now) }
     ensures stored { IfOk result IsZoneType }
-    ensures fault { IfErr result IsOfField }
+    ensures refused { IfErr result (λ e. e ≢ Memory → (number : ℕ) → IsTypeWord number word.now → IsZoneType number → ⊥) }
 {
-    let record_type = type_of(word)?;
+    let record_type = match type_of(word) {
+        Ok(record_type) => record_type,
+        Err(e) => return Err(type_fault(word, EntryError::from(e))),
+    };
     if !is_zone_type(record_type) {
-        return Err(fault_of(word, ZoneFileFault::NotZoneData));
+        return Err(type_fault(word, fault_of(word, ZoneFileFault::NotZoneData)));
     }
     Ok(record_type)
 }
@@ -209,15 +216,14 @@ fn zone_data(
     ensures form { IfOk result (λ rdata. type_of rdata ≡ record_type) }
     ensures fits { IfOk result (λ rdata. data_len rdata ≤ 65535) }
     ensures spelled { IfOk result (SpellsData (Some origin.now) record_type words.now) }
-    ensures fault { IfErr result IsOfField }
+    ensures some { OnOk result (MayBeData record_type words.now) }
+    ensures refused { IfErr result (λ e. e ≢ Memory → (rdata : RDataOf) → SpellsData (Some origin.now) record_type words.now rdata → MayBeData record_type words.now → ⊥) }
 {
     let rdata = data_of_words(alloc, record_type, words, end, Some(origin))?;
-    match rdata {
-        RData::Update0(_) if !may_be_empty(record_type) => {
-            Err(EntryError::from(word.fault(TextFault::WrongData)))
-        }
-        rdata => Ok(rdata),
+    if has_octets(record_type) && are_no_octets(words) {
+        return Err(EntryError::from(word.fault(TextFault::WrongData)));
     }
+    Ok(rdata)
 }
 
 /// The owner name of the last record, for an entry that begins with this field.
@@ -244,7 +250,7 @@ fn record_behind(
     requires { name.is_fqdn ≡ true }
     ensures named { IfOk result (λ r. r.name ≡ name) }
     ensures behind { IfOk result (IsBehindOwner before.now words.now) }
-    ensures fault { IfErr result IsOfField }
+    ensures refused { IfErr result (λ e. e ≢ Memory → HasNone (IsBehindOwner before.now words.now)) }
 {
     let (own, fields) = ttl_and_class(words)?;
     let Some((word, data)) = fields.split_first() else {
@@ -274,10 +280,9 @@ fn repeated_record(
     end: usize,
     before: &Before,
 ) -> Result<Record, EntryError>
-    requires some { words.now ≢ [] }
-    requires records { All IsZoneRecord before.now.records }
+    requires { All IsZoneRecord before.now.records }
     ensures entry { IfOk result (IsRecordEntry before.now true words.now) }
-    ensures fault { IfErr result (IsWordsFault before.now true words.now) }
+    ensures refused { IfErr result (λ e. e ≢ Memory → HasNone (IsRecordEntry before.now true words.now)) }
 {
     let name = last_owner(first, before.records.as_slice())?;
     record_behind(alloc, first, name, words, end, before)
@@ -293,7 +298,7 @@ fn named_record(
 ) -> Result<Record, EntryError>
     requires { IsDirective owner.now → ⊥ }
     ensures entry { IfOk result (IsRecordEntry before.now false (owner.now ∷ behind.now)) }
-    ensures fault { IfErr result IsOfField }
+    ensures refused { IfErr result (λ e. e ≢ Memory → HasNone (IsRecordEntry before.now false (owner.now ∷ behind.now))) }
 {
     let name = absolute_name(alloc, owner, Some(&before.origin))?;
     record_behind(alloc, owner, name, behind, end, before)
@@ -302,7 +307,7 @@ fn named_record(
 /// The field behind that of a directive, which is the last one.
 fn only_field<'a, 'w>(behind: &'w [Word<'a>], end: usize) -> Result<&'w Word<'a>, EntryError>
     ensures only { IfOk result (λ word. behind.now ≡ word.now ∷ []) }
-    ensures fault { IfErr result IsOfField }
+    ensures refused { OnErr result ((word : WordOf) → behind.now ≡ word ∷ [] → ⊥) }
 {
     match behind {
         [] => Err(EntryError::from(fault_at(end, TextFault::MissingField))),
@@ -321,7 +326,7 @@ fn read_directive(
 ) -> Result<Entry, EntryError>
     requires { IsDirective first.now }
     ensures entry { IfOk result (IsEntry before.now false (first.now ∷ behind.now)) }
-    ensures fault { IfErr result (IsWordsFault before.now false (first.now ∷ behind.now)) }
+    ensures refused { IfErr result (λ e. e ≢ Memory → IsNoEntry before.now false (first.now ∷ behind.now)) }
 {
     if first.bytes.eq_ignore_ascii_case(b"$ORIGIN") {
         let word = only_field(behind, end)?;
@@ -359,7 +364,7 @@ pub(crate) fn read_entry(
 ) -> Result<Entry, EntryError>
     requires { All IsZoneRecord before.now.records }
     ensures entry { IfOk result (IsEntry before.now begins_blank words.now) }
-    ensures fault { IfErr result (IsWordsFault before.now begins_blank words.now) }
+    ensures refused { IfErr result (λ e. e ≢ Memory → IsNoEntry before.now begins_blank words.now) }
 {
     let (first, behind) = match words.split_first() {
         Some(parts) => parts,

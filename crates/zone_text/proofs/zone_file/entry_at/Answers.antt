@@ -25,4 +25,4 @@ returns-clause-fault c =
     rw (c.as_slice.ensures.value, c.place-end.ensures.place) (stand w c.args.text.now c.args.place _ _ c.entry-words.ensures.text c.entry-words.ensures.place c.entry-words.ensures.kind c.entry-words.ensures.depth c.in-Ok.ensures.words) in
     let inside : c.place-end.result ≤ length c.args.text.now = subst (λ (t : List ℕ). c.place-end.result ≤ length t) (c.in-Ok.ensures.text ∙ c.entry-words.ensures.text) c.place-end.ensures.within in
     refused_entry c.args.text.now c.args.place c.place-end.result c.args.before.now c.begins_blank-begins_blank.result c.as_slice.result.now c.in-Err-read_entry.e c.within-in-Err-read_entry.result words inside
-    (blank w c.args.text.now c.args.place c.begins_blank-begins_blank.result c.entry-words.ensures.text c.entry-words.ensures.place c.begins_blank-begins_blank.ensures) c.in-Err-read_entry.ensures.fault c.within-in-Err-read_entry.ensures
+    (blank w c.args.text.now c.args.place c.begins_blank-begins_blank.result c.entry-words.ensures.text c.entry-words.ensures.place c.begins_blank-begins_blank.ensures) c.in-Err-read_entry.ensures.refused c.within-in-Err-read_entry.ensures

@@ -1,6 +1,15 @@
-use Rattle.std.proofs.lemmas.Result.{err_from_is_err_and}
-use Rattle.zone_text.proofs.FieldFaults.{of_text}
+use Rattle.std.proofs.Common.{◌≡◌, true, false, subst}
+use Rattle.record_text.proofs.TypesOnce.{types_once}
+use Rattle.zone_text.specs.ZoneFiles.{IsZoneType}
 use Rattle.zone_text.proofs.zone_file.entry.zone_type.Goals as goal
 
-pub returns-in_err-record_type-clause-fault : goal.returns-in_err-record_type-clause-fault
-returns-in_err-record_type-clause-fault c = let p = err_from_is_err_and c.from_residual.result c.from_residual.ensures.1 in rw p.1 (of_text _ _ p.2)
+not_so : false ≡ true → ⊥
+not_so e = cc
+
+pub returns-in-Err-clause-refused : goal.returns-in-Err-clause-refused
+returns-in-Err-clause-refused c = λ other number type stored. c.in-Err.ensures.refused number type.unquoted type.spelled
+
+pub returns-then-not-is_zone_type-clause-refused : goal.returns-then-not-is_zone_type-clause-refused
+returns-then-not-is_zone_type-clause-refused c = λ other number type stored.
+    let same : number ≡ c.in-Ok.record_type = types_once c.args.word.now.bytes.now number c.in-Ok.record_type type.spelled c.in-Ok.ensures.spelled.1 in
+    not_so (c.if-not-is_zone_type.ensures.1 (subst IsZoneType same stored))
