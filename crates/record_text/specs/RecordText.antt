@@ -62,7 +62,7 @@ pub data SpellsType : List ℕ → ℕ → Type 0 where
   mnemonic : {text : List ℕ} {number : ℕ} → SpellsMnemonic text number → SpellsType text number
   numbered : {text : List ℕ} {number : ℕ} → IsTypeNumber text number → SpellsType text number
 
--- A word as it stands for a field's octets.
+-- A word as it stands for a field's octets. Names have at most 255 (RFC 1035 section 2.3.4).
 pub data IsField (origin : Option DomainName) : Field → Word → List ℕ → Type 0 where
   number8 : {w : Word} {n : ℕ} → w.quoted ≡ false → IsNumber w.bytes.now n → n < 2 ^ 8 → IsField origin field.Number8 w (n ∷ [])
   number16 : {w : Word} {n : ℕ} → w.quoted ≡ false → IsNumber w.bytes.now n → n < 2 ^ 16 → IsField origin field.Number16 w (to_be_bytes w16 n)
