@@ -1,7 +1,6 @@
 //! The zones of the server.
 
 use crate::fault::Fault;
-use dynamic_zone::DynamicZone;
 use hickory_server::access::AccessControl;
 use hickory_server::proto::{LowerName, Name, NameError};
 use hickory_server::server::{Rules, Server};
@@ -39,7 +38,7 @@ hmac-sha256-128:k128.example:MDEyMzQ1Njc4OWFiY2RlZjAxMjM0NTY3ODlhYmNkZWY=
 ";
 
 /// The server.
-pub type Signing = SignedServer<LeftToServer, DynamicZone<TsigVerifier>>;
+pub type Signing = SignedServer<LeftToServer, SqliteZoneHandler<TsigVerifier>>;
 
 /// A name.
 fn name(alloc: Global, text: &str) -> Result<Name, Fault> {
@@ -62,9 +61,9 @@ fn zone(alloc: Global, text: &str, apex: &Name) -> Result<InMemoryZoneHandler, F
 /// Puts a zone into a catalog.
 fn put(
     alloc: Global,
-    catalog: &mut Catalog<LeftToServer, DynamicZone<TsigVerifier>>,
+    catalog: &mut Catalog<LeftToServer, SqliteZoneHandler<TsigVerifier>>,
     apex: &Name,
-    zone: DynamicZone<TsigVerifier>,
+    zone: SqliteZoneHandler<TsigVerifier>,
 ) -> Result<(), Fault> {
     let mut chain = Vec::new(alloc);
     chain.push(zone)?;
@@ -103,12 +102,7 @@ pub fn served(alloc: Global) -> Result<Signing, Fault> {
     let verifier = TsigVerifier { keys: keys(alloc)? };
     let updatable = SqliteZoneHandler::new(zone, AxfrPolicy::AllowAll, true, verifier);
     let mut catalog = Catalog::new(alloc, LeftToServer);
-    put(
-        alloc,
-        &mut catalog,
-        &apex,
-        DynamicZone::new(alloc, updatable),
-    )?;
+    put(alloc, &mut catalog, &apex, updatable)?;
     let server = Server::new(alloc, rules(alloc)?, catalog)?;
     Ok(SignedServer::new(alloc, server, keys(alloc)?)?)
 }
