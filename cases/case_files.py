@@ -11,7 +11,7 @@ REPOSITORY = os.path.dirname(FOLDER)
 # The folders of cases below this one, and the program that each is for.
 PROGRAMS = {
     "": "zone_script", "zone_reply": "zone_reply", "zone_serve": "zone_serve", "tests_server": "tests_server",
-    "tests_zones": "tests_zones", "tests_lists": "tests_lists", "tests_tsig": "tests_tsig", "tests_signed": "tests_signed",
+    "tests_zones": "tests_zones", "tests_lists": "tests_lists", "tests_tsig": "tests_tsig",
 }
 
 # The folders of files that programs may be told to read, by the names that their arguments use.
