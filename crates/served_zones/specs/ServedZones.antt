@@ -58,7 +58,7 @@ pub data IsApexText (text : List ℕ) (apex : DomainName) : Type 0 where
   by_name : (name : DomainName) → IsNameText text name → apex ≡ record name { is_fqdn = true } → IsApexText text apex
 
 -- The zone of a file was served at the apex of this name, where there was none, with the list of blocked names behind it, if there is one.
-pub record IsLoaded (text : List ℕ) (list : Option Blocklist) (loaded : Loaded) (old new : List (DomainName × Chain)) : Type 0 where
+pub record IsLoadedAs (text : List ℕ) (list : Option Blocklist) (loaded : Loaded) (old new : List (DomainName × Chain)) : Type 0 where
   pub apex : IsApexText text loaded.apex
   pub list_is : option_map (λ it. it.value) loaded.list ≡ list
   pub zone : MemoryZone
@@ -69,11 +69,16 @@ pub record IsLoaded (text : List ℕ) (list : Option Blocklist) (loaded : Loaded
   pub chained : IsChain handler list chain
   pub changed : ChangesAt old (lower_name loaded.apex) None (Some chain) new
 
+-- The zone of a file is served at its apex, where there was none, with the list of blocked names behind it, if there is one.
+abbrev pub IsLoaded : Option Blocklist → List (DomainName × Chain) → List (DomainName × Chain) → Type 0
+IsLoaded list old new = (apex : DomainName) × (zone : MemoryZone) × IsServedZone apex zone × (handler : ServedHandler) × IsPlaced zone None handler
+    × (chain : Chain) × IsChain handler list chain × ChangesAt old (lower_name apex) None (Some chain) new
+
 -- Zones of these names were loaded, one after the other in this order, with the list of blocked names behind each, if there is one.
 pub data AreLoaded (list : Option Blocklist) : List (List ℕ) → List Loaded → List (DomainName × Chain) → List (DomainName × Chain) → Type 0 where
   none : {zones : List (DomainName × Chain)} → AreLoaded list [] [] zones zones
   more : {texts : List (List ℕ)} {text : List ℕ} {those : List Loaded} {loaded : Loaded} {old between new : List (DomainName × Chain)}
-      → AreLoaded list texts those old between → IsLoaded text list loaded between new
+      → AreLoaded list texts those old between → IsLoadedAs text list loaded between new
       → AreLoaded list (texts ++ text ∷ []) (those ++ loaded ∷ []) old new
 
 -- the zone of a handler, if it has one

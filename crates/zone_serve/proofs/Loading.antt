@@ -8,7 +8,7 @@ use Rattle.hickory_store.specs.BlockAnswers.{Blocklist}
 use Rattle.name_lists.specs.Adding.{AddsList}
 use Rattle.name_lists.specs.Counts.{Counts}
 use Rattle.hickory_catalog.specs.declared.catalog.Catalog.{Catalog}
-use Rattle.served_zones.specs.ServedZones.{AddsLists, AreLoaded, Chain, IsEmptyList, IsLoaded}
+use Rattle.served_zones.specs.ServedZones.{AddsLists, AreLoaded, Chain, IsEmptyList, IsLoadedAs}
 use Rattle.served_zones.specs.ServedZones as served
 use Rattle.served_zones.specs.declared.parents.Loaded.{Loaded}
 use Rattle.zone_serve.specs.Catalogs.{AddsFile, AddsFiles, IsListOf}
@@ -54,7 +54,7 @@ copied_map f (Some x) = refl
 -- zones that are loaded, and one more
 pub zones_more : (list : Option Blocklist) (arguments : List ZoneArgument) (place : ℕ) (d : ZoneArgument) (those : List Loaded) (loaded : Loaded) (old between new : List (DomainName × Chain))
     → place < length arguments
-    → AreLoaded list (map (λ (z : ZoneArgument). z.name.now) (take place arguments)) those old between → IsLoaded (get_or arguments place d).name.now list loaded between new
+    → AreLoaded list (map (λ (z : ZoneArgument). z.name.now) (take place arguments)) those old between → IsLoadedAs (get_or arguments place d).name.now list loaded between new
     → AreLoaded list (map (λ (z : ZoneArgument). z.name.now) (take (place + 1) arguments)) (those ++ loaded ∷ []) old new
 zones_more list arguments place d those loaded old between new inside so_far one =
     let name : ZoneArgument → List ℕ = λ z. z.name.now in

@@ -11,7 +11,7 @@
 ghost use Rattle.std.specs.Prelude.{◌≡◌, IfOk, MatchOption, None, map, option_map};
 ghost use Rattle.access_control.specs.Access.{SameNetworks};
 ghost use Rattle.hickory_base.specs.zone_store.ZoneAnswers.{MemoryZone};
-ghost use Rattle.served_zones.specs.ServedZones.{AreLoaded, IsLoaded, IsPlaced, IsServedZone};
+ghost use Rattle.served_zones.specs.ServedZones.{AreLoaded, IsLoadedAs, IsPlaced, IsServedZone};
 ghost use Rattle.zone_serve.specs.Catalogs.{AreZonesOf};
 
 mod arguments;
@@ -117,7 +117,7 @@ fn load<R: Files + Alloc<A = Global>>(
     place: usize,
     list: Option<&Rc<BlocklistZoneHandler>>,
 ) -> Result<Loaded, Fault>
-    ensures loaded { IfOk result (λ loaded. IsLoaded argument.entry.name.now (option_map (λ it. it.now.value) list.entry) loaded catalog.old.zones catalog.new.zones) }
+    ensures loaded { IfOk result (λ loaded. IsLoadedAs argument.entry.name.now (option_map (λ it. it.now.value) list.entry) loaded catalog.old.zones catalog.new.zones) }
     ensures others { catalog.new ≡ record catalog.old { zones = catalog.new.zones } }
 {
     let apex = apex_of(rt.alloc(), argument.name, argument.place)?;
