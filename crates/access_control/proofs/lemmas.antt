@@ -4,3 +4,4 @@ pub mod Prefixes
 pub mod Rule
 pub mod Sets
 pub mod Tries
+pub mod Spelling

@@ -7,6 +7,7 @@
 ghost use Rattle.std.specs.Prelude.{◌≡◌, ◌≤◌, ◌<◌, ◌^◌, ◌+◌, ◌-◌, ◌/◌, ◌%◌, ◌++◌, ◌∷◌, [], ◌↔◌, List, Contains, IsTrue, OnOk, OnErr};
 ghost use Rattle.std.specs.Option.{SomeIff};
 ghost use Rattle.access_control.specs.Access.{Network, AccessSets, width, address_of, canonical, first_bits, network_of, first_address, Matches, IsLongestMatch, HasFamily, IsAllowed, Inserts, InsertsFirst, SameNetwork, SameNetworks, MappedFormIsAllowedAlike, OnlyMembersDecide};
+ghost use Rattle.access_control.specs.NetworkTexts.{TextSpellsOneNetwork};
 ghost use Rattle.access_control.specs.Prefixes.{LiesIn, IsCommon, IsOfFamily};
 ghost use Rattle.access_control.specs.declared.Family.TheVariants.{Ipv4, Ipv6};
 
@@ -378,6 +379,11 @@ impl AccessControl {
 pub fn rule_laws()
     ensures mapped_form { MappedFormIsAllowedAlike }
     ensures members { OnlyMembersDecide }
+{}
+
+/// A text spells one network at most, so that [`IpNet`]'s `from_str` tells which.
+pub fn network_text_laws()
+    ensures { TextSpellsOneNetwork }
 {}
 
 /// `==` on networks compares all that they are: networks are equal exactly where they are of one family, and their
