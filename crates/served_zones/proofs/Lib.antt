@@ -1,1 +1,2 @@
 mod AccessLists
+mod Loops

@@ -1,11 +1,12 @@
 -- The zones that the server has.
-use Rattle.std.specs.Prelude.{◌≡◌, [], ◌∷◌, List, Option, Some, None, drop, true}
+use Rattle.std.specs.Prelude.{◌≡◌, ◌<◌, ◌++◌, ◌⊎◌, [], ◌∷◌, ℕ, List, Option, Some, None, codes, drop, true}
 use Rattle.std.specs.Global.{Global}
 use Rattle.std.specs.Option.{option_map}
 use Rattle.std.specs.declared.rc.Rc.{Rc}
 use Rattle.either.specs.declared.Either.{Either}
 use Rattle.either.specs.declared.Either.TheVariants.{Left, Right}
 use Rattle.wire_names.specs.rr.domain.DomainName.{DomainName}
+use Rattle.wire_names.specs.rr.domain.NameText.{IsNameText}
 use Rattle.wire_names.specs.rr.domain.NameOrder.{lower_name}
 use Rattle.hickory_base.specs.declared.zone_store.handler.AxfrPolicy.TheVariants.{AllowAll}
 use Rattle.hickory_base.specs.declared.zone_store.handler.ZoneType.TheVariants.{Primary}
@@ -13,8 +14,12 @@ use Rattle.hickory_base.specs.zone_store.ZoneAnswers.{MemoryZone}
 use Rattle.hickory_catalog.specs.Find.{Finds}
 use Rattle.hickory_catalog.specs.Zones.{ChangesAt}
 use Rattle.hickory_store.specs.BlockAnswers.{Blocklist}
+use Rattle.hickory_store.specs.declared.blocklist.config.BlocklistConsultAction.TheVariants.{Enforce}
+use Rattle.name_lists.specs.Adding.{AddsList}
+use Rattle.name_lists.specs.Counts.{Counts}
 use Rattle.hickory_server.specs.ZoneOfText.{IsTextFault, IsZoneOfText}
 use Rattle.hickory_zone.specs.declared.zone_with_parent.ZoneWithParent.{ZoneWithParent}
+use Rattle.served_zones.specs.declared.parents.Loaded.{Loaded}
 use Rattle.served_zones.specs.declared.zones.ZoneFault.{ZoneFault}
 use Rattle.served_zones.specs.declared.zones.ZoneFault.TheVariants.{Zone}
 
@@ -26,6 +31,10 @@ IsServedZone apex zone = IsZoneOfText apex Primary AllowAll zone
 abbrev pub IsFileFault : DomainName → ZoneFault → Type 0
 IsFileFault apex (Zone e) = IsTextFault apex e
 IsFileFault apex other = Unit {0}
+
+-- the root
+abbrev pub root : DomainName
+root = record { labels = []; is_fqdn = true }
 
 -- a handler of a chain: a zone, with the zone above it if there is one, or the list of blocked names that all chains share
 abbrev pub ServedHandler : Type 0
@@ -43,10 +52,34 @@ IsChain zone (Some list) chain = (shared : Rc Blocklist Global) × (shared.value
 abbrev pub IsPlaced : MemoryZone → Option MemoryZone → ServedHandler → Type 0
 IsPlaced zone parent handler = (both : ZoneWithParent) × (handler ≡ Left both) × (both.zone.value ≡ zone) × (option_map (λ it. it.value) both.parent ≡ parent)
 
+-- The text is the name of an apex: a name with or without a dot at its end, or for the root a dot alone (RFC 1035 section 5.1).
+pub data IsApexText (text : List ℕ) (apex : DomainName) : Type 0 where
+  by_dot : text ≡ codes "." → apex ≡ root → IsApexText text apex
+  by_name : (name : DomainName) → IsNameText text name → apex ≡ record name { is_fqdn = true } → IsApexText text apex
+
+-- The zone of a file was served at the apex of this name, where there was none, with the list of blocked names behind it, if there is one.
+pub record IsLoadedAs (text : List ℕ) (list : Option Blocklist) (loaded : Loaded) (old new : List (DomainName × Chain)) : Type 0 where
+  pub apex : IsApexText text loaded.apex
+  pub list_is : option_map (λ it. it.value) loaded.list ≡ list
+  pub zone : MemoryZone
+  pub served : IsServedZone loaded.apex zone
+  pub handler : ServedHandler
+  pub placed : IsPlaced zone None handler
+  pub chain : Chain
+  pub chained : IsChain handler list chain
+  pub changed : ChangesAt old (lower_name loaded.apex) None (Some chain) new
+
 -- The zone of a file is served at its apex, where there was none, with the list of blocked names behind it, if there is one.
 abbrev pub IsLoaded : Option Blocklist → List (DomainName × Chain) → List (DomainName × Chain) → Type 0
 IsLoaded list old new = (apex : DomainName) × (zone : MemoryZone) × IsServedZone apex zone × (handler : ServedHandler) × IsPlaced zone None handler
     × (chain : Chain) × IsChain handler list chain × ChangesAt old (lower_name apex) None (Some chain) new
+
+-- Zones of these names were loaded, one after the other in this order, with the list of blocked names behind each, if there is one.
+pub data AreLoaded (list : Option Blocklist) : List (List ℕ) → List Loaded → List (DomainName × Chain) → List (DomainName × Chain) → Type 0 where
+  none : {zones : List (DomainName × Chain)} → AreLoaded list [] [] zones zones
+  more : {texts : List (List ℕ)} {text : List ℕ} {those : List Loaded} {loaded : Loaded} {old between new : List (DomainName × Chain)}
+      → AreLoaded list texts those old between → IsLoadedAs text list loaded between new
+      → AreLoaded list (texts ++ text ∷ []) (those ++ loaded ∷ []) old new
 
 -- the zone of a handler, if it has one
 abbrev pub zone_in : ServedHandler → Option MemoryZone
@@ -71,10 +104,6 @@ AnswersFor zones name zone = (chain : Option Chain) × Finds zones name chain ×
 abbrev pub above : DomainName → DomainName
 above name = record name { labels = drop 1 name.labels }
 
--- the root
-abbrev pub root : DomainName
-root = record { labels = []; is_fqdn = true }
-
 -- The zone above that of an apex: the one that answers for the name above the apex. Above the root there is none.
 pub data IsAbove (zones : List (DomainName × Chain)) (apex : DomainName) (parent : Option MemoryZone) : Type 0 where
   none : apex ≡ root → parent ≡ None → IsAbove zones apex parent
@@ -93,3 +122,24 @@ pub record IsJoined (list : Option Blocklist) (apex : DomainName) (old new : Lis
   pub chained : IsChain handler list chain
   pub was : Option Chain
   pub changed : ChangesAt old (lower_name apex) was (Some chain) new
+
+-- The zone that answers at an apex is put beside the one above it; where none answers there, nothing changes.
+abbrev pub Joins : Option Blocklist → DomainName → List (DomainName × Chain) → List (DomainName × Chain) → Type 0
+Joins list apex old new = IsJoined list apex old new ⊎ (AnswersFor old (lower_name apex) None × (new ≡ old))
+
+-- Zones that were loaded are put beside those above them, one after the other in this order, each with its own list of blocked names behind it.
+pub data AreJoined : List Loaded → List (DomainName × Chain) → List (DomainName × Chain) → Type 0 where
+  none : {zones : List (DomainName × Chain)} → AreJoined [] zones zones
+  more : {those : List Loaded} {old between new : List (DomainName × Chain)} (loaded : Loaded) → AreJoined those old between
+      → Joins (option_map (λ it. it.value) loaded.list) loaded.apex between new
+      → AreJoined (those ++ loaded ∷ []) old new
+
+-- A list of blocked names without a name. The addresses of what is put on it are 0.0.0.0 and ::, whatever the zone of a name has.
+abbrev pub IsEmptyList : Blocklist → Type 0
+IsEmptyList list = (list.entries ≡ []) × (list.config.consult_action ≡ Enforce) × (list.config.sinkhole_ipv4 ≡ None) × (list.config.sinkhole_ipv6 ≡ None)
+
+-- Lists are put on a list of blocked names one after the other, in this order. Each gives a name.
+pub data AddsLists : List (List ℕ) → Blocklist → Blocklist → Type 0 where
+  none : {list : Blocklist} → AddsLists [] list list
+  more : {texts : List (List ℕ)} {text : List ℕ} {old between : Blocklist} {entries : List DomainName} {counts : Counts} → AddsLists texts old between
+      → AddsList text between.entries entries counts → 0 < counts.taken → AddsLists (texts ++ text ∷ []) old (record between { entries = entries })

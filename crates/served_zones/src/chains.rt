@@ -1,9 +1,11 @@
 //! The chains of zones, and where they are put.
 
-ghost use Rattle.std.specs.Prelude.{◌≡◌, ◌↔◌, IfOk, IsNone, IsTrue, OnErr, Option, Some, option_map, true};
+ghost use Rattle.std.specs.Prelude.{◌≡◌, ◌↔◌, Err, IfOk, IsNone, IsTrue, OnErr, Option, Some, option_map, true};
+ghost use Rattle.wire_names.specs.rr.domain.DomainName.{DomainName};
+ghost use Rattle.wire_names.specs.declared.error.NameError.TheVariants.{Text};
 ghost use Rattle.wire_names.specs.rr.domain.NameOrder.{lower_name};
 ghost use Rattle.hickory_catalog.specs.Zones.{ChangesAt};
-ghost use Rattle.served_zones.specs.ServedZones.{Chain, IsChain};
+ghost use Rattle.served_zones.specs.ServedZones.{Chain, IsApexText, IsChain};
 
 use crate::handler::{Handler, Zones};
 use hickory_server::proto::{LowerName, Name, NameError};
@@ -15,7 +17,9 @@ use std::rc::Rc;
 /// The name of the apex of a zone, with or without a dot at its end; the root is a dot alone. `NameError::Text` says that the text is
 /// no name.
 pub fn apex(alloc: Global, text: &str) -> Result<Name, NameError>
-    ensures { IfOk result (λ name. name.is_fqdn ≡ true) }
+    ensures spelled { IfOk result (IsApexText text.now) }
+    ensures qualified { IfOk result (λ name. name.is_fqdn ≡ true) }
+    ensures none { result ≡ Err Text → (apex : DomainName) → ¬ (IsApexText text.now apex) }
 {
     if text == "." {
         return Ok(Name::root());

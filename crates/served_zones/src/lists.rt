@@ -1,7 +1,9 @@
 //! Lists of blocked names.
 
-ghost use Rattle.std.specs.Prelude.{◌≡◌, IfOk, OnErr};
+ghost use Rattle.std.specs.Prelude.{◌≡◌, IfOk, None, OnErr};
+ghost use Rattle.hickory_store.specs.declared.blocklist.config.BlocklistConsultAction.TheVariants.{Enforce};
 ghost use Rattle.name_lists.specs.Adding.{AddsList, AddsSome};
+ghost use Rattle.served_zones.specs.ServedZones.{IsEmptyList};
 
 use hickory_server::proto::Name;
 use hickory_server::store::blocklist::{
@@ -11,14 +13,20 @@ use name_lists::{ListReport, add_list};
 use std::alloc::{AllocError, Global};
 
 /// What is done with blocked names: their addresses are 0.0.0.0 and `::`, whatever their zone has.
-fn blocking() -> BlocklistConfig {
+fn blocking() -> BlocklistConfig
+    ensures action { result.consult_action ≡ Enforce }
+    ensures ipv4 { result.sinkhole_ipv4 ≡ None }
+    ensures ipv6 { result.sinkhole_ipv6 ≡ None }
+{
     let mut config = BlocklistConfig::default();
     config.consult_action = BlocklistConsultAction::Enforce;
     config
 }
 
 /// A list without names. The addresses of what is put on it are 0.0.0.0 and `::`, whatever the zone of a name has.
-pub fn blocklist(alloc: Global) -> Result<BlocklistZoneHandler, AllocError> {
+pub fn blocklist(alloc: Global) -> Result<BlocklistZoneHandler, AllocError>
+    ensures { IfOk result IsEmptyList }
+{
     Ok(BlocklistZoneHandler::new(alloc, Name::root(), blocking())?)
 }
 

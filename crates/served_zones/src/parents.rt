@@ -1,8 +1,7 @@
 //! Zones beside the zones above them, where one server has both.
 
-ghost use Rattle.std.specs.Prelude.{◌≡◌, ◌⊎◌, IfOk, None, OnErr, OnOk, option_map};
-ghost use Rattle.wire_names.specs.rr.domain.NameOrder.{lower_name};
-ghost use Rattle.served_zones.specs.ServedZones.{AnswersFor, IsAbove, IsJoined, IsPlaced, first_zone, zone_in};
+ghost use Rattle.std.specs.Prelude.{◌≡◌, IfOk, None, OnErr, OnOk, option_map};
+ghost use Rattle.served_zones.specs.ServedZones.{AnswersFor, AreJoined, IsAbove, IsPlaced, Joins, first_zone, zone_in};
 
 use crate::chains::{chain, put_chain};
 use crate::handler::{Handler, Zones};
@@ -12,6 +11,15 @@ use hickory_server::store::blocklist::BlocklistZoneHandler;
 use hickory_server::zone_store::Either;
 use std::alloc::{AllocError, Global};
 use std::rc::Rc;
+
+/// A zone that was put into a catalog.
+#[derive(Drop)]
+pub struct Loaded {
+    /// The name of its apex.
+    pub apex: Name,
+    /// The list of blocked names behind it, if there is one.
+    pub list: Option<Rc<BlocklistZoneHandler>>,
+}
 
 /// The handler of a zone, with the zone above it, if there is one.
 fn placed(zone: Rc<AuthoritativeZone>, parent: Option<Rc<AuthoritativeZone>>) -> Handler
@@ -80,8 +88,7 @@ pub fn join_parent(
     apex: &Name,
     list: Option<&Rc<BlocklistZoneHandler>>,
 ) -> Result<(), AllocError>
-    ensures joined { OnOk result (IsJoined (option_map (λ it. it.now.value) list.entry) apex.now catalog.old.zones catalog.new.zones
-        ⊎ (AnswersFor catalog.old.zones (lower_name apex.now) None × (catalog.new.zones ≡ catalog.old.zones))) }
+    ensures joined { OnOk result (Joins (option_map (λ it. it.now.value) list.entry) apex.now catalog.old.zones catalog.new.zones) }
     ensures err { OnErr result (catalog.new.zones ≡ catalog.old.zones) }
     ensures others { catalog.new ≡ record catalog.old { zones = catalog.new.zones } }
 {
@@ -92,5 +99,16 @@ pub fn join_parent(
     let parent = parent_of(catalog, &name)?;
     let chain = chain(alloc, placed(zone, parent), list)?;
     put_chain(alloc, catalog, apex, chain)?;
+    Ok(())
+}
+
+/// Puts each of these zones beside the zone above it, one after the other in this order. Where memory is refused, those before it are.
+pub fn join_parents(alloc: Global, catalog: &mut Zones, loaded: &[Loaded]) -> Result<(), AllocError>
+    ensures joined { OnOk result (AreJoined loaded.now catalog.old.zones catalog.new.zones) }
+    ensures others { catalog.new ≡ record catalog.old { zones = catalog.new.zones } }
+{
+    for zone in loaded {
+        join_parent(alloc, catalog, &zone.apex, zone.list.as_ref())?;
+    }
     Ok(())
 }

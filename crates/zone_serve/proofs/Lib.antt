@@ -1,3 +1,4 @@
+mod Loading
 mod Results
 mod Said
 mod ServedLines

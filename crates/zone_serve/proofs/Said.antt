@@ -6,6 +6,7 @@ use Rattle.std.specs.Cmp.Lexicographic.{pointwise}
 use Rattle.std.specs.List.{AllByRecursion, AllZip, filter}
 use Rattle.std.specs.Option.{option_to_list}
 use Rattle.access_control.specs.Access.{Network}
+use Rattle.access_control.specs.NetworkTexts.{IsNetworkText}
 use Rattle.zone_serve.specs.Arguments.{IsBound, IsZoneText, Options, OptionsSay, behind, bounds_of, files_of, identifiers_of, option_names, words_of}
 use Rattle.zone_serve.specs.declared.arguments.Settings.{Settings}
 use Rattle.zone_serve.specs.declared.arguments.ZoneArgument.{ZoneArgument}
@@ -44,6 +45,12 @@ zip_more R [] more (y ∷ ys) others all behind_them = absurd all
 zip_more R (x ∷ xs) more [] others all behind_them = absurd all
 zip_more R (x ∷ xs) more (y ∷ ys) others all behind_them = (all.0, zip_more R xs more ys others all.1 behind_them)
 
+-- a list grows by what texts spell
+pub record Grows {B : Type 0} (R : Text → B → Type 0) (texts : List Text) (old new : List B) : Type 0 where
+  pub more : List B
+  pub are : new ≡ old ++ more
+  pub all : AllZip R texts more
+
 -- how the settings grow by an option
 pub record Gives (option text : Text) (old new : Settings) : Type 0 where
   pub known : Contains option_names option
@@ -51,10 +58,10 @@ pub record Gives (option text : Text) (old new : Settings) : Type 0 where
   pub zones_are : new.zones.items ≡ old.zones.items ++ more_zones
   pub zones : AllZip IsZoneText (given (codes "--zone") option text) more_zones
   pub files : files_of new ≡ files_of old ++ given (codes "--blocklist") option text
-  pub allowed : length new.allowed.items ≡ length old.allowed.items + length (given (codes "--allow") option text)
-  pub denied : length new.denied.items ≡ length old.denied.items + length (given (codes "--deny") option text)
-  pub transfers_allowed : length new.transfers_allowed.items ≡ length old.transfers_allowed.items + length (given (codes "--allow-transfer") option text)
-  pub transfers_denied : length new.transfers_denied.items ≡ length old.transfers_denied.items + length (given (codes "--deny-transfer") option text)
+  pub allowed : Grows IsNetworkText (given (codes "--allow") option text) old.allowed.items new.allowed.items
+  pub denied : Grows IsNetworkText (given (codes "--deny") option text) old.denied.items new.denied.items
+  pub transfers_allowed : Grows IsNetworkText (given (codes "--allow-transfer") option text) old.transfers_allowed.items new.transfers_allowed.items
+  pub transfers_denied : Grows IsNetworkText (given (codes "--deny-transfer") option text) old.transfers_denied.items new.transfers_denied.items
   pub identifiers : identifiers_of new ≡ identifiers_of old ++ given (codes "--nsid") option text
   pub more_bounds : List ℕ
   pub bounds_are : bounds_of new ≡ bounds_of old ++ more_bounds
@@ -63,11 +70,11 @@ pub record Gives (option text : Text) (old new : Settings) : Type 0 where
 kept : {X : Type 0} (xs ys : List X) → ys ≡ xs → ys ≡ xs ++ []
 kept xs ys same = same ∙ sym (append-nil xs)
 
-none_more : {X : Type 0} (xs ys : List X) → ys ≡ xs → length ys ≡ length xs + 0
-none_more xs ys same = omega (arith, ap length same)
+none_more : (xs ys : List Network) → ys ≡ xs → Grows IsNetworkText [] xs ys
+none_more xs ys same = record { more = []; are = kept xs ys same; all = tt }
 
-one_more : {X : Type 0} (xs ys : List X) (x : X) → ys ≡ xs ++ x ∷ [] → length ys ≡ length xs + 1
-one_more xs ys x same = omega (arith, ap length same, length-append xs (x ∷ []))
+one_more : (text : Text) (xs ys : List Network) (x : Network) → IsNetworkText text x → ys ≡ xs ++ x ∷ [] → Grows IsNetworkText (text ∷ []) xs ys
+one_more text xs ys x spelled same = record { more = x ∷ []; are = same; all = (spelled, tt) }
 
 pub file_more : (files grown : List (Bor Text)) (file : Bor Text) → grown ≡ files ++ file ∷ [] → map (λ (f : Bor Text). f.now) grown ≡ map (λ (f : Bor Text). f.now) files ++ file.now ∷ []
 file_more files grown file is = ap (map (λ (f : Bor Text). f.now)) is ∙ map-append (λ (f : Bor Text). f.now) files (file ∷ [])
@@ -119,15 +126,15 @@ module _ (text : Text) (old new : Settings) where
     bounds = tt;
   }
 
-  pub allow_gives : (network : Network) → new.allowed.items ≡ old.allowed.items ++ network ∷ [] → new.zones.items ≡ old.zones.items → files_of new ≡ files_of old → new.denied.items ≡ old.denied.items
+  pub allow_gives : (network : Network) → IsNetworkText text network → new.allowed.items ≡ old.allowed.items ++ network ∷ [] → new.zones.items ≡ old.zones.items → files_of new ≡ files_of old → new.denied.items ≡ old.denied.items
       → new.transfers_allowed.items ≡ old.transfers_allowed.items → new.transfers_denied.items ≡ old.transfers_denied.items → identifiers_of new ≡ identifiers_of old → bounds_of new ≡ bounds_of old → Gives (codes "--allow") text old new
-  allow_gives network is z f d t u i b = record {
+  allow_gives network spelled is z f d t u i b = record {
     known = (2, omega arith, refl);
     more_zones = [];
     zones_are = kept _ _ z;
     zones = tt;
     files = kept _ _ f;
-    allowed = one_more _ _ network is;
+    allowed = one_more text _ _ network spelled is;
     denied = none_more _ _ d;
     transfers_allowed = none_more _ _ t;
     transfers_denied = none_more _ _ u;
@@ -137,16 +144,16 @@ module _ (text : Text) (old new : Settings) where
     bounds = tt;
   }
 
-  pub deny_gives : (network : Network) → new.denied.items ≡ old.denied.items ++ network ∷ [] → new.zones.items ≡ old.zones.items → files_of new ≡ files_of old → new.allowed.items ≡ old.allowed.items
+  pub deny_gives : (network : Network) → IsNetworkText text network → new.denied.items ≡ old.denied.items ++ network ∷ [] → new.zones.items ≡ old.zones.items → files_of new ≡ files_of old → new.allowed.items ≡ old.allowed.items
       → new.transfers_allowed.items ≡ old.transfers_allowed.items → new.transfers_denied.items ≡ old.transfers_denied.items → identifiers_of new ≡ identifiers_of old → bounds_of new ≡ bounds_of old → Gives (codes "--deny") text old new
-  deny_gives network is z f a t u i b = record {
+  deny_gives network spelled is z f a t u i b = record {
     known = (3, omega arith, refl);
     more_zones = [];
     zones_are = kept _ _ z;
     zones = tt;
     files = kept _ _ f;
     allowed = none_more _ _ a;
-    denied = one_more _ _ network is;
+    denied = one_more text _ _ network spelled is;
     transfers_allowed = none_more _ _ t;
     transfers_denied = none_more _ _ u;
     identifiers = kept _ _ i;
@@ -155,9 +162,9 @@ module _ (text : Text) (old new : Settings) where
     bounds = tt;
   }
 
-  pub allow_transfer_gives : (network : Network) → new.transfers_allowed.items ≡ old.transfers_allowed.items ++ network ∷ [] → new.zones.items ≡ old.zones.items → files_of new ≡ files_of old → new.allowed.items ≡ old.allowed.items
+  pub allow_transfer_gives : (network : Network) → IsNetworkText text network → new.transfers_allowed.items ≡ old.transfers_allowed.items ++ network ∷ [] → new.zones.items ≡ old.zones.items → files_of new ≡ files_of old → new.allowed.items ≡ old.allowed.items
       → new.denied.items ≡ old.denied.items → new.transfers_denied.items ≡ old.transfers_denied.items → identifiers_of new ≡ identifiers_of old → bounds_of new ≡ bounds_of old → Gives (codes "--allow-transfer") text old new
-  allow_transfer_gives network is z f a d u i b = record {
+  allow_transfer_gives network spelled is z f a d u i b = record {
     known = (4, omega arith, refl);
     more_zones = [];
     zones_are = kept _ _ z;
@@ -165,7 +172,7 @@ module _ (text : Text) (old new : Settings) where
     files = kept _ _ f;
     allowed = none_more _ _ a;
     denied = none_more _ _ d;
-    transfers_allowed = one_more _ _ network is;
+    transfers_allowed = one_more text _ _ network spelled is;
     transfers_denied = none_more _ _ u;
     identifiers = kept _ _ i;
     more_bounds = [];
@@ -173,9 +180,9 @@ module _ (text : Text) (old new : Settings) where
     bounds = tt;
   }
 
-  pub deny_transfer_gives : (network : Network) → new.transfers_denied.items ≡ old.transfers_denied.items ++ network ∷ [] → new.zones.items ≡ old.zones.items → files_of new ≡ files_of old → new.allowed.items ≡ old.allowed.items
+  pub deny_transfer_gives : (network : Network) → IsNetworkText text network → new.transfers_denied.items ≡ old.transfers_denied.items ++ network ∷ [] → new.zones.items ≡ old.zones.items → files_of new ≡ files_of old → new.allowed.items ≡ old.allowed.items
       → new.denied.items ≡ old.denied.items → new.transfers_allowed.items ≡ old.transfers_allowed.items → identifiers_of new ≡ identifiers_of old → bounds_of new ≡ bounds_of old → Gives (codes "--deny-transfer") text old new
-  deny_transfer_gives network is z f a d t i b = record {
+  deny_transfer_gives network spelled is z f a d t i b = record {
     known = (5, omega arith, refl);
     more_zones = [];
     zones_are = kept _ _ z;
@@ -184,7 +191,7 @@ module _ (text : Text) (old new : Settings) where
     allowed = none_more _ _ a;
     denied = none_more _ _ d;
     transfers_allowed = none_more _ _ t;
-    transfers_denied = one_more _ _ network is;
+    transfers_denied = one_more text _ _ network spelled is;
     identifiers = kept _ _ i;
     more_bounds = [];
     bounds_are = kept _ _ b;
@@ -237,19 +244,15 @@ module _ (options : Options) (option text : Text) (old new : Settings) (say : Op
   listed : (name : Text) (were are : List Text) → were ≡ behind name options → are ≡ were ++ given name option text → are ≡ behind name (options ++ (option, text) ∷ [])
   listed name were are was is = is ∙ ap (λ (l : List Text). l ++ given name option text) was ∙ sym (behind_more name options option text)
 
-  counted : (name : Text) (was is : ℕ) → was ≡ length (behind name options) → is ≡ was + length (given name option text) → is ≡ length (behind name (options ++ (option, text) ∷ []))
-  counted name was is before now =
-      now ∙ ap (λ (n : ℕ). n + length (given name option text)) before ∙ sym (length-append (behind name options) (given name option text)) ∙ ap length (sym (behind_more name options option text))
-
   pub say_more : OptionsSay (options ++ (option, text) ∷ []) new
   say_more = record {
     known = known_more options option text say.known gives.known;
     zones = zipped IsZoneText (codes "--zone") old.zones.items gives.more_zones new.zones.items gives.zones_are say.zones gives.zones;
     blocklists = listed (codes "--blocklist") _ _ say.blocklists gives.files;
-    allowed = counted (codes "--allow") _ _ say.allowed gives.allowed;
-    denied = counted (codes "--deny") _ _ say.denied gives.denied;
-    transfers_allowed = counted (codes "--allow-transfer") _ _ say.transfers_allowed gives.transfers_allowed;
-    transfers_denied = counted (codes "--deny-transfer") _ _ say.transfers_denied gives.transfers_denied;
+    allowed = zipped IsNetworkText (codes "--allow") old.allowed.items gives.allowed.more new.allowed.items gives.allowed.are say.allowed gives.allowed.all;
+    denied = zipped IsNetworkText (codes "--deny") old.denied.items gives.denied.more new.denied.items gives.denied.are say.denied gives.denied.all;
+    transfers_allowed = zipped IsNetworkText (codes "--allow-transfer") old.transfers_allowed.items gives.transfers_allowed.more new.transfers_allowed.items gives.transfers_allowed.are say.transfers_allowed gives.transfers_allowed.all;
+    transfers_denied = zipped IsNetworkText (codes "--deny-transfer") old.transfers_denied.items gives.transfers_denied.more new.transfers_denied.items gives.transfers_denied.are say.transfers_denied gives.transfers_denied.all;
     identifier = listed (codes "--nsid") _ _ say.identifier gives.identifiers;
     max_udp = zipped IsBound (codes "--max-udp") (bounds_of old) gives.more_bounds (bounds_of new) gives.bounds_are say.max_udp gives.bounds;
   }

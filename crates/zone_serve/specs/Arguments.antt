@@ -4,6 +4,7 @@ use Rattle.std.specs.Cmp.Lexicographic.{pointwise}
 use Rattle.std.specs.List.{AllByRecursion, AllZip, after_first, before_first, filter, flat_map, position_or_len}
 use Rattle.std.specs.Option.{option_to_list}
 use Rattle.std.specs.Str.Parse.{IsNumeral, digits_value, without_leading_plus}
+use Rattle.access_control.specs.NetworkTexts.{IsNetworkText}
 use Rattle.zone_serve.specs.declared.arguments.Mode.{Mode}
 use Rattle.zone_serve.specs.declared.arguments.Mode.TheVariants.{Lines, Tcp, Udp}
 use Rattle.zone_serve.specs.declared.arguments.Settings.{Settings}
@@ -53,15 +54,15 @@ identifiers_of settings = option_to_list (option_map (λ it. it.0.now) settings.
 abbrev pub bounds_of : Settings → List ℕ
 bounds_of settings = option_to_list settings.max_udp
 
--- What options say: zones, lists and networks are those behind their options, in their order; `--nsid` and `--max-udp` stand once at most.
+-- What options say: zones, lists and networks are those that the texts behind their options spell, in their order; `--nsid` and `--max-udp` stand once at most.
 pub record OptionsSay (options : Options) (settings : Settings) : Type 0 where
   pub known : AllByRecursion (λ option. Contains option_names option.0) options
   pub zones : AllZip IsZoneText (behind (codes "--zone") options) settings.zones.items
   pub blocklists : files_of settings ≡ behind (codes "--blocklist") options
-  pub allowed : length settings.allowed.items ≡ length (behind (codes "--allow") options)
-  pub denied : length settings.denied.items ≡ length (behind (codes "--deny") options)
-  pub transfers_allowed : length settings.transfers_allowed.items ≡ length (behind (codes "--allow-transfer") options)
-  pub transfers_denied : length settings.transfers_denied.items ≡ length (behind (codes "--deny-transfer") options)
+  pub allowed : AllZip IsNetworkText (behind (codes "--allow") options) settings.allowed.items
+  pub denied : AllZip IsNetworkText (behind (codes "--deny") options) settings.denied.items
+  pub transfers_allowed : AllZip IsNetworkText (behind (codes "--allow-transfer") options) settings.transfers_allowed.items
+  pub transfers_denied : AllZip IsNetworkText (behind (codes "--deny-transfer") options) settings.transfers_denied.items
   pub identifier : identifiers_of settings ≡ behind (codes "--nsid") options
   pub max_udp : AllZip IsBound (behind (codes "--max-udp") options) (bounds_of settings)
 

@@ -1,6 +1,7 @@
 //! What the program is started with.
 
 ghost use Rattle.std.specs.Prelude.{◌≡◌, [], IfOk, IfSome, OnOk, map, string_bytes};
+ghost use Rattle.access_control.specs.NetworkTexts.{IsNetworkText};
 ghost use Rattle.zone_serve.specs.Arguments.{ArgumentsSay, IsBound, IsZoneText, OptionsSay, Takes, mode_word};
 
 use hickory_server::access::{IpNet, IpNetTextError};
@@ -212,9 +213,13 @@ fn behind_mode<'a>(word: &'a str, place: usize) -> ArgumentFault<'a> {
 }
 
 /// The network that an argument spells.
-fn network<'a>(text: &str, place: usize) -> Result<IpNet, ArgumentFault<'a>> {
-    text.parse::<IpNet>()
-        .map_err(|fault| ArgumentFault::Network { place, fault })
+fn network<'a>(text: &str, place: usize) -> Result<IpNet, ArgumentFault<'a>>
+    ensures { IfOk result (IsNetworkText text.now) }
+{
+    match text.parse::<IpNet>() {
+        Ok(network) => Ok(network),
+        Err(fault) => Err(ArgumentFault::Network { place, fault }),
+    }
 }
 
 /// The bound on replies over UDP that an argument spells.

@@ -1,7 +1,8 @@
 //! The list of blocked names, from its files.
 
-ghost use Rattle.std.specs.Prelude.{◌≡◌, ◌<◌, IfOk};
+ghost use Rattle.std.specs.Prelude.{◌≡◌, ◌<◌, IfOk, OnOk, length, option_map};
 ghost use Rattle.name_lists.specs.Adding.{AddsList};
+ghost use Rattle.zone_serve.specs.Catalogs.{AddsFile, AddsFiles, IsListOf};
 
 use crate::fault::Fault;
 use crate::files::{FileFault, bytes_of};
@@ -50,6 +51,7 @@ fn add_text(
 ) -> Result<ListReport, ListFault>
     ensures ok { IfOk result (λ report. AddsList bytes.now list.old.entries list.new.entries report) }
     ensures some { IfOk result (λ report. 0 < report.taken) }
+    ensures others { list.new ≡ record list.old { entries = list.new.entries } }
 {
     let report = lists::add_names(alloc, list, bytes)?;
     if report.taken() > 0 {
@@ -64,7 +66,9 @@ fn add_list<R: Files + Alloc<A = Global>>(
     rt: &R,
     list: &mut BlocklistZoneHandler,
     file: &str,
-) -> Result<ListReport, ListFault> {
+) -> Result<ListReport, ListFault>
+    ensures { OnOk result (AddsFile list.old list.new) }
+{
     let bytes = bytes_of(rt, file)?;
     add_text(rt.alloc(), list, bytes.as_slice())
 }
@@ -90,21 +94,35 @@ fn tell_of_skipped<R: Eprint>(rt: &R, file: &str, report: &ListReport) {
     }
 }
 
-/// The list with the names of these files, if there are files. What of them is skipped is told on the standard error.
-pub fn blocklist<R: Files + Eprint + Alloc<A = Global>>(
+/// Adds the names of each of these files to those that are blocked, in their order. What of them is skipped is told on the standard error.
+fn add_lists<R: Files + Eprint + Alloc<A = Global>>(
     rt: &R,
+    list: &mut BlocklistZoneHandler,
     files: &[&str],
-) -> Result<Option<Rc<BlocklistZoneHandler>>, Fault> {
-    if files.is_empty() {
-        return Ok(None);
-    }
-    let mut list = lists::blocklist(rt.alloc())?;
+) -> Result<(), Fault>
+    ensures { OnOk result (AddsFiles (length files.now) list.old list.new) }
+{
     for place in 0..files.len() {
-        match add_list(rt, &mut list, files[place]) {
+        match add_list(rt, list, files[place]) {
             Ok(report) => tell_of_skipped(rt, files[place], &report),
             Err(ListFault::Memory) => return Err(Fault::Memory),
             Err(fault) => return Err(Fault::List { place, fault }),
         }
     }
+    Ok(())
+}
+
+/// The list with the names of these files, if there are files. What of them is skipped is told on the standard error.
+pub fn blocklist<R: Files + Eprint + Alloc<A = Global>>(
+    rt: &R,
+    files: &[&str],
+) -> Result<Option<Rc<BlocklistZoneHandler>>, Fault>
+    ensures { IfOk result (λ list. IsListOf (length files.now) (option_map (λ it. it.value) list)) }
+{
+    if files.is_empty() {
+        return Ok(None);
+    }
+    let mut list = lists::blocklist(rt.alloc())?;
+    add_lists(rt, &mut list, files)?;
     Ok(Some(Rc::new(rt.alloc(), list)?))
 }

@@ -8,9 +8,11 @@
 //! file is not taken.
 #![tactic(auto)]
 
-ghost use Rattle.std.specs.Prelude.{IfOk, None, OnOk, option_map};
+ghost use Rattle.std.specs.Prelude.{◌≡◌, IfOk, MatchOption, None, map, option_map};
+ghost use Rattle.access_control.specs.Access.{SameNetworks};
 ghost use Rattle.hickory_base.specs.zone_store.ZoneAnswers.{MemoryZone};
-ghost use Rattle.served_zones.specs.ServedZones.{IsLoaded, IsPlaced, IsServedZone};
+ghost use Rattle.served_zones.specs.ServedZones.{AreLoaded, IsLoadedAs, IsPlaced, IsServedZone};
+ghost use Rattle.zone_serve.specs.Catalogs.{AreZonesOf};
 
 mod arguments;
 mod fault;
@@ -37,9 +39,9 @@ use hickory_server::store::blocklist::BlocklistZoneHandler;
 use hickory_server::zone_handler::Catalog;
 use served_zones::chains::{chain, put_chain};
 use served_zones::handler::{Handler, Zones};
-use served_zones::parents::{alone, join_parent};
+use served_zones::parents::{Loaded, alone, join_parents};
 use served_zones::zones::zone_of_file;
-use std::alloc::Global;
+use std::alloc::{AllocError, Global};
 use std::env::VarError;
 use std::net::{IpAddr, Ipv4Addr};
 use std::process::ExitCode;
@@ -95,6 +97,18 @@ fn load_zone<R: Files + Alloc<A = Global>>(
     Ok(alone(rt.alloc(), zone)?)
 }
 
+/// The list of blocked names once more, if there is one.
+fn shared(
+    list: Option<&Rc<BlocklistZoneHandler>>,
+) -> Result<Option<Rc<BlocklistZoneHandler>>, AllocError>
+    ensures { IfOk result (λ shared. option_map (λ it. it.value) shared ≡ option_map (λ it. it.now.value) list.entry) }
+{
+    match list {
+        Some(list) => Ok(Some(list.clone()?)),
+        None => Ok(None),
+    }
+}
+
 /// Puts the zone of an argument into the catalog, the one at this place among the zones, with the list of blocked names behind it.
 fn load<R: Files + Alloc<A = Global>>(
     rt: &R,
@@ -102,8 +116,9 @@ fn load<R: Files + Alloc<A = Global>>(
     argument: ZoneArgument<'_>,
     place: usize,
     list: Option<&Rc<BlocklistZoneHandler>>,
-) -> Result<(), Fault>
-    ensures { OnOk result (IsLoaded (option_map (λ it. it.now.value) list.entry) catalog.old.zones catalog.new.zones) }
+) -> Result<Loaded, Fault>
+    ensures loaded { IfOk result (λ loaded. IsLoadedAs argument.entry.name.now (option_map (λ it. it.now.value) list.entry) loaded catalog.old.zones catalog.new.zones) }
+    ensures others { catalog.new ≡ record catalog.old { zones = catalog.new.zones } }
 {
     let apex = apex_of(rt.alloc(), argument.name, argument.place)?;
     let zone = match load_zone(rt, &apex, argument.file) {
@@ -112,52 +127,64 @@ fn load<R: Files + Alloc<A = Global>>(
         Err(fault) => return Err(Fault::Zone { place, fault }),
     };
     let chain = chain(rt.alloc(), zone, list)?;
+    let list = shared(list)?;
     if put_chain(rt.alloc(), catalog, &apex, chain)? {
-        Ok(())
+        Ok(Loaded { apex, list })
     } else {
         Err(Fault::ZoneTwice { place })
     }
 }
 
-/// Puts each zone of the arguments beside the zone above it, if there is one.
-fn join_parents(
-    alloc: Global,
-    catalog: &mut Zones,
-    settings: &Settings<'_>,
-    list: Option<&Rc<BlocklistZoneHandler>>,
-) -> Result<(), Fault> {
-    for place in 0..settings.zones.len() {
-        let argument = settings.zones[place];
-        let apex = apex_of(alloc, argument.name, argument.place)?;
-        join_parent(alloc, catalog, &apex, list)?;
-    }
-    Ok(())
-}
-
-/// Puts the zones of the arguments into the catalog, each beside the zone above it, with the list of blocked names behind them.
+/// Puts the zones of the arguments into the catalog, in their order, with the list of blocked names behind them.
 fn load_zones<R: Files + Alloc<A = Global>>(
     rt: &R,
     catalog: &mut Zones,
-    settings: &Settings<'_>,
+    arguments: &[ZoneArgument<'_>],
     list: Option<&Rc<BlocklistZoneHandler>>,
-) -> Result<(), Fault> {
-    for place in 0..settings.zones.len() {
-        load(rt, catalog, settings.zones[place], place, list)?;
+) -> Result<Vec<Loaded>, Fault>
+    ensures loaded { IfOk result (λ loaded. AreLoaded (option_map (λ it. it.now.value) list.entry) (map (λ zone. zone.name.now) arguments.now) loaded.items catalog.old.zones catalog.new.zones) }
+    ensures others { catalog.new ≡ record catalog.old { zones = catalog.new.zones } }
+{
+    let mut loaded = Vec::new(rt.alloc());
+    for place in 0..arguments.len() {
+        loaded.push(load(rt, catalog, arguments[place], place, list)?)?;
     }
-    join_parents(rt.alloc(), catalog, settings, list)
+    Ok(loaded)
 }
 
-/// The catalog that the arguments ask for.
+/// The catalog that the arguments ask for: each zone beside the one above it, with the list of blocked names behind it.
 fn catalog<R: Files + Eprint + Alloc<A = Global>>(
     rt: &R,
     settings: &Settings<'_>,
-) -> Result<Zones, Fault> {
+) -> Result<Zones, Fault>
+    ensures zones { IfOk result (λ catalog. AreZonesOf settings.now catalog.zones) }
+    ensures identifier { IfOk result (λ catalog. catalog.nsid ≡ option_map (λ it. it.0.now) settings.now.identifier) }
+{
     let alloc = rt.alloc();
     let list = blocklist(rt, &settings.blocklists)?;
     let mut catalog = Catalog::new(alloc, NoKeys);
     catalog.set_nsid(identifier_of(alloc, settings)?);
-    load_zones(rt, &mut catalog, settings, list.as_ref())?;
+    let loaded = load_zones(rt, &mut catalog, &settings.zones, list.as_ref())?;
+    join_parents(alloc, &mut catalog, &loaded)?;
     Ok(catalog)
+}
+
+/// The server that the arguments ask for.
+fn server_for<R: Files + Eprint + Alloc<A = Global>>(
+    rt: &R,
+    settings: &Settings<'_>,
+) -> Result<Server<NoKeys, Handler>, Fault>
+    ensures denied { IfOk result (λ server. SameNetworks settings.now.denied.items server.rules.access.deny) }
+    ensures allowed { IfOk result (λ server. SameNetworks settings.now.allowed.items server.rules.access.allow) }
+    ensures transfers_denied { IfOk result (λ server. SameNetworks settings.now.transfers_denied.items server.rules.transfers.deny) }
+    ensures transfers_allowed { IfOk result (λ server. SameNetworks settings.now.transfers_allowed.items server.rules.transfers.allow) }
+    ensures limit { IfOk result (λ server. MatchOption settings.now.max_udp (server.rules.max_udp ≡ 1232) (λ limit. server.rules.max_udp ≡ limit)) }
+    ensures zones { IfOk result (λ server. AreZonesOf settings.now server.catalog.zones) }
+    ensures identifier { IfOk result (λ server. server.catalog.nsid ≡ option_map (λ it. it.0.now) settings.now.identifier) }
+{
+    let alloc = rt.alloc();
+    let rules = rules_of(alloc, settings)?;
+    Ok(Server::new(alloc, rules, catalog(rt, settings)?)?)
 }
 
 /// Serves the standard input as the arguments say.
@@ -167,8 +194,7 @@ fn serve<R: Files + Env + Clock + Input + Print + Eprint + Alloc<A = Global>>(
     address: IpAddr,
 ) -> Result<(), Fault> {
     let alloc = rt.alloc();
-    let rules = rules_of(alloc, settings)?;
-    let mut server = Server::new(alloc, rules, catalog(rt, settings)?)?;
+    let mut server = server_for(rt, settings)?;
     let mut reader = rt.reader();
     let mut writer = io::writer(rt);
     match settings.mode {

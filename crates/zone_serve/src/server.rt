@@ -1,7 +1,8 @@
 //! The server: who may use it, and what it serves.
 
-ghost use Rattle.std.specs.Prelude.{◌≡◌, IfOk, MatchOption};
+ghost use Rattle.std.specs.Prelude.{◌≡◌, IfOk, MatchOption, option_map};
 ghost use Rattle.access_control.specs.Access.{SameNetworks};
+ghost use Rattle.served_zones.specs.ServedZones.{IsApexText};
 
 use crate::arguments::Settings;
 use crate::fault::Fault;
@@ -34,7 +35,9 @@ pub fn rules_of(alloc: Global, settings: &Settings<'_>) -> Result<Rules, AllocEr
 }
 
 /// The name of the apex of a zone. `place` tells which argument it is.
-pub fn apex_of(alloc: Global, text: &str, place: usize) -> Result<Name, Fault> {
+pub fn apex_of(alloc: Global, text: &str, place: usize) -> Result<Name, Fault>
+    ensures { IfOk result (IsApexText text.now) }
+{
     match apex(alloc, text) {
         Ok(name) => Ok(name),
         Err(NameError::Text) => Err(Fault::ZoneName { place }),
@@ -43,7 +46,9 @@ pub fn apex_of(alloc: Global, text: &str, place: usize) -> Result<Name, Fault> {
 }
 
 /// The identifier that the arguments ask for.
-pub fn identifier_of(alloc: Global, settings: &Settings<'_>) -> Result<Option<NSIDPayload>, Fault> {
+pub fn identifier_of(alloc: Global, settings: &Settings<'_>) -> Result<Option<NSIDPayload>, Fault>
+    ensures { IfOk result (λ identifier. identifier ≡ option_map (λ it. it.0.now) settings.now.identifier) }
+{
     let Some((text, place)) = settings.identifier else {
         return Ok(None);
     };

@@ -19,16 +19,16 @@ returns c = λ options say.
           (blocklist_gives c.args.text.now c.args.self.now _ (file_more _ _ _ w.in_ok-push-in-text-2.ensures.items) refl refl refl refl refl refl refl))
       | in-text-3+in_ok-network-in-text-3+in_ok-push-in-text-3 w ↦ rw (w.self-is, w.in-text-3.is)
           (say_more options (codes "--allow") c.args.text.now c.args.self.now _ say
-          (allow_gives c.args.text.now c.args.self.now _ _ w.in_ok-push-in-text-3.ensures.items refl refl refl refl refl refl refl))
+          (allow_gives c.args.text.now c.args.self.now _ w.in_ok-network-in-text-3.field-0 w.in_ok-network-in-text-3.ensures w.in_ok-push-in-text-3.ensures.items refl refl refl refl refl refl refl))
       | in-text-4+in_ok-network-in-text-4+in_ok-push-in-text-4 w ↦ rw (w.self-is, w.in-text-4.is)
           (say_more options (codes "--deny") c.args.text.now c.args.self.now _ say
-          (deny_gives c.args.text.now c.args.self.now _ _ w.in_ok-push-in-text-4.ensures.items refl refl refl refl refl refl refl))
+          (deny_gives c.args.text.now c.args.self.now _ w.in_ok-network-in-text-4.field-0 w.in_ok-network-in-text-4.ensures w.in_ok-push-in-text-4.ensures.items refl refl refl refl refl refl refl))
       | in-text-5+in_ok-network-in-text-5+in_ok-push-in-text-5 w ↦ rw (w.self-is, w.in-text-5.is)
           (say_more options (codes "--allow-transfer") c.args.text.now c.args.self.now _ say
-          (allow_transfer_gives c.args.text.now c.args.self.now _ _ w.in_ok-push-in-text-5.ensures.items refl refl refl refl refl refl refl))
+          (allow_transfer_gives c.args.text.now c.args.self.now _ w.in_ok-network-in-text-5.field-0 w.in_ok-network-in-text-5.ensures w.in_ok-push-in-text-5.ensures.items refl refl refl refl refl refl refl))
       | in-text-6+in_ok-network-in-text-6+in_ok-push-in-text-6 w ↦ rw (w.self-is, w.in-text-6.is)
           (say_more options (codes "--deny-transfer") c.args.text.now c.args.self.now _ say
-          (deny_transfer_gives c.args.text.now c.args.self.now _ _ w.in_ok-push-in-text-6.ensures.items refl refl refl refl refl refl refl))
+          (deny_transfer_gives c.args.text.now c.args.self.now _ w.in_ok-network-in-text-6.field-0 w.in_ok-network-in-text-6.ensures w.in_ok-push-in-text-6.ensures.items refl refl refl refl refl refl refl))
       | in-text-7 w ↦ rw (w.self-is, w.in-text-7.is)
           (say_more options (codes "--nsid") c.args.text.now c.args.self.now _ say
           (nsid_gives c.args.text.now c.args.self.now _ (first_one c.args.self.now.identifier _ c.args.text.now (not_there _ _ w.is_none.ensures w.if-is_none.true)) refl refl refl refl refl refl refl))

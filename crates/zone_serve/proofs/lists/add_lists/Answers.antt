@@ -1,0 +1,8 @@
+use Rattle.zone_serve.proofs.Loading.{files_more, no_files}
+use Rattle.zone_serve.proofs.lists.add_lists.Goals as goal
+
+pub loop-place-init : goal.loop-place-init
+loop-place-init g c = no_files c.args.list.now
+
+pub loop-place-preserved : goal.loop-place-preserved
+loop-place-preserved g c = files_more c.loop-place.place c.args.list.now c.loop-place.list c.add_list.new.list c.loop-place.invariant c.in-Ok.ensures
