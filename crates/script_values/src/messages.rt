@@ -29,8 +29,7 @@ fn tell_name(alloc: Global, bytes: &[u8], is_behind_header: bool, out: &mut Outp
     match read_name(alloc, bytes, is_behind_header) {
         Ok((name, end)) => {
             out.put_value(&name);
-            out.put(" ends at ");
-            out.put_value(&end);
+            out.put_field(" ends at ", &end);
             out.put("\n");
         }
         Err(e) => put_fault(e, out),
@@ -42,8 +41,7 @@ fn tell_question(alloc: Global, bytes: &[u8], out: &mut Output) {
     match read_question(alloc, bytes) {
         Ok((question, end)) => {
             out.put_value(&question);
-            out.put(" ends at ");
-            out.put_value(&end);
+            out.put_field(" ends at ", &end);
             out.put("\n");
         }
         Err(e) => put_fault(e, out),
@@ -54,8 +52,7 @@ fn tell_question(alloc: Global, bytes: &[u8], out: &mut Output) {
 fn tell_parts(alloc: Global, bytes: &[u8], out: &mut Output) {
     match read_parts(alloc, bytes) {
         Ok(ends) => {
-            out.put_value(&ends);
-            out.put("\n");
+            out.put_line(&ends);
         }
         Err(e) => put_fault(e, out),
     }
@@ -63,7 +60,10 @@ fn tell_parts(alloc: Global, bytes: &[u8], out: &mut Output) {
 
 /// The fault of a message, if there is one.
 fn fault_of(alloc: Global, bytes: &[u8]) -> Result<Option<DecodeError>, Fault> {
-    match BinDecoder::new(bytes).read_message(alloc) {
+    let mut decoder = BinDecoder::new(bytes);
+    let read = decoder.read_message(alloc);
+    drop(decoder);
+    match read {
         Ok(message) => {
             drop(message);
             Ok(None)
@@ -76,8 +76,7 @@ fn fault_of(alloc: Global, bytes: &[u8]) -> Result<Option<DecodeError>, Fault> {
 /// Puts what fronts of so many bytes read as behind a text.
 fn put_fronts(first: usize, last: usize, fault: Option<DecodeError>, out: &mut Output) {
     out.put_value(&first);
-    out.put(" to ");
-    out.put_value(&last);
+    out.put_field(" to ", &last);
     out.put(" bytes: ");
     match fault {
         None => out.put("a message\n"),
@@ -201,8 +200,7 @@ fn put_copies(message: &Message, out: &mut Output) -> Result<(), AllocError> {
     let pairs = count_equal_pairs(message.answers.as_slice());
     out.put("copies are ");
     out.put(copies);
-    out.put(", equal pairs of answers ");
-    out.put_value(&pairs);
+    out.put_field(", equal pairs of answers ", &pairs);
     out.put("\n");
     Ok(())
 }

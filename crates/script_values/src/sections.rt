@@ -26,13 +26,24 @@ pub struct Sections {
     pub additionals: Vec<Record>,
 }
 
-/// Copies of records.
-pub fn copies(alloc: Global, records: &[Record]) -> Result<Items<Record>, AllocError> {
-    let mut copies = Items::new(alloc);
+/// Puts copies of records behind others.
+pub fn put_copies(copies: &mut Items<Record>, records: &[Record]) -> Result<(), AllocError> {
     for record in records {
         copies.push(record.clone()?)?;
     }
-    Ok(copies)
+    Ok(())
+}
+
+/// Copies of records.
+pub fn copies(alloc: Global, records: &[Record]) -> Result<Items<Record>, AllocError> {
+    let mut copies = Items::new(alloc);
+    match put_copies(&mut copies, records) {
+        Ok(()) => Ok(copies),
+        Err(e) => {
+            drop(copies);
+            Err(e)
+        }
+    }
 }
 
 /// The first of some records, if there is one.

@@ -104,16 +104,13 @@ impl<'a> Asked<'a> {
     /// Puts the numbers that are there behind a line.
     fn put_numbers(&self, line: &mut Output) {
         if let Some(answers) = self.answers {
-            line.put(" answers=");
-            line.put_value(&answers);
+            line.put_field(" answers=", &answers);
         }
         if let Some(iterations) = self.iterations {
-            line.put(" iterations=");
-            line.put_value(&iterations);
+            line.put_field(" iterations=", &iterations);
         }
         if let Some(id) = self.id {
-            line.put(" id=");
-            line.put_value(&id);
+            line.put_field(" id=", &id);
         }
     }
 
@@ -132,19 +129,16 @@ impl<'a> Asked<'a> {
     fn put_subject(&self, line: &mut Output) {
         line.put(" ");
         line.put(self.call);
-        line.put(" ");
-        line.put_value(self.name);
+        line.put_field(" ", self.name);
         if let Some(record_type) = self.record_type {
-            line.put(" ");
-            line.put_value(&record_type);
+            line.put_field(" ", &record_type);
         }
     }
 
     /// The line of the call of the handler at this place of its chain.
     fn line(&self, alloc: Global, place: usize) -> Result<String, AllocError> {
         let mut line = Output::new(alloc);
-        line.put("  ");
-        line.put_value(&place);
+        line.put_field("  ", &place);
         self.put_subject(&mut line);
         self.put_numbers(&mut line);
         self.put_flags(&mut line);

@@ -7,6 +7,7 @@ use hickory_wire::Record;
 use script_values::fault::Fault;
 use script_values::output::Output;
 use script_values::text;
+use script_values::updates::Updates;
 use script_values::words::behind_word;
 use std::alloc::Global;
 use zone_text::read_record;
@@ -83,7 +84,7 @@ fn verify(zones: &mut Zones, alloc: Global, out: &mut Output) -> Result<(), Faul
     let zone = last_updatable(zones)?;
     let answer = zone.verify_prerequisites(alloc, &zones.updates.prerequisites);
     zones.updates.prerequisites.clear();
-    print_code(zones, alloc, out, &answer);
+    print_code(&zones.log, alloc, out, &answer);
     Ok(())
 }
 
@@ -105,7 +106,7 @@ fn scan(zones: &mut Zones, alloc: Global, out: &mut Output) -> Result<(), Fault>
     let zone = last_updatable(zones)?;
     let answer = zone.pre_scan(&zones.updates.changes);
     zones.updates.changes.clear();
-    print_code(zones, alloc, out, &answer.map_err(UpdateFault::Code));
+    print_code(&zones.log, alloc, out, &answer.map_err(UpdateFault::Code));
     Ok(())
 }
 
@@ -118,19 +119,15 @@ fn scan_with(zones: &mut Zones, alloc: Global, text: &str, out: &mut Output) -> 
 }
 
 /// Adds a prerequisite to the update.
-fn require(zones: &mut Zones, alloc: Global, words: &[&str], text: &str) -> Result<(), Fault> {
+fn require(updates: &mut Updates, alloc: Global, words: &[&str], text: &str) -> Result<(), Fault> {
     let record = prerequisite(alloc, words, text)?;
-    zones
-        .updates
-        .prerequisites
-        .push(record)
-        .map_err(Fault::from)
+    updates.prerequisites.push(record).map_err(Fault::from)
 }
 
 /// Adds a change to the update.
-fn add(zones: &mut Zones, alloc: Global, words: &[&str], text: &str) -> Result<(), Fault> {
+fn add(updates: &mut Updates, alloc: Global, words: &[&str], text: &str) -> Result<(), Fault> {
     let record = change(alloc, words, text)?;
-    zones.updates.changes.push(record).map_err(Fault::from)
+    updates.changes.push(record).map_err(Fault::from)
 }
 
 /// Obeys a command on the sections of an update, if it is one.
@@ -142,8 +139,8 @@ pub fn obey(
     out: &mut Output,
 ) -> Option<Result<(), Fault>> {
     Some(match words {
-        ["prereq", words @ ..] => require(zones, alloc, words, behind_word(line)),
-        ["update", words @ ..] => add(zones, alloc, words, behind_word(line)),
+        ["prereq", words @ ..] => require(&mut zones.updates, alloc, words, behind_word(line)),
+        ["update", words @ ..] => add(&mut zones.updates, alloc, words, behind_word(line)),
         ["prerequisites"] => verify(zones, alloc, out),
         ["prerequisites", ..] => verify_with(zones, alloc, behind_word(line), out),
         ["prescan"] => scan(zones, alloc, out),
