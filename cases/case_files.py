@@ -11,7 +11,8 @@ REPOSITORY = os.path.dirname(FOLDER)
 # The folders of cases below this one, and the program that each is for.
 PROGRAMS = {
     "": "zone_script", "zone_reply": "zone_reply", "zone_serve": "zone_serve", "tests_server": "tests_server",
-    "tests_zones": "tests_zones", "tests_lists": "tests_lists", "tests_tsig": "tests_tsig", "check_zone": "check_zone",
+    "tests_zones": "tests_zones", "tests_lists": "tests_lists", "tests_tsig": "tests_tsig", "tests_signed": "tests_signed",
+    "check_zone": "check_zone",
 }
 
 # The folders of files that programs may be told to read, by the names that their arguments use.
