@@ -35,7 +35,8 @@ fn tell_type(word: &str, out: &mut Output) -> Result<(), Fault> {
         Err(_) => word.parse::<RecordType>()?,
     };
     out.put_value(&record_type);
-    out.put_field(", number ", &record_type.value());
+    out.put(", number ");
+    out.put_value(&record_type.value());
     out.put("\n");
     Ok(())
 }
@@ -47,7 +48,8 @@ fn tell_class(word: &str, out: &mut Output) -> Result<(), Fault> {
         Err(_) => word.parse::<DNSClass>()?,
     };
     out.put_value(&class);
-    out.put_field(", number ", &class.value());
+    out.put(", number ");
+    out.put_value(&class.value());
     out.put("\n");
     Ok(())
 }
@@ -55,7 +57,8 @@ fn tell_class(word: &str, out: &mut Output) -> Result<(), Fault> {
 /// Puts a kind of request behind a text.
 fn put_op_code(code: OpCode, out: &mut Output) {
     out.put_value(&code);
-    out.put_field(", number ", &code.value());
+    out.put(", number ");
+    out.put_value(&code.value());
     out.put("\n");
 }
 
@@ -77,9 +80,12 @@ fn tell_op_code(word: &str, out: &mut Output) -> Result<(), Fault> {
 /// Puts a response code behind a text, with its bits in the OPT record and in the header.
 fn put_status(code: ResponseCode, out: &mut Output) {
     out.put_value(&code);
-    out.put_field(", number ", &code.value());
-    out.put_field(", high bits ", &code.high());
-    out.put_field(", low bits ", &code.low());
+    out.put(", number ");
+    out.put_value(&code.value());
+    out.put(", high bits ");
+    out.put_value(&code.high());
+    out.put(", low bits ");
+    out.put_value(&code.low());
     out.put("\n");
 }
 
@@ -113,7 +119,8 @@ fn join_status(high: &str, low: &str, out: &mut Output) -> Result<(), Fault> {
 fn tell_identifier(bytes: Vec<u8>, out: &mut Output) {
     match NSIDPayload::new(bytes) {
         Ok(identifier) => {
-            out.put_field("an identifier of ", &identifier.as_slice().len());
+            out.put("an identifier of ");
+            out.put_value(&identifier.as_slice().len());
             out.put(" bytes\n");
         }
         Err(e) => put_proto_fault(e, out),
@@ -163,7 +170,8 @@ fn put_lent_failure(failure: &LookupError, out: &mut Output) {
     out.put("\n");
     if let Some(authorities) = failure.authorities() {
         for record in authorities {
-            out.put_field("  authority ", record);
+            out.put("  authority ");
+            out.put_value(record);
             out.put("\n");
         }
     }
@@ -172,7 +180,8 @@ fn put_lent_failure(failure: &LookupError, out: &mut Output) {
 /// Puts the SOA record of a failure behind a text.
 fn put_soa(failure: LookupError, out: &mut Output) {
     if let Some(soa) = failure.into_soa() {
-        out.put_field("  SOA ", soa.get());
+        out.put("  SOA ");
+        out.put_value(soa.get());
         out.put("\n");
         drop(soa);
     }

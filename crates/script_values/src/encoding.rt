@@ -175,8 +175,10 @@ fn set_edns_word(alloc: Global, edns: &mut Edns, word: &str) -> Result<(), Fault
 /// Puts the options of EDNS behind a text.
 fn put_options(edns: &Edns, out: &mut Output) {
     for option in edns.options() {
-        out.put_field("  option ", &option.code);
-        out.put_field(": ", &option.bytes);
+        out.put("  option ");
+        out.put_value(&option.code);
+        out.put(": ");
+        out.put_value(&option.bytes);
         out.put("\n");
     }
 }
@@ -184,9 +186,12 @@ fn put_options(edns: &Edns, out: &mut Output) {
 /// Puts what EDNS says behind a text.
 fn put_edns(edns: &Edns, out: &mut Output) {
     let flags = if edns.dnssec_ok() { "do" } else { "no flag" };
-    out.put_field("payload ", &edns.max_payload());
-    out.put_field(", version ", &edns.version());
-    out.put_field(", high bits ", &edns.rcode_high());
+    out.put("payload ");
+    out.put_value(&edns.max_payload());
+    out.put(", version ");
+    out.put_value(&edns.version());
+    out.put(", high bits ");
+    out.put_value(&edns.rcode_high());
     out.put(", ");
     out.put(flags);
     out.put("\n");
@@ -251,11 +256,14 @@ fn find_option(messages: &Messages, code: &str, out: &mut Output) -> Result<(), 
         .and_then(|edns| edns.option(code));
     match found {
         None => {
-            out.put_field("no option ", &code);
+            out.put("no option ");
+            out.put_value(&code);
         }
         Some(option) => {
-            out.put_field("option ", &option.code);
-            out.put_field(": ", &option.bytes);
+            out.put("option ");
+            out.put_value(&option.code);
+            out.put(": ");
+            out.put_value(&option.bytes);
         }
     }
     out.put("\n");

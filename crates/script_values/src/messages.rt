@@ -29,7 +29,8 @@ fn tell_name(alloc: Global, bytes: &[u8], is_behind_header: bool, out: &mut Outp
     match read_name(alloc, bytes, is_behind_header) {
         Ok((name, end)) => {
             out.put_value(&name);
-            out.put_field(" ends at ", &end);
+            out.put(" ends at ");
+            out.put_value(&end);
             out.put("\n");
         }
         Err(e) => put_fault(e, out),
@@ -41,7 +42,8 @@ fn tell_question(alloc: Global, bytes: &[u8], out: &mut Output) {
     match read_question(alloc, bytes) {
         Ok((question, end)) => {
             out.put_value(&question);
-            out.put_field(" ends at ", &end);
+            out.put(" ends at ");
+            out.put_value(&end);
             out.put("\n");
         }
         Err(e) => put_fault(e, out),
@@ -52,7 +54,8 @@ fn tell_question(alloc: Global, bytes: &[u8], out: &mut Output) {
 fn tell_parts(alloc: Global, bytes: &[u8], out: &mut Output) {
     match read_parts(alloc, bytes) {
         Ok(ends) => {
-            out.put_line(&ends);
+            out.put_value(&ends);
+            out.put("\n");
         }
         Err(e) => put_fault(e, out),
     }
@@ -60,10 +63,7 @@ fn tell_parts(alloc: Global, bytes: &[u8], out: &mut Output) {
 
 /// The fault of a message, if there is one.
 fn fault_of(alloc: Global, bytes: &[u8]) -> Result<Option<DecodeError>, Fault> {
-    let mut decoder = BinDecoder::new(bytes);
-    let read = decoder.read_message(alloc);
-    drop(decoder);
-    match read {
+    match BinDecoder::new(bytes).read_message(alloc) {
         Ok(message) => {
             drop(message);
             Ok(None)
@@ -76,7 +76,8 @@ fn fault_of(alloc: Global, bytes: &[u8]) -> Result<Option<DecodeError>, Fault> {
 /// Puts what fronts of so many bytes read as behind a text.
 fn put_fronts(first: usize, last: usize, fault: Option<DecodeError>, out: &mut Output) {
     out.put_value(&first);
-    out.put_field(" to ", &last);
+    out.put(" to ");
+    out.put_value(&last);
     out.put(" bytes: ");
     match fault {
         None => out.put("a message\n"),
@@ -200,7 +201,8 @@ fn put_copies(message: &Message, out: &mut Output) -> Result<(), AllocError> {
     let pairs = count_equal_pairs(message.answers.as_slice());
     out.put("copies are ");
     out.put(copies);
-    out.put_field(", equal pairs of answers ", &pairs);
+    out.put(", equal pairs of answers ");
+    out.put_value(&pairs);
     out.put("\n");
     Ok(())
 }

@@ -63,7 +63,8 @@ fn put_name(alloc: Global, name: &Name, out: &mut Output) {
     out.put_value(name);
     out.put(" ");
     out.put(kind(name));
-    out.put_field(", labels ", &name.num_labels());
+    out.put(", labels ");
+    out.put_value(&name.num_labels());
     out.put(", lower case ");
     put_lower(alloc, name, out);
     put_wire(name, out);
@@ -202,7 +203,8 @@ fn put_parents(name: &mut LowerName, out: &mut Output) {
 fn put_all_parents(name: &mut LowerName, out: &mut Output) {
     put_parents(name, out);
     name.remove_first_label();
-    out.put_line(&name);
+    out.put_value(&name);
+    out.put("\n");
 }
 
 /// Tells what is left of a name in lower case as its labels come off, and then of the root.
@@ -227,7 +229,8 @@ fn put_shared(
     out: &mut Output,
 ) -> Result<(), Fault> {
     cut_to_shared(alloc, name, other)?;
-    out.put_line(&name);
+    out.put_value(&name);
+    out.put("\n");
     Ok(())
 }
 

@@ -33,7 +33,8 @@ fn networks(alloc: Global, words: &[&str]) -> Result<Vec<IpNet>, Fault> {
 /// Prints the networks of words, each as its first address and the number of bits that count.
 fn print_networks(alloc: Global, words: &[&str], out: &mut Output) -> Result<(), Fault> {
     for network in &networks(alloc, words)? {
-        out.put_line(network);
+        out.put_value(network);
+        out.put("\n");
     }
     Ok(())
 }

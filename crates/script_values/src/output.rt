@@ -41,18 +41,6 @@ impl Output {
         }
     }
 
-    /// Puts a text, and behind it a value as it is displayed.
-    pub fn put_field<T: Display>(&mut self, text: &str, value: &T) {
-        self.put(text);
-        self.put_value(value);
-    }
-
-    /// Puts a value as it is displayed, and ends the line.
-    pub fn put_line<T: Display>(&mut self, value: &T) {
-        self.put_value(value);
-        self.put("\n");
-    }
-
     /// Puts a value as it is shown for finding faults.
     pub fn put_debug<T: Debug>(&mut self, value: &T) {
         if !self.is_refused && write!(self.text, "{value:?}").is_err() {

@@ -26,7 +26,8 @@ pub fn print_hex(out: &mut Output, bytes: &[u8]) {
 
 /// Puts bytes behind a text: how many, and in hex digits.
 pub fn put_bytes(bytes: &[u8], out: &mut Output) {
-    out.put_field("bytes ", &bytes.len());
+    out.put("bytes ");
+    out.put_value(&bytes.len());
     out.put(": ");
     print_hex(out, bytes);
 }
@@ -45,7 +46,8 @@ pub fn print_text(alloc: Global, out: &mut Output, bytes: &[u8], size: Option<us
         }
         Err(DecodeError::Memory) => out.refuse(),
         Err(fault) => {
-            out.put_line(&fault);
+            out.put_value(&fault);
+            out.put("\n");
         }
     }
 }
@@ -66,25 +68,34 @@ pub fn print_reply(alloc: Global, out: &mut Output, printed: Printed, bytes: &[u
 /// Puts the lines of some records behind a text.
 pub fn print_records(out: &mut Output, records: &[Record]) {
     for record in records {
-        out.put_line(record);
+        out.put_value(record);
+        out.put("\n");
     }
 }
 
 /// Puts a header without its counts behind a text.
 pub fn put_metadata(metadata: &Metadata, out: &mut Output) {
-    out.put_field("opcode ", &metadata.op_code);
-    out.put_field(", status ", &metadata.response_code);
-    out.put_field(", id ", &metadata.id);
-    out.put_field(", flags", &FlagsText { metadata });
+    out.put("opcode ");
+    out.put_value(&metadata.op_code);
+    out.put(", status ");
+    out.put_value(&metadata.response_code);
+    out.put(", id ");
+    out.put_value(&metadata.id);
+    out.put(", flags");
+    out.put_value(&FlagsText { metadata });
     out.put("\n");
 }
 
 /// Puts a header behind a text.
 pub fn put_header(metadata: &Metadata, counts: HeaderCounts, out: &mut Output) {
     put_metadata(metadata, out);
-    out.put_field("queries ", &counts.queries);
-    out.put_field(", answers ", &counts.answers);
-    out.put_field(", authorities ", &counts.authorities);
-    out.put_field(", additionals ", &counts.additionals);
+    out.put("queries ");
+    out.put_value(&counts.queries);
+    out.put(", answers ");
+    out.put_value(&counts.answers);
+    out.put(", authorities ");
+    out.put_value(&counts.authorities);
+    out.put(", additionals ");
+    out.put_value(&counts.additionals);
     out.put("\n");
 }

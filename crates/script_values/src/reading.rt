@@ -32,7 +32,8 @@ pub fn put_fault(e: DecodeError, out: &mut Output) {
     }
     out.put("fault ");
     out.put_debug(&e);
-    out.put_field(": ", &e);
+    out.put(": ");
+    out.put_value(&e);
     out.put("\n");
 }
 
@@ -44,7 +45,8 @@ pub fn put_proto_fault(e: ProtoError, out: &mut Output) {
         e => {
             out.put("fault ");
             out.put_debug(&e);
-            out.put_field(": ", &e);
+            out.put(": ");
+            out.put_value(&e);
             out.put("\n");
         }
     }
@@ -62,19 +64,6 @@ fn next_name(
     decoder.read_name(alloc)
 }
 
-/// What was read, and where it ends.
-fn with_end<T: Drop>(
-    read: Result<T, DecodeError>,
-    decoder: BinDecoder<'_>,
-) -> Result<(T, usize), DecodeError> {
-    let end = decoder.index();
-    drop(decoder);
-    match read {
-        Ok(value) => Ok((value, end)),
-        Err(e) => Err(e),
-    }
-}
-
 /// The name that bytes begin with, or that stands behind the header of a message, and where it ends.
 pub fn read_name(
     alloc: Global,
@@ -82,22 +71,22 @@ pub fn read_name(
     is_behind_header: bool,
 ) -> Result<(Name, usize), DecodeError> {
     let mut decoder = BinDecoder::new(bytes);
-    let read = next_name(alloc, &mut decoder, is_behind_header);
-    with_end(read, decoder)
+    let name = next_name(alloc, &mut decoder, is_behind_header)?;
+    Ok((name, decoder.index()))
 }
 
 /// The question that bytes begin with, and where it ends.
 pub fn read_question(alloc: Global, bytes: &[u8]) -> Result<(Query, usize), DecodeError> {
     let mut decoder = BinDecoder::new(bytes);
-    let read = decoder.read_query(alloc);
-    with_end(read, decoder)
+    let question = decoder.read_query(alloc)?;
+    Ok((question, decoder.index()))
 }
 
 /// The record that bytes begin with, and where it ends.
 pub fn read_record(alloc: Global, bytes: &[u8]) -> Result<(Record, usize), DecodeError> {
     let mut decoder = BinDecoder::new(bytes);
-    let read = decoder.read_record(alloc);
-    with_end(read, decoder)
+    let record = decoder.read_record(alloc)?;
+    Ok((record, decoder.index()))
 }
 
 /// The record behind the header that comes next.
@@ -109,8 +98,8 @@ fn next_first_record(alloc: Global, decoder: &mut BinDecoder<'_>) -> Result<Reco
 /// The record that stands behind the header of a message without questions, and where it ends.
 pub fn read_first_record(alloc: Global, bytes: &[u8]) -> Result<(Record, usize), DecodeError> {
     let mut decoder = BinDecoder::new(bytes);
-    let read = next_first_record(alloc, &mut decoder);
-    with_end(read, decoder)
+    let record = next_first_record(alloc, &mut decoder)?;
+    Ok((record, decoder.index()))
 }
 
 /// Where a section of so many records ends.

@@ -130,7 +130,8 @@ fn describe(alloc: Global, line: &str, out: &mut Output) -> Result<(), Fault> {
 fn put_read(alloc: Global, record: &Record, end: usize, out: &mut Output) -> Result<(), Fault> {
     let bytes = wire(alloc, record)?;
     put_record(alloc, record, bytes.as_slice(), out)?;
-    out.put_field(", ends at ", &end);
+    out.put(", ends at ");
+    out.put_value(&end);
     out.put("\n");
     Ok(())
 }

@@ -46,16 +46,19 @@ fn read(settings: &Settings, alloc: Global, digits: &[&str]) -> Result<Request, 
 
 /// Puts where a request came from behind a text.
 fn put_origin(request: &Request, out: &mut Output) {
-    out.put_field("from ", &request.src());
+    out.put("from ");
+    out.put_value(&request.src());
     out.put(" over ");
     out.put_debug(&request.protocol());
-    out.put_field(", bytes ", &request.as_slice().len());
+    out.put(", bytes ");
+    out.put_value(&request.as_slice().len());
     out.put("\n");
 }
 
 /// Puts how many questions a request has behind a text, and their bytes.
 fn put_question_bytes(queries: &Queries, out: &mut Output) {
-    out.put_field("questions ", &queries.len());
+    out.put("questions ");
+    out.put_value(&queries.len());
     out.put(if queries.is_empty() { ", none: " } else { ": " });
     out.put_hex(queries.as_bytes());
     out.put("\n");
@@ -65,7 +68,8 @@ fn put_question_bytes(queries: &Queries, out: &mut Output) {
 fn put_questions(queries: &Queries, out: &mut Output) {
     put_question_bytes(queries, out);
     for query in queries.queries() {
-        out.put_field("  ", query.original());
+        out.put("  ");
+        out.put_value(query.original());
         out.put("\n");
     }
 }
@@ -77,8 +81,10 @@ fn put_extras(message: &MessageRequest, out: &mut Output) {
     } else {
         "no EDNS"
     });
-    out.put_field(", version ", &message.version());
-    out.put_field(", payload ", &message.max_payload());
+    out.put(", version ");
+    out.put_value(&message.version());
+    out.put(", payload ");
+    out.put_value(&message.max_payload());
     out.put(if message.signature.is_some() {
         ", a signature\n"
     } else {
@@ -88,9 +94,12 @@ fn put_extras(message: &MessageRequest, out: &mut Output) {
 
 /// Puts how many records a request has behind a text, and what its OPT record says.
 fn put_rest(message: &MessageRequest, out: &mut Output) {
-    out.put_field("answers ", &message.answers.len());
-    out.put_field(", authorities ", &message.authorities.len());
-    out.put_field(", additionals ", &message.additionals.len());
+    out.put("answers ");
+    out.put_value(&message.answers.len());
+    out.put(", authorities ");
+    out.put_value(&message.authorities.len());
+    out.put(", additionals ");
+    out.put_value(&message.additionals.len());
     out.put("\n");
     put_extras(message, out);
 }
@@ -103,10 +112,14 @@ fn put_information(info: &RequestInfo<'_>, out: &mut Output) {
         metadata,
         query,
     } = RequestInfo::new(info.src, info.protocol, info.metadata, info.query);
-    out.put_field("asks ", query.original());
-    out.put_field(", in lower case ", query.name());
-    out.put_field(", id ", &metadata.id);
-    out.put_field(", from ", &src);
+    out.put("asks ");
+    out.put_value(query.original());
+    out.put(", in lower case ");
+    out.put_value(query.name());
+    out.put(", id ");
+    out.put_value(&metadata.id);
+    out.put(", from ");
+    out.put_value(&src);
     out.put(" over ");
     out.put_debug(&protocol);
     out.put("\n");
@@ -120,7 +133,8 @@ fn put_asked(request: &Request, out: &mut Output) {
             Err(_) => out.refuse(),
         },
         Err(e) => {
-            out.put_field("asks nothing: ", &e);
+            out.put("asks nothing: ");
+            out.put_value(&e);
             out.put("\n");
         }
     }
@@ -156,23 +170,28 @@ fn put_in_place(
 /// Puts a list of records behind a text, under a heading.
 fn put_records(heading: &str, records: &[Record], out: &mut Output) {
     out.put(heading);
-    out.put_field(" ", &records.len());
+    out.put(" ");
+    out.put_value(&records.len());
     out.put("\n");
     for record in records {
-        out.put_field("  ", record);
+        out.put("  ");
+        out.put_value(record);
         out.put("\n");
     }
 }
 
 /// Puts the zone of an update behind a text.
 fn put_zone<U: UpdateRequest>(update: &U, out: &mut Output) {
-    out.put_field("id ", &update.id());
+    out.put("id ");
+    out.put_value(&update.id());
     match update.zone() {
         Ok(zone) => {
-            out.put_field(", zone ", zone.original());
+            out.put(", zone ");
+            out.put_value(zone.original());
         }
         Err(e) => {
-            out.put_field(", no zone: ", &e);
+            out.put(", no zone: ");
+            out.put_value(&e);
         }
     }
     out.put("\n");
@@ -187,28 +206,18 @@ fn put_update<U: UpdateRequest>(update: &U, out: &mut Output) {
     match update.signature() {
         None => out.put("no signature\n"),
         Some(signature) => {
-            out.put_field("signature of ", &signature.name);
+            out.put("signature of ");
+            out.put_value(&signature.name);
             out.put("\n");
         }
     }
 }
 
-/// The questions behind the header that comes next, so many of them.
-fn next_questions(
-    alloc: Global,
-    decoder: &mut BinDecoder<'_>,
-    count: u16,
-) -> Result<Queries, DecodeError> {
-    decoder.read_header()?;
-    Queries::read(alloc, decoder, count)
-}
-
 /// The questions behind the header of a message, so many of them.
 fn read_questions(alloc: Global, bytes: &[u8], count: u16) -> Result<Queries, DecodeError> {
     let mut decoder = BinDecoder::new(bytes);
-    let queries = next_questions(alloc, &mut decoder, count);
-    drop(decoder);
-    queries
+    decoder.read_header()?;
+    Queries::read(alloc, &mut decoder, count)
 }
 
 /// Tells of the questions behind the header of a message, so many of them.

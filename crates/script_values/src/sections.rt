@@ -26,24 +26,13 @@ pub struct Sections {
     pub additionals: Vec<Record>,
 }
 
-/// Puts copies of records behind others.
-pub fn put_copies(copies: &mut Items<Record>, records: &[Record]) -> Result<(), AllocError> {
-    for record in records {
-        copies.push(record.clone()?)?;
-    }
-    Ok(())
-}
-
 /// Copies of records.
 pub fn copies(alloc: Global, records: &[Record]) -> Result<Items<Record>, AllocError> {
     let mut copies = Items::new(alloc);
-    match put_copies(&mut copies, records) {
-        Ok(()) => Ok(copies),
-        Err(e) => {
-            drop(copies);
-            Err(e)
-        }
+    for record in records {
+        copies.push(record.clone()?)?;
     }
+    Ok(copies)
 }
 
 /// The first of some records, if there is one.

@@ -104,13 +104,16 @@ impl<'a> Asked<'a> {
     /// Puts the numbers that are there behind a line.
     fn put_numbers(&self, line: &mut Output) {
         if let Some(answers) = self.answers {
-            line.put_field(" answers=", &answers);
+            line.put(" answers=");
+            line.put_value(&answers);
         }
         if let Some(iterations) = self.iterations {
-            line.put_field(" iterations=", &iterations);
+            line.put(" iterations=");
+            line.put_value(&iterations);
         }
         if let Some(id) = self.id {
-            line.put_field(" id=", &id);
+            line.put(" id=");
+            line.put_value(&id);
         }
     }
 
@@ -129,16 +132,19 @@ impl<'a> Asked<'a> {
     fn put_subject(&self, line: &mut Output) {
         line.put(" ");
         line.put(self.call);
-        line.put_field(" ", self.name);
+        line.put(" ");
+        line.put_value(self.name);
         if let Some(record_type) = self.record_type {
-            line.put_field(" ", &record_type);
+            line.put(" ");
+            line.put_value(&record_type);
         }
     }
 
     /// The line of the call of the handler at this place of its chain.
     fn line(&self, alloc: Global, place: usize) -> Result<String, AllocError> {
         let mut line = Output::new(alloc);
-        line.put_field("  ", &place);
+        line.put("  ");
+        line.put_value(&place);
         self.put_subject(&mut line);
         self.put_numbers(&mut line);
         self.put_flags(&mut line);

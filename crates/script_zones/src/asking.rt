@@ -1,9 +1,8 @@
 //! What is asked of the server.
 
-use crate::calls::CallLog;
 use crate::handler::Handler;
 use crate::sink::ScriptedSink;
-use crate::state::{Server, Zones};
+use crate::state::Zones;
 use crate::zones::type_word;
 use hickory_base::errors::CatalogError;
 use hickory_base::server::{Request, RequestHandler, ResponseInfo};
@@ -11,7 +10,7 @@ use hickory_base::zone_store::ZoneHandler;
 use hickory_wire::{Edns, LowerName};
 use script_values::fault::Fault;
 use script_values::output::Output;
-use script_values::printing::{Printed, print_reply, put_header};
+use script_values::printing::{print_reply, put_header};
 use script_values::question::{REPLY_DNSSEC_OK, message};
 use script_values::requests::received;
 use script_values::text::lower_name;
@@ -32,24 +31,26 @@ pub const FIND_USAGE: &str = "find NAME";
 
 /// Puts the calls of scripted handlers behind a text, and tells whether one of them was answered as if memory had been
 /// refused.
-pub fn print_calls(log: &CallLog, alloc: Global, out: &mut Output) -> bool {
-    let calls = log.take(alloc);
+pub fn print_calls(zones: &Zones, alloc: Global, out: &mut Output) -> bool {
+    let calls = zones.log.take(alloc);
     out.put(calls.lines.as_str());
     calls.wants_memory
 }
 
 /// Puts behind a text how often a sink failed and how many replies it has, and what the server told then.
 fn print_failure(sink: &ScriptedSink, info: &ResponseInfo, out: &mut Output) {
-    out.put_field("sink: failures ", &sink.failures());
-    out.put_field(", entries ", &sink.replies().len());
+    out.put("sink: failures ");
+    out.put_value(&sink.failures());
+    out.put(", entries ");
+    out.put_value(&sink.replies().len());
     out.put("\ntold: ");
     put_header(info.metadata(), info.counts(), out);
 }
 
 /// Puts the replies of a sink behind a text, and above them what became of it where it failed.
 fn print_replies(
+    zones: &Zones,
     alloc: Global,
-    printed: Printed,
     info: &ResponseInfo,
     sink: &ScriptedSink,
     out: &mut Output,
@@ -61,7 +62,12 @@ fn print_replies(
         print_failure(sink, info, out);
     }
     for reply in sink.replies() {
-        print_reply(alloc, out, printed, reply.as_slice());
+        print_reply(
+            alloc,
+            out,
+            zones.messages.settings.printed,
+            reply.as_slice(),
+        );
     }
 }
 
@@ -76,16 +82,15 @@ fn want_of_memory(e: CatalogError) -> &'static str {
 /// Puts the calls and the replies behind a text, where the catalog told so. That it lacked memory is what is printed where
 /// a scripted handler, or a scripted signer, was to answer so.
 fn print_outcome(
-    log: &CallLog,
+    zones: &Zones,
     alloc: Global,
-    printed: Printed,
     told: Result<ResponseInfo, CatalogError>,
     sink: &ScriptedSink,
     out: &mut Output,
 ) {
-    let wants_memory = print_calls(log, alloc, out);
+    let wants_memory = print_calls(zones, alloc, out);
     match told {
-        Ok(info) => print_replies(alloc, printed, &info, sink, out),
+        Ok(info) => print_replies(zones, alloc, &info, sink, out),
         Err(e) if wants_memory => out.put(want_of_memory(e)),
         Err(_) => out.refuse(),
     }
@@ -117,49 +122,40 @@ impl Asked {
 
 /// Hands a request to the lookup of the server, with EDNS that has DO for the reply.
 fn look_up_with_do(
-    server: &Server,
+    zones: &Zones,
     alloc: Global,
     request: &Request,
-    now: u64,
     sink: &mut ScriptedSink,
 ) -> Result<ResponseInfo, CatalogError> {
     let mut edns = Edns::new(alloc);
     edns.set_dnssec_ok(true);
-    let told = server.lookup(alloc, request, Some(&edns), now, sink);
-    drop(edns);
-    told
+    let now = zones.messages.settings.now;
+    zones.catalog.lookup(alloc, request, Some(&edns), now, sink)
 }
 
 /// Hands a request to what it is for.
 fn hand_over(
-    server: &mut Server,
+    zones: &mut Zones,
     alloc: Global,
     asked: Asked,
     request: &Request,
-    now: u64,
     sink: &mut ScriptedSink,
 ) -> Result<ResponseInfo, CatalogError> {
+    let now = zones.messages.settings.now;
     match asked {
-        Asked::Server => server.handle_request(alloc, request, now, sink),
-        Asked::Lookup => server.lookup(alloc, request, None, now, sink),
-        Asked::LookupWithDo => look_up_with_do(server, alloc, request, now, sink),
-        Asked::Update => server.update(alloc, request, None, now, sink),
+        Asked::Server => zones.catalog.handle_request(alloc, request, now, sink),
+        Asked::Lookup => zones.catalog.lookup(alloc, request, None, now, sink),
+        Asked::LookupWithDo => look_up_with_do(zones, alloc, request, sink),
+        Asked::Update => zones.catalog.update(alloc, request, None, now, sink),
     }
 }
 
 /// Hands a request to what it is for, and tells what comes of it.
 fn answer(zones: &mut Zones, alloc: Global, asked: Asked, request: &Request, out: &mut Output) {
-    let settings = zones.messages.settings;
-    let mut sink = ScriptedSink::new(alloc, settings.protocol, zones.sinking);
-    let told = hand_over(
-        &mut zones.catalog,
-        alloc,
-        asked,
-        request,
-        settings.now,
-        &mut sink,
-    );
-    print_outcome(&zones.log, alloc, settings.printed, told, &sink, out);
+    let protocol = zones.messages.settings.protocol;
+    let mut sink = ScriptedSink::new(alloc, protocol, zones.sinking);
+    let told = hand_over(zones, alloc, asked, request, &mut sink);
+    print_outcome(zones, alloc, told, &sink, out);
     drop(sink);
 }
 
@@ -191,36 +187,25 @@ fn lookup_of(words: &[&str]) -> Asked {
 fn print_chain(chain: &[Handler], out: &mut Output) {
     for handler in chain {
         out.put(type_word(handler.zone_type()));
-        out.put_field(" ", handler.origin());
+        out.put(" ");
+        out.put_value(handler.origin());
         out.put("\n");
     }
 }
 
 /// Puts the handlers that answer for a name behind a text.
-fn print_found(server: &Server, name: &LowerName, out: &mut Output) {
-    match server.find(name) {
-        Ok(Some(chain)) => print_chain(chain, out),
-        Ok(None) => out.put("no zone\n"),
-        Err(_) => out.refuse(),
+fn print_found(zones: &Zones, name: &LowerName, out: &mut Output) -> Result<(), Fault> {
+    match zones.catalog.find(name)? {
+        Some(chain) => print_chain(chain, out),
+        None => out.put("no zone\n"),
     }
-}
-
-/// Tells which handlers answer for a name.
-fn find(server: &Server, alloc: Global, name: &str, out: &mut Output) -> Result<(), Fault> {
-    let name = lower_name(alloc, name)?;
-    print_found(server, &name, out);
-    drop(name);
     Ok(())
 }
 
-/// What a request is handed to, by the name of the command and the words behind it.
-fn asked_of(command: &str, words: &[&str]) -> Option<Asked> {
-    match command {
-        "ask" => Some(Asked::Server),
-        "lookup" => Some(lookup_of(words)),
-        "modify" => Some(Asked::Update),
-        _ => None,
-    }
+/// Tells which handlers answer for a name.
+fn find(zones: &Zones, alloc: Global, name: &str, out: &mut Output) -> Result<(), Fault> {
+    let name = lower_name(alloc, name)?;
+    print_found(zones, &name, out)
 }
 
 /// Obeys a command that asks, if it is one.
@@ -230,10 +215,11 @@ pub fn obey(
     words: &[&str],
     out: &mut Output,
 ) -> Option<Result<(), Fault>> {
-    if let ["find", name] = words {
-        return Some(find(&zones.catalog, alloc, name, out));
-    }
-    let (command, words) = words.split_first()?;
-    let asked = asked_of(command, words)?;
-    Some(ask(zones, alloc, asked, words, out))
+    Some(match words {
+        ["ask", words @ ..] => ask(zones, alloc, Asked::Server, words, out),
+        ["lookup", words @ ..] => ask(zones, alloc, lookup_of(words), words, out),
+        ["modify", words @ ..] => ask(zones, alloc, Asked::Update, words, out),
+        ["find", name] => find(zones, alloc, name, out),
+        _ => return None,
+    })
 }

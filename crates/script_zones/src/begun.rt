@@ -1,7 +1,7 @@
 //! The handlers that a command is about.
 
 use crate::handler::Handler;
-use crate::state::{Server, Zones};
+use crate::state::Zones;
 use hickory_wire::LowerName;
 use script_values::fault::Fault;
 use script_values::text::lower_name;
@@ -38,20 +38,18 @@ pub fn last_begun(zones: &Zones, alloc: Global) -> Result<Begun<'_>, Fault> {
 }
 
 /// The chain that is served at just this name.
-fn chain_at<'s>(server: &'s Server, apex: &LowerName) -> Result<&'s [Handler], Fault> {
-    if !server.contains(apex) {
+fn chain_at<'s>(zones: &'s Zones, apex: &LowerName) -> Result<&'s [Handler], Fault> {
+    if !zones.catalog.contains(apex) {
         return Err(Fault::NoChain);
     }
-    match server.find(apex)? {
+    match zones.catalog.find(apex)? {
         Some(chain) => Ok(chain.as_slice()),
         None => Err(Fault::NoChain),
     }
 }
 
 /// The chain that is served at just the name of a word.
-pub fn chain_of<'s>(server: &'s Server, alloc: Global, apex: &str) -> Result<&'s [Handler], Fault> {
+pub fn chain_of<'s>(zones: &'s Zones, alloc: Global, apex: &str) -> Result<&'s [Handler], Fault> {
     let apex = lower_name(alloc, apex)?;
-    let chain = chain_at(server, &apex);
-    drop(apex);
-    chain
+    chain_at(zones, &apex)
 }

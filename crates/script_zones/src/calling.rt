@@ -16,7 +16,6 @@ use script_values::output::Output;
 use script_values::printing::print_records;
 use script_values::question::message;
 use script_values::requests::received;
-use script_values::settings::Settings;
 use script_values::text::lower_name;
 use script_values::words::octets;
 use std::alloc::Global;
@@ -31,7 +30,8 @@ fn print_fault(out: &mut Output, fault: &LookupError) {
         LookupError::Memory => out.refuse(),
         LookupError::ResponseCode(code) => out.put_value(code),
         LookupError::Net(DnsError::NoRecords { response_code, .. }) => {
-            out.put_field("no records, ", response_code);
+            out.put("no records, ");
+            out.put_value(response_code);
         }
         fault => out.put_value(fault),
     }
@@ -40,7 +40,8 @@ fn print_fault(out: &mut Output, fault: &LookupError) {
 
 /// Puts a whole reply behind a text: its code, AA, and the records of its sections.
 fn print_whole(out: &mut Output, reply: &WholeReply) {
-    out.put_field("whole, ", &reply.response_code);
+    out.put("whole, ");
+    out.put_value(&reply.response_code);
     out.put(if reply.authoritative { ", aa\n" } else { "\n" });
     print_records(out, reply.answers.as_slice());
     print_records(out, reply.authorities.as_slice());
@@ -93,7 +94,8 @@ fn print_flow(out: &mut Output, answer: &LookupControlFlow<AuthLookup>) {
 /// Puts what a signer has to know behind a text, if it is told.
 fn print_context(out: &mut Output, context: &Option<TSigResponseContext>) {
     if let Some(context) = context {
-        out.put_field("to be signed, id ", &context.request_id);
+        out.put("to be signed, id ");
+        out.put_value(&context.request_id);
         out.put("\n");
     }
 }
@@ -118,7 +120,8 @@ fn tell_answer(
 fn print_transfer(out: &mut Output, outcome: &Result<ZoneTransfer, LookupError>) {
     match outcome {
         Ok(transfer) => {
-            out.put_field("transfer of ", &transfer.records.len());
+            out.put("transfer of ");
+            out.put_value(&transfer.records.len());
             out.put(" records\n");
             print_records(out, transfer.records.as_slice());
         }
@@ -198,16 +201,17 @@ fn call_with(
     }
 }
 
-/// Makes a call with the request that words tell.
-fn call_with_words(
-    settings: &Settings,
+/// Makes a call with the request of these bytes.
+fn call_with_bytes(
+    zones: &Zones,
     alloc: Global,
     handler: &Handler,
     call: RequestCall,
-    words: &[&str],
+    bytes: Vec<u8>,
     out: &mut Output,
 ) -> Result<(), Fault> {
-    let request = received(settings, alloc, call_bytes(alloc, call, words)?)?;
+    let settings = &zones.messages.settings;
+    let request = received(settings, alloc, bytes)?;
     call_with(handler, alloc, call, &request, settings.now, out);
     drop(request);
     Ok(())
@@ -326,42 +330,19 @@ fn transfer_bytes(alloc: Global, words: &[&str]) -> Result<Vec<u8>, Fault> {
     }
 }
 
-/// The bytes of the request that the words of a call tell.
-fn call_bytes(alloc: Global, call: RequestCall, words: &[&str]) -> Result<Vec<u8>, Fault> {
-    match call {
-        RequestCall::Search | RequestCall::Stored => message(alloc, words, CALL_USAGE),
-        RequestCall::Transfer => transfer_bytes(alloc, words),
-    }
-}
-
-/// The call with a request that a word names.
-fn request_call(word: &str) -> Option<RequestCall> {
-    match word {
-        "search" => Some(RequestCall::Search),
-        "stored" => Some(RequestCall::Stored),
-        "transfer" => Some(RequestCall::Transfer),
-        _ => None,
-    }
-}
-
-/// Makes a call of a handler with a name.
-fn make_named_call(
-    handler: &Handler,
-    alloc: Global,
-    words: &[&str],
-    out: &mut Output,
-) -> Result<(), Fault> {
-    match words {
-        ["nsec", name, words @ ..] => {
-            call_for_word(handler, alloc, NameCall::Nsec, name, words, out)
-        }
-        _ => make_typed_call(handler, alloc, words, out),
-    }
+/// The call with a request that words tell, and the bytes of the request.
+fn request_call(alloc: Global, words: &[&str]) -> Result<Option<(RequestCall, Vec<u8>)>, Fault> {
+    Ok(Some(match words {
+        ["search", words @ ..] => (RequestCall::Search, message(alloc, words, CALL_USAGE)?),
+        ["stored", words @ ..] => (RequestCall::Stored, message(alloc, words, CALL_USAGE)?),
+        ["transfer", words @ ..] => (RequestCall::Transfer, transfer_bytes(alloc, words)?),
+        _ => return Ok(None),
+    }))
 }
 
 /// Makes a call of a handler.
 fn make_call(
-    settings: &Settings,
+    zones: &Zones,
     alloc: Global,
     handler: &Handler,
     words: &[&str],
@@ -371,20 +352,19 @@ fn make_call(
         call_stored_soa(handler, out);
         return Ok(());
     }
-    let Some((word, behind)) = words.split_first() else {
-        return Err(Fault::Usage(CALL_USAGE));
-    };
-    match request_call(word) {
-        Some(call) => call_with_words(settings, alloc, handler, call, behind, out),
-        None => make_named_call(handler, alloc, words, out),
+    if let ["nsec", name, words @ ..] = words {
+        return call_for_word(handler, alloc, NameCall::Nsec, name, words, out);
+    }
+    match request_call(alloc, words)? {
+        Some((call, bytes)) => call_with_bytes(zones, alloc, handler, call, bytes, out),
+        None => make_typed_call(handler, alloc, words, out),
     }
 }
 
 /// Makes a call of the handler last begun.
 fn call_begun(zones: &Zones, alloc: Global, words: &[&str], out: &mut Output) -> Result<(), Fault> {
     let begun = last_begun(zones, alloc)?;
-    let settings = &zones.messages.settings;
-    let called = make_call(settings, alloc, begun.handler(), words, out);
+    let called = make_call(zones, alloc, begun.handler(), words, out);
     drop(begun);
     called
 }
@@ -394,7 +374,7 @@ fn call_begun(zones: &Zones, alloc: Global, words: &[&str], out: &mut Output) ->
 fn call(zones: &Zones, alloc: Global, words: &[&str], out: &mut Output) -> Result<(), Fault> {
     let mut told = Output::new(alloc);
     let made = call_begun(zones, alloc, words, &mut told);
-    let wants_memory = print_calls(&zones.log, alloc, out);
+    let wants_memory = print_calls(zones, alloc, out);
     match told.ended(made) {
         Ok(text) => out.put(text.as_str()),
         Err(Fault::Memory) if wants_memory => out.put("no memory\n"),

@@ -1,9 +1,8 @@
 //! Chains of handlers, and scripted ones.
 
-use crate::calls::CallLog;
 use crate::handler::{Handler, Source};
 use crate::part::{Answer, Call, Flow, Outcome, Part};
-use crate::state::{Server, Zones};
+use crate::state::Zones;
 use crate::zones::{close, zone_type};
 use hickory_base::errors::UpdateFault;
 use hickory_base::zone_store::{AxfrPolicy, NxProofKind, ZoneType};
@@ -15,7 +14,6 @@ use script_values::state::Place;
 use script_values::text::{lower_name, zone_name};
 use script_values::words::setting;
 use std::alloc::Global;
-use std::collections::BTreeSet;
 use std::mem;
 
 /// How `part` is written.
@@ -83,52 +81,28 @@ impl PartWords {
     }
 }
 
-/// The part of a scripted handler at this place, which answers nothing.
-fn scripted(alloc: Global, place: usize, signs: bool, log: CallLog) -> Part {
-    Part {
-        place,
-        signs,
+/// A scripted handler at the place behind those that are begun.
+fn part_handler(
+    zones: &Zones,
+    alloc: Global,
+    origin: LowerName,
+    words: PartWords,
+) -> Result<Handler, Fault> {
+    let part = Part {
+        place: zones.chain.len(),
+        signs: words.signs,
         answers: Vec::new(alloc),
         update: Err(UpdateFault::Code(ResponseCode::NOT_IMP)),
-        log,
-    }
-}
-
-/// The scripted handler of a part.
-fn part_handler(
-    alloc: Global,
-    origin: LowerName,
-    words: PartWords,
-    part: Part,
-) -> Result<Handler, Fault> {
-    match words.proof_kind(alloc) {
-        Ok(proof_kind) => Ok(Handler {
-            zone_type: words.zone_type,
-            axfr_policy: AxfrPolicy::Deny,
-            origin,
-            validates: words.validates,
-            proof_kind,
-            source: Source::Part(part),
-        }),
-        Err(e) => {
-            drop(part);
-            drop(origin);
-            Err(e)
-        }
-    }
-}
-
-/// Puts a scripted handler last into a chain.
-fn append(
-    chain: &mut Vec<Handler>,
-    log: &CallLog,
-    alloc: Global,
-    origin: LowerName,
-    words: PartWords,
-) -> Result<(), Fault> {
-    let part = scripted(alloc, chain.len(), words.signs, log.share()?);
-    let handler = part_handler(alloc, origin, words, part)?;
-    chain.push(handler).map_err(Fault::from)
+        log: zones.log.share()?,
+    };
+    Ok(Handler {
+        zone_type: words.zone_type,
+        axfr_policy: AxfrPolicy::Deny,
+        origin,
+        validates: words.validates,
+        proof_kind: words.proof_kind(alloc)?,
+        source: Source::Part(part),
+    })
 }
 
 /// Begins a scripted handler.
@@ -136,7 +110,8 @@ fn begin(zones: &mut Zones, alloc: Global, origin: &str, words: &[&str]) -> Resu
     let words = PartWords::read(words)?;
     let origin = zone_name(alloc, origin)?;
     close(zones, alloc)?;
-    append(&mut zones.chain, &zones.log, alloc, origin, words)?;
+    let handler = part_handler(zones, alloc, origin, words)?;
+    zones.chain.push(handler)?;
     zones.messages.place = Place::Nothing;
     Ok(())
 }
@@ -259,23 +234,21 @@ pub fn put(zones: &mut Zones, section: Section, record: &Record) -> Result<(), F
 
 /// Serves a chain at a name, and tells what it takes the place of.
 fn upsert(
-    server: &mut Server,
+    zones: &mut Zones,
     apex: LowerName,
     chain: Vec<Handler>,
     out: &mut Output,
 ) -> Result<(), Fault> {
-    let served = server.upsert(apex, chain);
-    let told = match &served {
+    match zones.catalog.upsert(apex, chain) {
         Ok(None) => Ok(()),
         Ok(Some(old)) => {
-            out.put_field("in place of a chain of ", &old.len());
+            out.put("in place of a chain of ");
+            out.put_value(&old.len());
             out.put("\n");
             Ok(())
         }
         Err(_) => Err(Fault::Memory),
-    };
-    drop(served);
-    told
+    }
 }
 
 /// Ends the chain that is to be served at a name.
@@ -295,34 +268,27 @@ fn serve(zones: &mut Zones, alloc: Global, apex: &str, out: &mut Output) -> Resu
     match end_chain(zones, alloc, &apex) {
         Ok(()) => {
             let chain = mem::replace(&mut zones.chain, Vec::new(alloc));
-            upsert(&mut zones.catalog, apex, chain, out)
+            upsert(zones, apex, chain, out)
         }
-        Err(e) => {
-            drop(apex);
-            Err(e)
-        }
+        Err(e) => Err(e),
     }
 }
 
 /// Takes the chain of a name away.
-fn remove(server: &mut Server, alloc: Global, apex: &str) -> Result<(), Fault> {
+fn remove(zones: &mut Zones, alloc: Global, apex: &str) -> Result<(), Fault> {
     let apex = lower_name(alloc, apex)?;
-    let chain = server.remove(&apex);
-    let is_served = chain.is_some();
-    drop(chain);
-    drop(apex);
-    if is_served {
-        Ok(())
-    } else {
-        Err(Fault::NoChain)
+    match zones.catalog.remove(&apex) {
+        None => Err(Fault::NoChain),
+        Some(_) => Ok(()),
     }
 }
 
 /// Puts the names that have a chain behind a text.
-fn print_served(server: &Server, served: &BTreeSet<LowerName>, out: &mut Output) {
-    for apex in served {
-        if server.contains(apex) {
-            out.put_line(apex);
+fn print_served(zones: &Zones, out: &mut Output) {
+    for apex in &zones.served {
+        if zones.catalog.contains(apex) {
+            out.put_value(apex);
+            out.put("\n");
         }
     }
 }
@@ -339,9 +305,9 @@ pub fn obey(
         ["on", "update", word] => set_update(zones, word),
         ["on", words @ ..] => begin_answer(zones, alloc, words),
         ["serve", apex] => serve(zones, alloc, apex, out),
-        ["remove", apex] => remove(&mut zones.catalog, alloc, apex),
+        ["remove", apex] => remove(zones, alloc, apex),
         ["zones"] => {
-            print_served(&zones.catalog, &zones.served, out);
+            print_served(zones, out);
             Ok(())
         }
         _ => return None,

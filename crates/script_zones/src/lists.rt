@@ -9,14 +9,14 @@ use hickory_store::blocklist::{
     AddError, BlocklistConfig, BlocklistConsultAction, BlocklistZoneHandler, CountedReader,
     ListReader, ListReport,
 };
-use hickory_wire::{Items, LowerName, Name, Octets, RData, RecordType};
+use hickory_wire::{Items, LowerName, Octets, RData, RecordType};
 use script_values::fault::Fault;
 use script_values::output::Output;
 use script_values::state::Place;
 use script_values::text::{lower_name, name, require_final_dot};
 use std::alloc::{AllocError, Global};
 use std::net::{Ipv4Addr, Ipv6Addr};
-use std::{mem, str};
+use std::str;
 use zone_text::read_data;
 
 /// How `blocklist` is written.
@@ -81,34 +81,17 @@ fn set_all(config: &mut BlocklistConfig, words: &str) -> Result<(), Fault> {
     Ok(())
 }
 
-/// Sets the message of a list's settings.
-fn set_message(config: &mut BlocklistConfig, alloc: Global, message: &str) -> Result<(), Fault> {
-    let message = String::from_str(alloc, message)?;
-    drop(mem::replace(&mut config.block_message, Some(message)));
-    Ok(())
-}
-
-/// Sets what the text behind a list's origin spells.
-fn set_by(config: &mut BlocklistConfig, alloc: Global, text: &str) -> Result<(), Fault> {
-    match text.split_once("block_message=") {
-        None => set_all(config, text),
-        Some((words, message)) => {
-            set_all(config, words)?;
-            set_message(config, alloc, message)
-        }
-    }
-}
-
 /// The settings that the text behind a list's origin spells.
 fn settings(alloc: Global, text: &str) -> Result<BlocklistConfig, Fault> {
     let mut config = BlocklistConfig::default();
-    match set_by(&mut config, alloc, text) {
-        Ok(()) => Ok(config),
-        Err(e) => {
-            drop(config);
-            Err(e)
+    match text.split_once("block_message=") {
+        None => set_all(&mut config, text)?,
+        Some((words, message)) => {
+            set_all(&mut config, words)?;
+            config.block_message = Some(String::from_str(alloc, message)?);
         }
     }
+    Ok(config)
 }
 
 /// What stands behind a word that a line begins with.
@@ -116,40 +99,24 @@ fn behind<'l>(line: &'l str, word: &str) -> &'l str {
     line.strip_prefix(word).unwrap_or("").trim_start()
 }
 
-/// The name of a word that ends in a dot.
-fn absolute_name(alloc: Global, word: &str) -> Result<Name, Fault> {
-    require_final_dot(word)?;
-    name(alloc, word)
-}
-
 /// A list of blocked names without names.
 fn new_list(alloc: Global, origin: &str, text: &str) -> Result<BlocklistZoneHandler, Fault> {
     let config = settings(alloc, text)?;
-    match absolute_name(alloc, origin) {
-        Ok(origin) => BlocklistZoneHandler::new(alloc, origin, config).map_err(Fault::from),
-        Err(e) => {
-            drop(config);
-            Err(e)
-        }
-    }
+    require_final_dot(origin)?;
+    BlocklistZoneHandler::new(alloc, name(alloc, origin)?, config).map_err(Fault::from)
 }
 
 /// The handler that a list is.
 fn handler_of(list: BlocklistZoneHandler) -> Result<Handler, AllocError> {
-    match list.origin().clone() {
-        Ok(origin) => Ok(Handler {
-            zone_type: list.zone_type(),
-            axfr_policy: list.axfr_policy(),
-            origin,
-            validates: list.can_validate_dnssec(),
-            proof_kind: None,
-            source: Source::Blocklist(list),
-        }),
-        Err(e) => {
-            drop(list);
-            Err(e)
-        }
-    }
+    let origin = list.origin().clone()?;
+    Ok(Handler {
+        zone_type: list.zone_type(),
+        axfr_policy: list.axfr_policy(),
+        origin,
+        validates: list.can_validate_dnssec(),
+        proof_kind: None,
+        source: Source::Blocklist(list),
+    })
 }
 
 /// Puts a handler last into the chain, behind the open zone.
@@ -208,8 +175,8 @@ fn text_bytes(alloc: Global, text: &str) -> Result<Vec<u8>, Fault> {
 }
 
 /// Adds what a reader gives to the list that stands last in the chain.
-fn add<R: ListReader>(chain: &mut [Handler], reader: &mut R) -> Result<(), Fault> {
-    let Some(handler) = chain.last_mut() else {
+fn add<R: ListReader>(zones: &mut Zones, reader: &mut R) -> Result<(), Fault> {
+    let Some(handler) = zones.chain.last_mut() else {
         return Err(Fault::NoBlocklist);
     };
     let Source::Blocklist(list) = &mut handler.source else {
@@ -221,19 +188,20 @@ fn add<R: ListReader>(chain: &mut [Handler], reader: &mut R) -> Result<(), Fault
 /// Tells how many lines of a list were taken, and which were skipped.
 fn tell_lines(alloc: Global, text: &str, out: &mut Output) -> Result<(), Fault> {
     let report = ListReport::of_text(alloc, text)?;
-    out.put_line(&report);
+    out.put_value(&report);
+    out.put("\n");
     drop(report);
     Ok(())
 }
 
 /// Adds bytes to the list that stands last in the chain, and tells what their lines came to.
 fn block_bytes(
-    chain: &mut [Handler],
+    zones: &mut Zones,
     alloc: Global,
     bytes: &[u8],
     out: &mut Output,
 ) -> Result<(), Fault> {
-    add(chain, &mut CountedReader::new(bytes))?;
+    add(zones, &mut CountedReader::new(bytes))?;
     match str::from_utf8(bytes) {
         Ok(text) => tell_lines(alloc, text, out),
         Err(_) => Err(Fault::ListNotText),
@@ -241,9 +209,9 @@ fn block_bytes(
 }
 
 /// Adds a text to the list that stands last in the chain, and tells what its lines came to.
-fn block(chain: &mut [Handler], alloc: Global, text: &str, out: &mut Output) -> Result<(), Fault> {
+fn block(zones: &mut Zones, alloc: Global, text: &str, out: &mut Output) -> Result<(), Fault> {
     let bytes = text_bytes(alloc, text)?;
-    block_bytes(chain, alloc, bytes.as_slice(), out)
+    block_bytes(zones, alloc, bytes.as_slice(), out)
 }
 
 /// The text of the pieces before a last word `fails`, if there is one.
@@ -257,15 +225,10 @@ fn before_fails(text: &str) -> Option<&str> {
 }
 
 /// Adds the strings of a text to the list that stands last in the chain, read one by one; the reader then ends or fails.
-fn block_strings(
-    chain: &mut [Handler],
-    alloc: Global,
-    text: &str,
-    fails: bool,
-) -> Result<(), Fault> {
+fn block_strings(zones: &mut Zones, alloc: Global, text: &str, fails: bool) -> Result<(), Fault> {
     let data = read_data(alloc, RecordType::TXT, text)?;
     let added = match &data {
-        RData::TXT(strings) => add(chain, &mut Pieces::new(strings.as_slice(), fails)),
+        RData::TXT(strings) => add(zones, &mut Pieces::new(strings.as_slice(), fails)),
         _ => Err(Fault::Usage(BLOCK_USAGE)),
     };
     drop(data);
@@ -273,16 +236,16 @@ fn block_strings(
 }
 
 /// Adds the pieces of a text to the list that stands last in the chain.
-fn block_pieces(chain: &mut [Handler], alloc: Global, text: &str) -> Result<(), Fault> {
+fn block_pieces(zones: &mut Zones, alloc: Global, text: &str) -> Result<(), Fault> {
     match before_fails(text) {
-        Some(pieces) => block_strings(chain, alloc, pieces, true),
-        None => block_strings(chain, alloc, text, false),
+        Some(pieces) => block_strings(zones, alloc, pieces, true),
+        None => block_strings(zones, alloc, text, false),
     }
 }
 
 /// The list that stands last in the chain.
-fn open_list(chain: &[Handler]) -> Result<&BlocklistZoneHandler, Fault> {
-    let Some(handler) = chain.last() else {
+fn open_list(zones: &Zones) -> Result<&BlocklistZoneHandler, Fault> {
+    let Some(handler) = zones.chain.last() else {
         return Err(Fault::NoBlocklist);
     };
     let Source::Blocklist(list) = &handler.source else {
@@ -341,12 +304,12 @@ fn print_verdict(
 
 /// Prints of each name whether the list that stands last in the chain blocks it.
 fn print_blocked(
-    chain: &[Handler],
+    zones: &Zones,
     alloc: Global,
     words: &[&str],
     out: &mut Output,
 ) -> Result<(), Fault> {
-    let list = open_list(chain)?;
+    let list = open_list(zones)?;
     for word in words {
         print_verdict(list, alloc, word, out)?;
     }
@@ -354,8 +317,8 @@ fn print_blocked(
 }
 
 /// Prints how many names the list has that stands last in the chain.
-fn print_entries(chain: &[Handler], out: &mut Output) -> Result<(), Fault> {
-    print_count(open_list(chain)?, out);
+fn print_entries(zones: &Zones, out: &mut Output) -> Result<(), Fault> {
+    print_count(open_list(zones)?, out);
     Ok(())
 }
 
@@ -370,15 +333,11 @@ pub fn obey(
     Some(match words {
         ["blocklist", origin, ..] => begin_line(zones, alloc, origin, line),
         ["block", "pieces", _, ..] => {
-            block_pieces(
-                &mut zones.chain,
-                alloc,
-                behind(behind(line, "block"), "pieces"),
-            )
+            block_pieces(zones, alloc, behind(behind(line, "block"), "pieces"))
         }
-        ["block", ..] => block(&mut zones.chain, alloc, behind(line, "block"), out),
-        ["entries"] => print_entries(&zones.chain, out),
-        ["blocked", words @ ..] => print_blocked(&zones.chain, alloc, words, out),
+        ["block", ..] => block(zones, alloc, behind(line, "block"), out),
+        ["entries"] => print_entries(zones, out),
+        ["blocked", words @ ..] => print_blocked(zones, alloc, words, out),
         _ => return None,
     })
 }

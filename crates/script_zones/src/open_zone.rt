@@ -44,12 +44,6 @@ fn set_of(alloc: Global, records: &[Record]) -> Result<RecordSet, Fault> {
     }
 }
 
-/// The same, to be shared.
-fn shared_set(alloc: Global, records: &[Record]) -> Result<Rc<RecordSet>, Fault> {
-    let set = set_of(alloc, records)?;
-    Rc::new(alloc, set).map_err(Fault::from)
-}
-
 /// Puts a copy of a set into a map.
 fn put_set(
     alloc: Global,
@@ -57,17 +51,9 @@ fn put_set(
     key: &RrKey,
     records: &[Record],
 ) -> Result<(), Fault> {
-    let key = RrKey::new(key.name.clone()?, key.record_type);
-    match shared_set(alloc, records) {
-        Ok(set) => {
-            sets.insert(key, set)?;
-            Ok(())
-        }
-        Err(e) => {
-            drop(key);
-            Err(e)
-        }
-    }
+    let set = Rc::new(alloc, set_of(alloc, records)?)?;
+    sets.insert(RrKey::new(key.name.clone()?, key.record_type), set)?;
+    Ok(())
 }
 
 /// Whether these records make a set (RFC 2181 section 5), and whether it makes a zone under this key.
@@ -76,29 +62,8 @@ pub fn accepted(alloc: Global, key: &RrKey, records: &[Record]) -> Result<(bool,
         return Ok((false, false));
     }
     let mut sets = BTreeMap::new(alloc);
-    let put = put_set(alloc, &mut sets, key, records);
-    let is_zone = InMemoryZoneHandler::accepts(&sets);
-    drop(sets);
-    put?;
-    Ok((true, is_zone))
-}
-
-/// The handler that a zone in memory is.
-fn handler_of(zone: InMemoryZoneHandler) -> Result<Handler, AllocError> {
-    match zone.origin().clone() {
-        Ok(origin) => Ok(Handler {
-            zone_type: zone.zone_type(),
-            axfr_policy: zone.axfr_policy(),
-            origin,
-            validates: zone.can_validate_dnssec(),
-            proof_kind: None,
-            source: Source::Zone(zone),
-        }),
-        Err(e) => {
-            drop(zone);
-            Err(e)
-        }
-    }
+    put_set(alloc, &mut sets, key, records)?;
+    Ok((true, InMemoryZoneHandler::accepts(&sets)))
 }
 
 /// The key that a record belongs under.
@@ -142,22 +107,13 @@ impl OpenZone {
         Ok(self.sets.entry(key)?.or_insert(Vec::new(alloc)))
     }
 
-    /// Puts a copy of a record last into the set under a key.
-    fn push(&mut self, alloc: Global, key: RrKey, record: &Record) -> Result<(), Fault> {
-        let set = self.set_mut(alloc, key)?;
-        set.push(record.clone()?).map_err(Fault::from)
-    }
-
     /// Puts a copy of a record last into the set of its name and type.
     pub fn put(&mut self, alloc: Global, record: &Record) -> Result<(), Fault> {
         let key = key_of(alloc, record)?;
-        match self.judge(record, &key) {
-            Ok(()) => self.push(alloc, key, record),
-            Err(e) => {
-                drop(key);
-                Err(e)
-            }
-        }
+        self.judge(record, &key)?;
+        let set = self.set_mut(alloc, key)?;
+        set.push(record.clone()?)?;
+        Ok(())
     }
 
     /// Puts a copy of a record of a zone file, whose number in the file is told. One that is there already is left out
@@ -198,51 +154,35 @@ impl OpenZone {
         }
     }
 
-    /// Puts copies of the sets into a map.
-    fn put_sets(
-        &self,
-        alloc: Global,
-        sets: &mut BTreeMap<RrKey, Rc<RecordSet>>,
-    ) -> Result<(), Fault> {
-        for (key, records) in &self.sets {
-            put_set(alloc, sets, key, records.as_slice())?;
-        }
-        Ok(())
-    }
-
     /// The sets as a zone in memory has them.
     fn record_sets(&self, alloc: Global) -> Result<BTreeMap<RrKey, Rc<RecordSet>>, Fault> {
         let mut sets = BTreeMap::new(alloc);
-        match self.put_sets(alloc, &mut sets) {
-            Ok(()) => Ok(sets),
-            Err(e) => {
-                drop(sets);
-                Err(e)
-            }
+        for (key, records) in &self.sets {
+            put_set(alloc, &mut sets, key, records.as_slice())?;
         }
+        Ok(sets)
     }
 
     /// The zone with copies of these records.
     pub fn zone(&self, alloc: Global) -> Result<InMemoryZoneHandler, Fault> {
         let sets = self.record_sets(alloc)?;
         if !InMemoryZoneHandler::accepts(&sets) {
-            drop(sets);
             return Err(Fault::NotAZone);
         }
-        match self.origin.clone() {
-            Ok(origin) => {
-                Ok(InMemoryZoneHandler::new(origin, sets, self.zone_type, self.axfr_policy))
-            }
-            Err(_) => {
-                drop(sets);
-                Err(Fault::Memory)
-            }
-        }
+        let origin = self.origin.clone()?;
+        Ok(InMemoryZoneHandler::new(origin, sets, self.zone_type, self.axfr_policy))
     }
 
     /// The handler of the zone with copies of these records.
     pub fn handler(&self, alloc: Global) -> Result<Handler, Fault> {
         let zone = self.zone(alloc)?;
-        handler_of(zone).map_err(Fault::from)
+        Ok(Handler {
+            zone_type: zone.zone_type(),
+            axfr_policy: zone.axfr_policy(),
+            origin: zone.origin().clone()?,
+            validates: zone.can_validate_dnssec(),
+            proof_kind: None,
+            source: Source::Zone(zone),
+        })
     }
 }

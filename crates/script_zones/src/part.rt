@@ -4,7 +4,7 @@ use crate::calls::CallLog;
 use hickory_base::errors::{DnsError, LookupError, UpdateFault};
 use hickory_base::zone_store::{AuthLookup, Lookup, LookupControlFlow, WholeReply, ZoneTransfer};
 use hickory_wire::{DNSClass, Items, Name, Proof, Query, Record, RecordType, ResponseCode};
-use script_values::sections::{Sections, copies, no_records, put_copies};
+use script_values::sections::{Sections, copies, no_records};
 use std::alloc::{AllocError, Global};
 
 /// A call of a handler.
@@ -143,33 +143,31 @@ fn whole(
 }
 
 /// The answers of what was found.
-fn answers_of(found: &AuthLookup) -> &[Record] {
+fn answers_of(alloc: Global, found: AuthLookup) -> Items<Record> {
     match found {
-        AuthLookup::Empty => &[],
-        AuthLookup::Resolved(found) => found.answers.as_slice(),
-        AuthLookup::Records { answers, .. } => answers.as_slice(),
-        AuthLookup::Whole(reply) => reply.answers.as_slice(),
+        AuthLookup::Empty => Items::new(alloc),
+        AuthLookup::Resolved(
+            Lookup {
+                query: _query,
+                answers,
+                authorities: _authorities,
+                additionals: _additionals,
+            },
+        ) => answers,
+        AuthLookup::Records {
+            answers,
+            additionals: _additionals,
+        } => answers,
+        AuthLookup::Whole(reply) => reply.answers,
     }
 }
 
 /// The answers that there are so far, of what a consult is about.
-fn so_far(last: &LookupControlFlow<AuthLookup>) -> &[Record] {
-    match last {
-        LookupControlFlow::Continue(Ok(found)) => answers_of(found),
-        LookupControlFlow::Break(Ok(found)) => answers_of(found),
-        _ => &[],
-    }
-}
-
-/// Copies of records, and behind them of others.
-fn joined(alloc: Global, first: &[Record], others: &[Record]) -> Result<Items<Record>, AllocError> {
-    let mut records = copies(alloc, first)?;
-    match put_copies(&mut records, others) {
-        Ok(()) => Ok(records),
-        Err(e) => {
-            drop(records);
-            Err(e)
-        }
+fn so_far(alloc: Global, last: LookupControlFlow<AuthLookup>) -> Items<Record> {
+    match last.map_result() {
+        Some(Ok(found)) => answers_of(alloc, found),
+        Some(Err(_e)) => Items::new(alloc),
+        None => Items::new(alloc),
     }
 }
 
@@ -211,9 +209,12 @@ impl Answer {
     fn added(
         &self,
         alloc: Global,
-        last: &LookupControlFlow<AuthLookup>,
+        last: LookupControlFlow<AuthLookup>,
     ) -> Result<AuthLookup, LookupError> {
-        let answers = joined(alloc, so_far(last), &self.records.answers)?;
+        let mut answers = so_far(alloc, last);
+        for record in &self.records.answers {
+            answers.push(record.clone()?)?;
+        }
         Ok(AuthLookup::Records {
             answers,
             additionals: Items::new(alloc),
@@ -226,12 +227,13 @@ impl Answer {
         alloc: Global,
         last: LookupControlFlow<AuthLookup>,
     ) -> LookupControlFlow<AuthLookup> {
-        let consulted = match self.flow {
-            Flow::Add => LookupControlFlow::Break(self.added(alloc, &last)),
-            _ => self.given(alloc),
-        };
-        drop(last);
-        consulted
+        match self.flow {
+            Flow::Add => LookupControlFlow::Break(self.added(alloc, last)),
+            _ => {
+                drop(last);
+                self.given(alloc)
+            }
+        }
     }
 
     /// The transfer that it is of.

@@ -7,7 +7,6 @@ use hickory_wire::Record;
 use script_values::fault::Fault;
 use script_values::output::Output;
 use script_values::text;
-use script_values::updates::Updates;
 use script_values::words::behind_word;
 use std::alloc::Global;
 use zone_text::read_record;
@@ -84,7 +83,7 @@ fn verify(zones: &mut Zones, alloc: Global, out: &mut Output) -> Result<(), Faul
     let zone = last_updatable(zones)?;
     let answer = zone.verify_prerequisites(alloc, &zones.updates.prerequisites);
     zones.updates.prerequisites.clear();
-    print_code(&zones.log, alloc, out, &answer);
+    print_code(zones, alloc, out, &answer);
     Ok(())
 }
 
@@ -106,7 +105,7 @@ fn scan(zones: &mut Zones, alloc: Global, out: &mut Output) -> Result<(), Fault>
     let zone = last_updatable(zones)?;
     let answer = zone.pre_scan(&zones.updates.changes);
     zones.updates.changes.clear();
-    print_code(&zones.log, alloc, out, &answer.map_err(UpdateFault::Code));
+    print_code(zones, alloc, out, &answer.map_err(UpdateFault::Code));
     Ok(())
 }
 
@@ -119,15 +118,19 @@ fn scan_with(zones: &mut Zones, alloc: Global, text: &str, out: &mut Output) -> 
 }
 
 /// Adds a prerequisite to the update.
-fn require(updates: &mut Updates, alloc: Global, words: &[&str], text: &str) -> Result<(), Fault> {
+fn require(zones: &mut Zones, alloc: Global, words: &[&str], text: &str) -> Result<(), Fault> {
     let record = prerequisite(alloc, words, text)?;
-    updates.prerequisites.push(record).map_err(Fault::from)
+    zones
+        .updates
+        .prerequisites
+        .push(record)
+        .map_err(Fault::from)
 }
 
 /// Adds a change to the update.
-fn add(updates: &mut Updates, alloc: Global, words: &[&str], text: &str) -> Result<(), Fault> {
+fn add(zones: &mut Zones, alloc: Global, words: &[&str], text: &str) -> Result<(), Fault> {
     let record = change(alloc, words, text)?;
-    updates.changes.push(record).map_err(Fault::from)
+    zones.updates.changes.push(record).map_err(Fault::from)
 }
 
 /// Obeys a command on the sections of an update, if it is one.
@@ -139,8 +142,8 @@ pub fn obey(
     out: &mut Output,
 ) -> Option<Result<(), Fault>> {
     Some(match words {
-        ["prereq", words @ ..] => require(&mut zones.updates, alloc, words, behind_word(line)),
-        ["update", words @ ..] => add(&mut zones.updates, alloc, words, behind_word(line)),
+        ["prereq", words @ ..] => require(zones, alloc, words, behind_word(line)),
+        ["update", words @ ..] => add(zones, alloc, words, behind_word(line)),
         ["prerequisites"] => verify(zones, alloc, out),
         ["prerequisites", ..] => verify_with(zones, alloc, behind_word(line), out),
         ["prescan"] => scan(zones, alloc, out),

@@ -2,12 +2,11 @@
 
 use crate::signing::sign_by;
 use crate::sink::Sinking;
-use crate::state::{Server, Zones};
+use crate::state::Zones;
 use hickory_wire::{NSIDPayload, Protocol};
 use script_values::fault::Fault;
 use script_values::output::Output;
 use script_values::printing::{Printed, print_hex};
-use script_values::settings::Settings;
 use script_values::words::octets;
 use std::alloc::Global;
 use std::net::{IpAddr, SocketAddr};
@@ -55,34 +54,34 @@ fn printed(word: &str) -> Option<Printed> {
 }
 
 /// Sets what a line of one word names, and tells whether it names a transport or a form.
-fn set(settings: &mut Settings, word: &str) -> bool {
+fn set(zones: &mut Zones, word: &str) -> bool {
     if let Some(protocol) = transport(word) {
-        settings.protocol = protocol;
+        zones.messages.settings.protocol = protocol;
         return true;
     }
     if let Some(printed) = printed(word) {
-        settings.printed = printed;
+        zones.messages.settings.printed = printed;
         return true;
     }
     false
 }
 
 /// Sets where messages come from.
-fn set_source(settings: &mut Settings, address: &str, port: &str) -> Result<(), Fault> {
+fn set_source(zones: &mut Zones, address: &str, port: &str) -> Result<(), Fault> {
     let address = address.parse::<IpAddr>()?;
-    settings.source = SocketAddr::new(address, port.parse::<u16>()?);
+    zones.messages.settings.source = SocketAddr::new(address, port.parse::<u16>()?);
     Ok(())
 }
 
 /// Sets when messages come.
-fn set_now(settings: &mut Settings, seconds: &str) -> Result<(), Fault> {
-    settings.now = seconds.parse::<u64>()?;
+fn set_now(zones: &mut Zones, seconds: &str) -> Result<(), Fault> {
+    zones.messages.settings.now = seconds.parse::<u64>()?;
     Ok(())
 }
 
 /// Sets what the sink does with replies.
-fn set_sink(sinking: &mut Sinking, words: &[&str]) -> Result<(), Fault> {
-    *sinking = match words {
+fn set_sink(zones: &mut Zones, words: &[&str]) -> Result<(), Fault> {
+    zones.sinking = match words {
         ["works"] => Sinking::Works,
         ["keeps"] => Sinking::Keeps,
         ["fails"] => Sinking::Fails,
@@ -92,21 +91,21 @@ fn set_sink(sinking: &mut Sinking, words: &[&str]) -> Result<(), Fault> {
 }
 
 /// Takes away what identifies the server.
-fn forget_identifier(server: &mut Server) -> Result<(), Fault> {
-    server.set_nsid(None);
+fn forget_identifier(zones: &mut Zones) -> Result<(), Fault> {
+    zones.catalog.set_nsid(None);
     Ok(())
 }
 
 /// Sets what identifies the server (RFC 5001).
-fn identify(server: &mut Server, alloc: Global, digits: &[&str]) -> Result<(), Fault> {
+fn identify(zones: &mut Zones, alloc: Global, digits: &[&str]) -> Result<(), Fault> {
     let payload = NSIDPayload::new(octets(alloc, digits)?)?;
-    server.set_nsid(Some(payload));
+    zones.catalog.set_nsid(Some(payload));
     Ok(())
 }
 
 /// Puts what identifies the server behind a text, in hex digits.
-fn print_identifier(server: &Server, out: &mut Output) {
-    match server.nsid() {
+fn print_identifier(zones: &Zones, out: &mut Output) {
+    match zones.catalog.nsid() {
         Some(payload) => print_hex(out, payload.as_slice()),
         None => out.put("none\n"),
     }
@@ -119,19 +118,18 @@ pub fn obey(
     words: &[&str],
     out: &mut Output,
 ) -> Option<Result<(), Fault>> {
-    let settings = &mut zones.messages.settings;
     Some(match words {
-        [word] if set(settings, word) => Ok(()),
-        ["source", address, port] => set_source(settings, address, port),
-        ["now", seconds] => set_now(settings, seconds),
+        [word] if set(zones, word) => Ok(()),
+        ["source", address, port] => set_source(zones, address, port),
+        ["now", seconds] => set_now(zones, seconds),
         ["signer", words @ ..] => sign_by(zones, alloc, words),
-        ["sink", words @ ..] => set_sink(&mut zones.sinking, words),
+        ["sink", words @ ..] => set_sink(zones, words),
         ["identifier"] => {
-            print_identifier(&zones.catalog, out);
+            print_identifier(zones, out);
             Ok(())
         }
-        ["identifier", "none"] => forget_identifier(&mut zones.catalog),
-        ["identifier", digits @ ..] => identify(&mut zones.catalog, alloc, digits),
+        ["identifier", "none"] => forget_identifier(zones),
+        ["identifier", digits @ ..] => identify(zones, alloc, digits),
         _ => return None,
     })
 }

@@ -1,9 +1,7 @@
 //! Zones that take dynamic updates, and who may send them one.
 
 use crate::asking::print_calls;
-use crate::calls::CallLog;
 use crate::handler::{Handler, Source};
-use crate::open_zone::OpenZone;
 use crate::state::Zones;
 use crate::verifier::ScriptedVerifier;
 use crate::zones::axfr_policy;
@@ -72,16 +70,15 @@ fn handler_of(zone: UpdatableZone) -> Result<Handler, AllocError> {
 
 /// The handler of the open zone's records, which takes updates. Its verifier knows no key.
 fn updatable(
-    open: &Option<OpenZone>,
-    log: &CallLog,
+    zones: &Zones,
     alloc: Global,
     policy: AxfrPolicy,
     allow_update: bool,
 ) -> Result<Handler, Fault> {
-    let Some(zone) = open else {
+    let Some(zone) = &zones.zone else {
         return Err(Fault::NoZone);
     };
-    let log = log.share()?;
+    let log = zones.log.share()?;
     let in_memory = zone.zone(alloc)?;
     let verifier = ScriptedVerifier::without_keys(alloc, log);
     let zone = SqliteZoneHandler::new(in_memory, policy, allow_update, verifier);
@@ -91,9 +88,9 @@ fn updatable(
 /// Makes the open zone one that takes updates.
 fn begin(zones: &mut Zones, alloc: Global, words: &[&str]) -> Result<(), Fault> {
     let (policy, allow_update) = updatable_words(words)?;
-    let handler = updatable(&zones.zone, &zones.log, alloc, policy, allow_update)?;
+    let handler = updatable(zones, alloc, policy, allow_update)?;
     zones.chain.push(handler)?;
-    drop(zones.zone.take());
+    zones.zone = None;
     zones.messages.place = Place::Nothing;
     Ok(())
 }
@@ -166,13 +163,13 @@ fn names(alloc: Global, words: &[&str]) -> Result<Vec<Name>, Fault> {
 
 /// A verifier that knows these keys.
 fn verifier(
-    log: &CallLog,
+    zones: &Zones,
     alloc: Global,
     keys: &[&str],
     times: Option<Range<u64>>,
     wants_memory: bool,
 ) -> Result<ScriptedVerifier, Fault> {
-    let log = log.share()?;
+    let log = zones.log.share()?;
     let keys = names(alloc, keys)?;
     Ok(ScriptedVerifier {
         keys,
@@ -190,7 +187,7 @@ fn set_verifier(
     times: Option<Range<u64>>,
     wants_memory: bool,
 ) -> Result<(), Fault> {
-    let verifier = verifier(&zones.log, alloc, keys, times, wants_memory)?;
+    let verifier = verifier(zones, alloc, keys, times, wants_memory)?;
     match last_updatable_mut(zones) {
         Ok(zone) => {
             zone.set_verifier(verifier);
@@ -235,9 +232,12 @@ pub fn print_context(out: &mut Output, context: &Option<TSigResponseContext>) {
     match context {
         None => out.put("nothing to be signed\n"),
         Some(context) => {
-            out.put_field("to be signed, id ", &context.request_id);
-            out.put_field(", now ", &context.now);
-            out.put_field(", ", &context.key_name);
+            out.put("to be signed, id ");
+            out.put_value(&context.request_id);
+            out.put(", now ");
+            out.put_value(&context.now);
+            out.put(", ");
+            out.put_value(&context.key_name);
             out.put(" ");
             print_kind(out, &context.kind);
         }
@@ -256,15 +256,16 @@ fn code_of(answer: &Result<(), UpdateFault>) -> Option<ResponseCode> {
 /// Puts the response code of an answer behind a text. Want of memory is what is told where the verifier was to answer so,
 /// and else it is refused.
 pub fn print_code(
-    log: &CallLog,
+    zones: &Zones,
     alloc: Global,
     out: &mut Output,
     answer: &Result<(), UpdateFault>,
 ) {
-    let wants_memory = print_calls(log, alloc, out);
+    let wants_memory = print_calls(zones, alloc, out);
     match code_of(answer) {
         Some(code) => {
-            out.put_line(&code);
+            out.put_value(&code);
+            out.put("\n");
         }
         None if wants_memory => out.put("no memory\n"),
         None => out.refuse(),

@@ -1,7 +1,6 @@
 //! Whole updates of the updatable zone last begun (RFC 2136 section 3).
 
 use crate::asking::print_calls;
-use crate::calls::CallLog;
 use crate::state::Zones;
 use crate::updatable::{
     UpdatableZone, last_updatable, last_updatable_mut, print_code, print_context,
@@ -46,14 +45,14 @@ fn outcome(changed: bool, increments_serial: bool) -> &'static str {
 
 /// Puts the answer to an update behind a text: the response code, and where that is NOERROR what it did to the zone.
 fn print_answer(
-    log: &CallLog,
+    zones: &Zones,
     alloc: Global,
     out: &mut Output,
     answer: Result<bool, UpdateFault>,
     increments_serial: bool,
 ) {
     match answer {
-        Err(fault) => print_code(log, alloc, out, &Err(fault)),
+        Err(fault) => print_code(zones, alloc, out, &Err(fault)),
         Ok(changed) => {
             out.put_value(&ResponseCode::NO_ERROR);
             out.put(", ");
@@ -73,7 +72,7 @@ fn authorize(
     let zone = last_updatable(zones)?;
     let now = zones.messages.settings.now;
     let (permission, context) = zone.authorize_update(alloc, request, now);
-    print_code(&zones.log, alloc, out, &permission);
+    print_code(zones, alloc, out, &permission);
     print_context(out, &context);
     drop(context);
     Ok(())
@@ -88,7 +87,7 @@ fn update(
 ) -> Result<(), Fault> {
     let now = zones.messages.settings.now;
     let (answer, context) = last_updatable_mut(zones)?.update(alloc, request, now);
-    print_answer(&zones.log, alloc, out, answer, true);
+    print_answer(zones, alloc, out, answer, true);
     print_context(out, &context);
     drop(context);
     Ok(())
@@ -128,7 +127,7 @@ fn update_unsigned(
 ) -> Result<(), Fault> {
     let zone = last_updatable_mut(zones)?;
     let answer = make_update(zone, alloc, request.message());
-    print_answer(&zones.log, alloc, out, answer, true);
+    print_answer(zones, alloc, out, answer, true);
     Ok(())
 }
 
@@ -215,12 +214,13 @@ fn read_requests(
 
 /// Puts behind a text whether all requests had their turn. Want of memory is what is told where the verifier was to answer
 /// so, and else it is refused.
-fn print_all(log: &CallLog, alloc: Global, out: &mut Output, answer: Result<(), usize>) {
-    let wants_memory = print_calls(log, alloc, out);
+fn print_all(zones: &Zones, alloc: Global, out: &mut Output, answer: Result<(), usize>) {
+    let wants_memory = print_calls(zones, alloc, out);
     match answer {
         Ok(()) => out.put("all had their turn\n"),
         Err(count) if wants_memory => {
-            out.put_field("no memory, ", &count);
+            out.put("no memory, ");
+            out.put_value(&count);
             out.put(" had their turn\n");
         }
         Err(_) => out.refuse(),
@@ -235,7 +235,7 @@ fn answer_all(
     out: &mut Output,
 ) -> Result<(), Fault> {
     let answer = last_updatable_mut(zones)?.update_all(alloc, requests);
-    print_all(&zones.log, alloc, out, answer);
+    print_all(zones, alloc, out, answer);
     Ok(())
 }
 
@@ -301,7 +301,7 @@ fn apply_changes(
 ) -> Result<(), Fault> {
     let zone = last_updatable_mut(zones)?;
     let answer = make_changes(zone, alloc, changes, increments_serial);
-    print_answer(&zones.log, alloc, out, answer, increments_serial);
+    print_answer(zones, alloc, out, answer, increments_serial);
     Ok(())
 }
 

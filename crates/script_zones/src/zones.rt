@@ -3,7 +3,7 @@
 use crate::begun::{chain_of, last_begun};
 use crate::handler::{Handler, Source};
 use crate::open_zone::{OpenZone, accepted};
-use crate::state::{Server, Zones};
+use crate::state::Zones;
 use hickory_base::zone_store::{AxfrPolicy, InMemoryZoneHandler, ZoneHandler, ZoneType};
 use hickory_wire::{
     LowerName, Message, MessageType, Metadata, OpCode, Record, RecordType, ReplyParts, RrKey,
@@ -16,7 +16,7 @@ use script_values::state::Place;
 use script_values::text::{lower_name, zone_name};
 use script_values::words::octets;
 use std::alloc::{AllocError, Global};
-use std::{io, mem, str};
+use std::{io, str};
 use zone_text::read_zone_file;
 
 /// The type of a zone, by a word.
@@ -100,24 +100,17 @@ pub fn close(zones: &mut Zones, alloc: Global) -> Result<(), Fault> {
     if let Some(zone) = &zones.zone {
         let handler = zone.handler(alloc)?;
         zones.chain.push(handler)?;
-        drop(zones.zone.take());
+        zones.zone = None;
     }
     Ok(())
 }
 
 /// Goes on with another zone, to which the records that follow belong.
 fn open(zones: &mut Zones, alloc: Global, zone: OpenZone) -> Result<(), Fault> {
-    match close(zones, alloc) {
-        Ok(()) => {
-            drop(mem::replace(&mut zones.zone, Some(zone)));
-            zones.messages.place = Place::Zone;
-            Ok(())
-        }
-        Err(e) => {
-            drop(zone);
-            Err(e)
-        }
-    }
+    close(zones, alloc)?;
+    zones.zone = Some(zone);
+    zones.messages.place = Place::Zone;
+    Ok(())
 }
 
 /// Begins a zone.
@@ -132,29 +125,10 @@ fn begin(zones: &mut Zones, alloc: Global, origin: &str, words: &[&str]) -> Resu
 }
 
 /// Puts a record into the open zone.
-pub fn put(open: &mut Option<OpenZone>, alloc: Global, record: &Record) -> Result<(), Fault> {
-    match open {
+pub fn put(zones: &mut Zones, alloc: Global, record: &Record) -> Result<(), Fault> {
+    match &mut zones.zone {
         None => Err(Fault::NoZone),
         Some(zone) => zone.put(alloc, record),
-    }
-}
-
-/// Puts records into a zone.
-fn put_all(zone: &mut OpenZone, alloc: Global, records: &[Record]) -> Result<(), Fault> {
-    for record in records {
-        zone.put(alloc, record)?;
-    }
-    Ok(())
-}
-
-/// A zone, unless not all of its records could be put into it.
-fn whole(zone: OpenZone, put: Result<(), Fault>) -> Result<OpenZone, Fault> {
-    match put {
-        Ok(()) => Ok(zone),
-        Err(e) => {
-            drop(zone);
-            Err(e)
-        }
     }
 }
 
@@ -166,8 +140,10 @@ fn zone_of(alloc: Global, origin: LowerName, records: &[Record]) -> Result<OpenZ
         _ => records,
     };
     let mut zone = OpenZone::new(alloc, origin, ZoneType::Primary, AxfrPolicy::Deny);
-    let put = put_all(&mut zone, alloc, records);
-    whole(zone, put)
+    for record in records {
+        zone.put(alloc, record)?;
+    }
+    Ok(zone)
 }
 
 /// The zone whose records are the answers of a message.
@@ -206,7 +182,8 @@ fn zone_of_text(alloc: Global, origin: LowerName, text: &str) -> Result<OpenZone
     let mut zone = OpenZone::new(alloc, origin, ZoneType::Primary, AxfrPolicy::Deny);
     let put = zone.put_file(alloc, records.as_slice());
     drop(records);
-    whole(zone, put)
+    put?;
+    Ok(zone)
 }
 
 /// The zone that the bytes of a zone file have.
@@ -242,13 +219,16 @@ fn zone_in(handler: &Handler) -> Result<&InMemoryZoneHandler, Fault> {
 fn print_heading(out: &mut Output, zone: &InMemoryZoneHandler) {
     let kind = type_word(zone.zone_type());
     let policy = policy_word(zone.axfr_policy());
-    out.put_field("; zone ", zone.origin());
-    out.put_field(" ", &zone.class());
+    out.put("; zone ");
+    out.put_value(zone.origin());
+    out.put(" ");
+    out.put_value(&zone.class());
     out.put(", ");
     out.put(kind);
     out.put(", transfers ");
     out.put(policy);
-    out.put_field(", serial ", &zone.serial());
+    out.put(", serial ");
+    out.put_value(&zone.serial());
     out.put("\n");
 }
 
@@ -318,7 +298,8 @@ fn tell_of(handler: &Handler, alloc: Global, what: &str, out: &mut Output) -> Re
     match what {
         "show" => print_zone(out, zone),
         "serial" => {
-            out.put_line(&zone.serial());
+            out.put_value(&zone.serial());
+            out.put("\n");
         }
         _ => return print_zone_message(alloc, out, zone),
     }
@@ -334,13 +315,13 @@ fn tell(zones: &Zones, alloc: Global, what: &str, out: &mut Output) -> Result<()
 }
 
 /// Tells of the zones of the chain that is served at a name.
-fn show(server: &Server, alloc: Global, apex: &str, out: &mut Output) -> Result<(), Fault> {
-    print_zones(out, chain_of(server, alloc, apex)?)
+fn show(zones: &Zones, alloc: Global, apex: &str, out: &mut Output) -> Result<(), Fault> {
+    print_zones(out, chain_of(zones, alloc, apex)?)
 }
 
-/// Tells whether records make a set, and a zone under a name and type.
+/// Tells whether the answers of the reply make a set, and a zone under a name and type.
 fn print_accepted(
-    records: &[Record],
+    zones: &Zones,
     alloc: Global,
     name: &str,
     record_type: &str,
@@ -348,7 +329,7 @@ fn print_accepted(
 ) -> Result<(), Fault> {
     let record_type = record_type.parse::<RecordType>()?;
     let key = RrKey::new(lower_name(alloc, name)?, record_type);
-    let judged = accepted(alloc, &key, records);
+    let judged = accepted(alloc, &key, &zones.messages.reply.answers);
     drop(key);
     let (is_set, is_zone) = judged?;
     let set = if is_set { "a set" } else { "no set" };
@@ -370,10 +351,8 @@ pub fn obey(
     Some(match words {
         ["zone", origin, words @ ..] => begin(zones, alloc, origin, words),
         ["load", origin, digits @ ..] => load(zones, alloc, origin, digits),
-        ["accepts", name, kind] => {
-            print_accepted(&zones.messages.reply.answers, alloc, name, kind, out)
-        }
-        ["show", apex] => show(&zones.catalog, alloc, apex, out),
+        ["accepts", name, kind] => print_accepted(zones, alloc, name, kind, out),
+        ["show", apex] => show(zones, alloc, apex, out),
         [what @ ("show" | "serial" | "message")] => tell(zones, alloc, what, out),
         _ => return None,
     })

@@ -67,7 +67,7 @@ impl Script {
     fn put(&mut self, alloc: Global, record: &Record) -> Result<(), Fault> {
         match self.zones.messages.place {
             Place::Nothing => Err(Fault::NoSection),
-            Place::Zone => zones::put(&mut self.zones.zone, alloc, record),
+            Place::Zone => zones::put(&mut self.zones, alloc, record),
             Place::Answer(section) => chains::put(&mut self.zones, section, record),
             Place::Reply(section) => self
                 .zones
