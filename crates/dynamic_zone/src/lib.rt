@@ -1,7 +1,7 @@
 //! A zone that takes dynamic updates (RFC 2136) and answers standard queries as an authoritative server does (RFC 1034 section 4.3.2).
 #![tactic(auto)]
 
-ghost use Rattle.std.specs.Prelude.{◌≡◌, ◌↔◌, ◌⊎◌, Err, IsTrue, None, false};
+ghost use Rattle.std.specs.Prelude.{◌≡◌, ◌≢◌, ◌↔◌, ◌⊎◌, Err, IsTrue, None, Ok, false, true};
 ghost use Rattle.hickory_base.specs.declared.errors.LookupError.TheVariants.{Memory};
 ghost use Rattle.hickory_base.specs.declared.zone_store.lookup.LookupControlFlow.TheVariants.{Skip};
 ghost use Rattle.hickory_store.specs.Permission.{transfer_permission};
@@ -59,6 +59,13 @@ fn seen(zone: &InMemoryZoneHandler) -> (Features, bool)
         features_of(zone.origin(), zone.records()),
         are_owners(zone.origin(), zone.records()),
     )
+}
+
+/// Whether an update is answered by a change of the zone.
+fn has_changed(answer: &Result<bool, UpdateFault>) -> bool
+    ensures { result ≡ false → answer.now ≢ Ok true }
+{
+    matches!(answer, Ok(true))
 }
 
 impl<V: Verifier> DynamicZone<V> {
@@ -254,7 +261,7 @@ impl<V: Verifier> ZoneHandler for DynamicZone<V> {
         now: u64,
     ) -> (Result<bool, UpdateFault>, Option<TSigResponseContext>) {
         let (answer, context) = self.updatable.update(alloc, request, now);
-        if matches!(answer, Ok(true)) {
+        if has_changed(&answer) {
             let (has, is_owned) = seen(self.updatable.in_memory());
             self.has = has;
             self.is_owned = is_owned;
