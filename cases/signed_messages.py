@@ -2,13 +2,14 @@
 """Writes the requests of tests_signed/, and judges the replies to them by Python's hmac.
 
     cases/signed_messages.py write              writes tests_signed/*.in anew
-    cases/signed_messages.py verify FILE..      reads what tests_signed printed, and verifies every signature in it
+    cases/signed_messages.py verify [FILE..]    reads what tests_signed printed, or is to print (tests_signed/*.out), and verifies every signature in it
 
 The requests are made and signed here (RFC 8945 sections 4.3 and 5.1). `verify` looks up the request of every reply in the .in beside the file,
 and says of each reply whether it carries a MAC, and whether that is the one of the bytes (sections 5.3 and 5.3.1). A comment above a message
 begins with the word that is wanted of its replies: 'signed', with a MAC that verifies; 'bare', with a TSIG record without a MAC; 'plain', without
 a TSIG record; or 'none', where there is no reply. The last line is 'N passed, M failed'.
 """
+import glob
 import hashlib
 import hmac
 import os
@@ -266,7 +267,7 @@ def main(words):
     if words[:1] == ["write"]:
         write()
         return 0
-    told = [verify(path) for path in words[1:]]
+    told = [verify(path) for path in words[1:] or sorted(glob.glob(os.path.join(FOLDER, "*.out")))]
     passed, failed = sum(it[0] for it in told), sum(it[1] for it in told)
     print(f"{passed} passed, {failed} failed")
     return 1 if failed or not passed else 0
