@@ -12,6 +12,7 @@ mod lines;
 use crate::fault::Fault;
 use crate::files::{FileFault, read_records};
 use crate::lines::{status_of, tell_findings};
+use clap::error::ErrorKind;
 use clap::{Arg, ArgMatches, Command, Error};
 use std::alloc::{AllocError, Global};
 use std::process::ExitCode;
@@ -126,6 +127,9 @@ fn run_matches<R: Files + Print + Eprint + Alloc<A = Global>>(
 
 /// Prints what is said of the arguments, which may be the help that they ask for, and gives the status.
 fn print_of_arguments<R: Print + Eprint>(rt: &R, error: &Error) -> u8 {
+    if matches!(error.kind(), ErrorKind::OutOfMemory) {
+        return tell(rt, Fault::Memory);
+    }
     match error.print(rt) {
         Ok(()) if error.exit_code() == 0 => 0,
         Ok(()) => 2,
