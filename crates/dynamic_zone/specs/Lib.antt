@@ -1,1 +1,2 @@
 pub mod DynamicZones
+pub mod OwnerLaws

@@ -1,7 +1,8 @@
 //! A zone that takes dynamic updates (RFC 2136) and answers standard queries as an authoritative server does (RFC 1034 section 4.3.2).
 #![tactic(auto)]
 
-ghost use Rattle.std.specs.Prelude.{◌≡◌, ◌≢◌, ◌↔◌, ◌⊎◌, Err, IsTrue, None, Ok, false, true};
+ghost use Rattle.std.specs.Prelude.{◌≡◌, ◌≢◌, ◌↔◌, ◌⊎◌, All, Err, IsTrue, None, Ok, false, true};
+ghost use Rattle.hickory_base.specs.zone_store.ZoneSets.{AreSetsInOrder, IsZone};
 ghost use Rattle.hickory_base.specs.declared.errors.LookupError.TheVariants.{Memory};
 ghost use Rattle.hickory_base.specs.declared.zone_store.lookup.LookupControlFlow.TheVariants.{Skip};
 ghost use Rattle.hickory_store.specs.Permission.{transfer_permission};
@@ -10,18 +11,23 @@ ghost use Rattle.hickory_zone.specs.Features.{AreFeatures};
 ghost use Rattle.hickory_zone.specs.Replies.{zone_of};
 ghost use Rattle.hickory_zone.specs.Zones.{AreOwners};
 ghost use Rattle.dynamic_zone.specs.DynamicZones.{IsAnswered, IsFound, LookedUp, Searched, TransferAnswered};
+ghost use Rattle.dynamic_zone.specs.OwnerLaws.{IsNamed};
+
+pub mod laws;
 
 use hickory_base::errors::{LookupError, UpdateFault};
+use hickory_base::update_request::UpdateRequest;
 use hickory_base::server::{Request, RequestInfo};
 use hickory_base::zone_store::{
     AuthLookup, AxfrPolicy, InMemoryZoneHandler, LookupControlFlow, LookupOptions, Nsec3QueryInfo,
     NxProofKind, StoredAnswer, ZoneHandler, ZoneTransfer, ZoneType,
 };
+use hickory_store::sqlite::laws::identities;
 use hickory_store::sqlite::{SqliteZoneHandler, Verifier};
-use hickory_wire::{LowerName, LowerQuery, RecordType, ResponseCode, TSigResponseContext};
+use hickory_wire::{LowerName, LowerQuery, Record, RecordType, ResponseCode, TSigResponseContext};
 use hickory_zone::denials::denial_soa;
 use hickory_zone::handled::{names_zone, records, whole};
-use hickory_zone::{Features, are_owners, features_of, stored};
+use hickory_zone::{Features, are_owners, features_of, stored, with_records};
 use std::alloc::Global;
 use std::marker::Model;
 
@@ -59,6 +65,30 @@ fn seen(zone: &InMemoryZoneHandler) -> (Features, bool)
         features_of(zone.origin(), zone.records()),
         are_owners(zone.origin(), zone.records()),
     )
+}
+
+/// That its sets are those of a zone, in their order, is known of a zone whose sets were read.
+fn read_sets(zone: &InMemoryZoneHandler)
+    ensures zone { IsZone zone.now.sets }
+    ensures ordered { AreSetsInOrder zone.now.sets }
+{
+    let _ = zone.records();
+}
+
+/// Whether the owner name of a record is fully qualified.
+fn is_named(r: &Record) -> bool
+    ensures { IsTrue result ↔ IsNamed r.now }
+{
+    // That its labels are those of a name is known of a name whose bytes were read.
+    let _ = r.name.as_wire();
+    r.name.is_fqdn()
+}
+
+/// The same of all records.
+fn are_named(records: &[Record]) -> bool
+    ensures { IsTrue result ↔ All IsNamed records.now }
+{
+    records.iter().all(|r| is_named(r))
 }
 
 /// Whether an update is answered by a change of the zone.
@@ -260,11 +290,19 @@ impl<V: Verifier> ZoneHandler for DynamicZone<V> {
         request: &Request,
         now: u64,
     ) -> (Result<bool, UpdateFault>, Option<TSigResponseContext>) {
+        read_sets(self.updatable.in_memory());
         let (answer, context) = self.updatable.update(alloc, request, now);
         if has_changed(&answer) {
-            let (has, is_owned) = seen(self.updatable.in_memory());
-            self.has = has;
-            self.is_owned = is_owned;
+            read_sets(self.updatable.in_memory());
+            let updates = request.message().updates();
+            if self.is_owned && are_named(updates) {
+                identities();
+                self.has = with_records(self.has, updates);
+            } else {
+                let (has, is_owned) = seen(self.updatable.in_memory());
+                self.has = has;
+                self.is_owned = is_owned;
+            }
         }
         (answer, context)
     }

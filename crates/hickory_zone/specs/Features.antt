@@ -1,8 +1,11 @@
 -- What a zone has, and where.
-use Rattle.std.specs.Prelude.{◌≡◌, ◌==◌, ◌<◌, ◌≤◌, ◌-◌, ◌⊎◌, ℕ, Bool, false, List, length, slice_index}
+use Rattle.std.specs.Prelude.{◌≡◌, ◌==◌, ◌<◌, ◌≤◌, ◌-◌, ◌⊎◌, ℕ, Bool, false, true, List, length, slice_index}
 use Rattle.std.specs.List.{list_any}
 use Rattle.wire_names.specs.rr.domain.DomainName.{AreLabels, DomainName, wire_form}
 use Rattle.wire_names.specs.rr.domain.NameOrder.{Encloses}
+use Rattle.wire_messages.specs.rr.RecordData.{type_of}
+use Rattle.wire_messages.specs.declared.rr.rdata.RData.{RData}
+use Rattle.wire_messages.specs.declared.rr.record.Record.{Record}
 use Rattle.wire_messages.specs.declared.rr.rr_key.RrKey.{RrKey}
 use Rattle.hickory_zone.specs.declared.features.Features.{Features}
 use Rattle.hickory_zone.specs.declared.features.Lengths.{Lengths}
@@ -45,3 +48,21 @@ pub record AreStarsWithin (lengths : Lengths) (bytes : List ℕ) : Type 0 where
 -- All wildcards at the key's name or above it stand right below names of such lengths.
 pub record IsWildWithin (lengths : Lengths) (key : RrKey) : Type 0 where
   pub stars : AreStarsWithin lengths (wire_form key.name.labels)
+
+-- ---- what a zone has with records more
+
+-- The lengths of the first are all among those of the second.
+pub record AreAmong (less more : Lengths) : Type 0 where
+  pub each : (len : ℕ) → IsOfLength less len → IsOfLength more len
+
+-- What the first is said to have, and where, the second is.
+pub record Includes (less more : Features) : Type 0 where
+  pub cuts : AreAmong less.cuts more.cuts
+  pub dnames : less.dnames ≡ true → more.dnames ≡ true
+  pub wildcards : AreAmong less.wildcards more.wildcards
+
+-- What a zone has by a record is said: a cut at its name, a DNAME, and wildcards at its name or above it.
+pub record Covers (has : Features) (r : Record RData) : Type 0 where
+  pub cuts : type_of r.rdata ≡ type_ns → IsOfLength has.cuts (length (wire_form r.name.labels))
+  pub dnames : type_of r.rdata ≡ type_dname → has.dnames ≡ true
+  pub wildcards : AreStarsWithin has.wildcards (wire_form r.name.labels)

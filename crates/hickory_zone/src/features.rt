@@ -7,11 +7,11 @@ ghost use Rattle.hickory_base.specs.zone_store.ZoneSets.{sets_of};
 ghost use Rattle.wire_names.specs.rr.domain.DomainName.{AreLabels, DomainName, wire_form};
 ghost use Rattle.hickory_zone.specs.Zones.{Exists, IsCut, wildcard};
 ghost use Rattle.std.specs.Prelude.{◌<◌, ◌-◌, ◌+◌, ℕ, length, slice_index};
-ghost use Rattle.hickory_zone.specs.Features.{AreFeatures, AreStarsWithin, CutsNothing, CutsWithin, IsNoDname, IsOfLength, IsStarless, IsWildWithin, has_star};
+ghost use Rattle.hickory_zone.specs.Features.{AreAmong, AreFeatures, AreStarsWithin, Covers, CutsNothing, CutsWithin, Includes, IsNoDname, IsOfLength, IsStarless, IsWildWithin, has_star};
 
 use crate::redirections::DNAME;
 use hickory_base::zone_store::RecordSet;
-use hickory_wire::{LowerName, Name, RecordType, RrKey};
+use hickory_wire::{LowerName, Name, Record, RecordType, RrKey};
 use std::collections::BTreeMap;
 use std::rc::Rc;
 
@@ -61,7 +61,10 @@ fn all_lengths() -> Lengths
 }
 
 /// The lengths with one more, and all between.
-fn with_length(lengths: Lengths, len: usize) -> Lengths {
+fn with_length(lengths: Lengths, len: usize) -> Lengths
+    ensures among { AreAmong lengths result }
+    ensures this { IsOfLength result len }
+{
     Lengths {
         least: lengths.least.min(len),
         most: lengths.most.max(len),
@@ -179,7 +182,10 @@ fn cut_lengths(origin: &LowerName, sets: &BTreeMap<RrKey, Rc<RecordSet>>) -> Len
 }
 
 /// The lengths with those of what stands behind each `*` of the bytes.
-fn with_stars(lengths: Lengths, bytes: &[u8]) -> Lengths {
+fn with_stars(lengths: Lengths, bytes: &[u8]) -> Lengths
+    ensures among { AreAmong lengths result }
+    ensures stars { AreStarsWithin result bytes.now }
+{
     let mut all = lengths;
     for i in 0..bytes.len() {
         if bytes[i] == b'*' {
@@ -251,4 +257,35 @@ pub fn features_of(origin: &LowerName, sets: &BTreeMap<RrKey, Rc<RecordSet>>) ->
         dnames: !are_no_dnames(sets),
         wildcards: wildcard_lengths(sets),
     }
+}
+
+/// What a zone has with a record more.
+fn with_record(has: Features, added: &Record) -> Features
+    ensures includes { Includes has result }
+    ensures covers { Covers result added.now }
+{
+    let bytes = added.name.as_wire();
+    let record_type = added.rdata.record_type();
+    let cuts = if record_type == RecordType::NS {
+        with_length(has.cuts, bytes.len())
+    } else {
+        has.cuts
+    };
+    Features {
+        cuts,
+        dnames: has.dnames || record_type.value() == DNAME,
+        wildcards: with_stars(has.wildcards, bytes),
+    }
+}
+
+/// What a zone that has these has with records more, whatever goes: so nothing of the zone is looked at. It takes time by the records.
+pub fn with_records(has: Features, added: &[Record]) -> Features
+    ensures includes { Includes has result }
+    ensures covers { All (Covers result) added.now }
+{
+    let mut all = has;
+    for i in 0..added.len() {
+        all = with_record(all, &added[i]);
+    }
+    all
 }

@@ -20,7 +20,7 @@ pub use additionals::Source;
 pub use answers::{are_owners, reply, reply_to, stored};
 pub use authoritative_zone::AuthoritativeZone;
 pub use chains::{ChainEnd, follow};
-pub use features::{Features, Lengths, features_of};
+pub use features::{Features, Lengths, features_of, with_records};
 pub use find::{Found, look_up};
 pub use redirections::Redirection;
 pub use zone_with_parent::ZoneWithParent;

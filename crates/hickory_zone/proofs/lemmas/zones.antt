@@ -4,6 +4,7 @@ pub mod Cuts
 pub mod CutsAbove
 pub mod Every
 pub mod Features
+pub mod MoreFeatures
 pub mod Nodes
 pub mod Outcomes
 pub mod Owners
