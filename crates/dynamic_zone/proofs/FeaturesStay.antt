@@ -70,9 +70,10 @@ of_itself r = ap (λ b. b && (type_of r.rdata == type_of r.rdata)) (eq_from_same
 
 each_of : (Q : Resource → Type 0) (rs : Records) → ((r : Resource) → list_any (is_of r.name (type_of r.rdata)) rs ≡ true → Q r) → AllByRecursion Q rs
 each_of Q [] h = tt
-each_of Q (r ∷ rs) h =
-    (h r (first_or (is_of r.name (type_of r.rdata) r) (list_any (is_of r.name (type_of r.rdata)) rs) (of_itself r)),
-    each_of Q rs (λ q e. h q (second_or (is_of q.name (type_of q.rdata) r) (list_any (is_of q.name (type_of q.rdata)) rs) e)))
+each_of Q (r ∷ rs) h = (
+  h r (first_or (is_of r.name (type_of r.rdata) r) (list_any (is_of r.name (type_of r.rdata)) rs) (of_itself r)),
+  each_of Q rs (λ q e. h q (second_or (is_of q.name (type_of q.rdata) r) (list_any (is_of q.name (type_of q.rdata)) rs) e)),
+)
 
 same_size : (ls ms : List (List ℕ)) → lower_labels ls ≡ lower_labels ms → length (wire_form ls) ≡ length (wire_form ms)
 same_size ls ms e = omega (arith, ap name_len e, lower_len ls, lower_len ms, name_len-wire_form ls, name_len-wire_form ms)
@@ -190,10 +191,11 @@ module _ (identity : (a b : Resource) → IsTrue (same_record a b) ↔ SameRecor
     wild_brought : (rs : Records) → AllByRecursion (Covers more) rs → AllByRecursion (λ r. WildCovered r.name (type_of r.rdata)) rs
     unfolding WildCovered one_key
     wild_brought [] k = tt
-    wild_brought (r ∷ rs) k =
-        ((λ within. wild_of_length ((one_key r, []) ∷ []) more.wildcards (All-from_recursion (IsWildWithin more.wildcards) (one_key r ∷ []) (record { stars = k.0.wildcards }, tt)) encloser
-        (record { owner = one_key r; held = (0, omega arith, refl); at_or_below = within })),
-        wild_brought rs k.1)
+    wild_brought (r ∷ rs) k = (
+      (λ within. wild_of_length ((one_key r, []) ∷ []) more.wildcards (All-from_recursion (IsWildWithin more.wildcards) (one_key r ∷ []) (record { stars = k.0.wildcards }, tt)) encloser
+          (record { owner = one_key r; held = (0, omega arith, refl); at_or_below = within })),
+      wild_brought rs k.1,
+    )
 
     wild_before : AllByRecursion (λ r. WildCovered r.name (type_of r.rdata)) (zone_records old.zone.sets)
     unfolding WildCovered

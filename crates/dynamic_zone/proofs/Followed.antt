@@ -44,12 +44,15 @@ module _ (zones : (origin name : DomainName) → IsTrue (is_in_zone origin name)
     (before : AreSets old) (after : AreSets new) (less more : Features) (is_owned : Bool) where
   brought : Brings less more (update_of request.message).updates → AreFeatures (zone_of old.zone) less × (IsTrue is_owned ↔ AreOwners old.zone.origin old.zone.sets) → is_owned ≡ true
       → AreFeatures (zone_of new.zone) more × (IsTrue is_owned ↔ AreOwners new.zone.origin new.zone.sets)
-  brought b seen owned =
-      (features_stay identity by request now answer context old new a before.zone before.ordered after.zone after.ordered less more seen.0 b.includes (recursion_from_All (Covers more) (update_of request.message).updates b.covers),
-      (λ _. (owners_of_records new.zone.origin new.zone.sets after.zone).1
-      (stay_named zones identity by request now answer context old new (recursion_from_All IsNamed (update_of request.message).updates b.named) a
-      ((owners_of_records old.zone.origin old.zone.sets before.zone).0 (seen.1.0 owned))),
-      λ _. owned))
+  brought b seen owned = (
+    features_stay identity by request now answer context old new a before.zone before.ordered after.zone after.ordered less more seen.0 b.includes (recursion_from_All (Covers more) (update_of request.message).updates b.covers),
+    (
+      λ _. (owners_of_records new.zone.origin new.zone.sets after.zone).1
+          (stay_named zones identity by request now answer context old new (recursion_from_All IsNamed (update_of request.message).updates b.named) a
+          ((owners_of_records old.zone.origin old.zone.sets before.zone).0 (seen.1.0 owned))),
+      λ _. owned,
+    ),
+  )
 
   pub followed : (updates : Records) → updates ≡ (update_of request.message).updates → Brings less more updates → AreFeatures (zone_of old.zone) less × (IsTrue is_owned ↔ AreOwners old.zone.origin old.zone.sets) → is_owned ≡ true
       → AreFeatures (zone_of new.zone) more × (IsTrue is_owned ↔ AreOwners new.zone.origin new.zone.sets)

@@ -96,6 +96,7 @@ respects_owner : (origin a b : DomainName) (t : ℕ) → SameName a b → owner 
 respects_owner origin a b t same h = same_owner origin a b t t same h
 
 pub owners_of_records : OwnersOfRecords
-owners_of_records origin sets zone =
-    (λ h. records_of_keys (owner origin) (respects_owner origin) sets zone (recursion_from_All (IsOwner origin) (keys_of sets) h),
-    λ h. All-from_recursion (IsOwner origin) (keys_of sets) (keys_of_records (owner origin) (respects_owner origin) sets zone h))
+owners_of_records origin sets zone = (
+  λ h. records_of_keys (owner origin) (respects_owner origin) sets zone (recursion_from_All (IsOwner origin) (keys_of sets) h),
+  λ h. All-from_recursion (IsOwner origin) (keys_of sets) (keys_of_records (owner origin) (respects_owner origin) sets zone h),
+)

@@ -47,13 +47,14 @@ module _ (zones : (origin name : DomainName) → IsTrue (is_in_zone origin name)
   -- what the prescan takes lies in the zone
   scanned : (o : DomainName) (rs : Records) → AllByRecursion IsNamed rs → prescan_refusal o 1 rs ≡ None → AreOwned o rs
   scanned o [] named e = tt
-  scanned o (r ∷ rs) named e =
-      (record {
-        qualified = named.0.qualified;
-        labels = named.0.labels;
-        within = (zones o r.name).0 (inside (is_in_zone o r.name) (is_well_formed 1 r) (first_none (update_refusal o 1 r) (prescan_refusal o 1 rs) e));
-      },
-      scanned o rs named.1 (rest_none (update_refusal o 1 r) (prescan_refusal o 1 rs) e))
+  scanned o (r ∷ rs) named e = (
+    record {
+      qualified = named.0.qualified;
+      labels = named.0.labels;
+      within = (zones o r.name).0 (inside (is_in_zone o r.name) (is_well_formed 1 r) (first_none (update_refusal o 1 r) (prescan_refusal o 1 rs) e));
+    },
+    scanned o rs named.1 (rest_none (update_refusal o 1 r) (prescan_refusal o 1 rs) e),
+  )
 
   module _ {V : Type 0} (by : Ghosts V) where
     pub stay_named : (request : ReceivedRequest) (now : ℕ) (answer : Result Bool UpdateFault) (context : Option TSigResponseContext) (old new : UpdatableZone V)

@@ -16,8 +16,8 @@ ghost use Rattle.dynamic_zone.specs.OwnerLaws.{IsNamed};
 pub mod laws;
 
 use hickory_base::errors::{LookupError, UpdateFault};
-use hickory_base::update_request::UpdateRequest;
 use hickory_base::server::{Request, RequestInfo};
+use hickory_base::update_request::UpdateRequest;
 use hickory_base::zone_store::{
     AuthLookup, AxfrPolicy, InMemoryZoneHandler, LookupControlFlow, LookupOptions, Nsec3QueryInfo,
     NxProofKind, StoredAnswer, ZoneHandler, ZoneTransfer, ZoneType,
