@@ -217,6 +217,85 @@ def try_loop():
     want("two servers that are handed each other's replies end at the first", count == 1)
 
 
+def statistics(path):
+    """What the socket tells: each number by what stands before it."""
+    with socket.socket(socket.AF_UNIX, socket.SOCK_STREAM) as s:
+        s.settimeout(5)
+        s.connect(path)
+        text = s.makefile("rb").read().decode()
+    return {what: int(count) for what, count in (line.rsplit(" ", 1) for line in text.splitlines() if not line.startswith("# TYPE zoned_"))}
+
+
+def counts(path, before, wanted):
+    """Whether what was counted since comes to this, and to nothing else. A reply may come before it is counted."""
+    for _ in range(50):
+        now = statistics(path)
+        grown = {what: count - before[what] for what, count in now.items() if count != before[what]}
+        if grown == wanted:
+            return True
+        time.sleep(0.05)
+    print("note: counted", grown)
+    return False
+
+
+def try_statistics(path):
+    """What is counted of each kind of message, in numbers."""
+    queries, unanswered, replies = "zoned_queries_total", "zoned_unanswered_total", "zoned_replies_total"
+    received, sent = "zoned_received_bytes_total", "zoned_sent_bytes_total"
+    before, message = statistics(path), query("www.example.com")
+    want("statistics have a line for each of 25 numbers", len(before) == 25 and len(before.keys()) == 25)
+    reply = udp(message)
+    want("a datagram and its reply are counted", counts(path, before, {f'{queries}{{transport="udp"}}': 1, received: len(message), f'{replies}{{code="NOERROR"}}': 1, sent: len(reply)}))
+    before, message = statistics(path), query("no.example.com")
+    with tcp() as s:
+        f = s.makefile("rb")
+        s.sendall(3 * frame(message))
+        size = sum(len(read(f)) for _ in range(3))
+    want("so are messages of a connection, by their codes", counts(path, before, {f'{queries}{{transport="tcp"}}': 3, received: 3 * len(message), f'{replies}{{code="NXDOMAIN"}}': 3, sent: size}))
+    before, message = statistics(path), query("www.example.com", dns_class=3)
+    reply = udp(message)
+    want("REFUSED is counted", counts(path, before, {f'{queries}{{transport="udp"}}': 1, received: len(message), f'{replies}{{code="REFUSED"}}': 1, sent: len(reply)}))
+    before, message = statistics(path), query("large.example.com", 16)
+    reply = udp(message)
+    want("so is a reply that is truncated", counts(path, before, {f'{queries}{{transport="udp"}}': 1, received: len(message), f'{replies}{{code="NOERROR"}}': 1, "zoned_truncated_total": 1, sent: len(reply)}))
+    for what, message, source in (("denied", query("www.example.com"), "127.0.0.9"), ("response", query("www.example.com", flags=b"\x81\x00"), "127.0.0.1"), ("unreadable", b"\0" * 11, "127.0.0.1")):
+        before = statistics(path)
+        udp(message, 0.2, source=source)
+        want(f"a message without a reply is counted as {what}", counts(path, before, {f'{queries}{{transport="udp"}}': 1, received: len(message), f'{unanswered}{{reason="{what}"}}': 1}))
+    before, records = statistics(path), 0
+    with tcp() as s:
+        s.sendall(frame(query("example.com", 252)))
+        f, replies_sent, size = s.makefile("rb"), 0, 0
+        while records < 20004:
+            reply = read(f)
+            records, replies_sent, size = records + answers(reply), replies_sent + 1, size + len(reply)
+    want("each reply of a transfer is counted", counts(path, before, {f'{queries}{{transport="tcp"}}': 1, received: len(query("example.com", 252)), f'{replies}{{code="NOERROR"}}': replies_sent, sent: size}))
+
+
+def try_workers(zone, port, path):
+    """That all workers are counted together, and that none is forgotten."""
+    host = start(["--zone", f"example.com={zone}", "--workers", "3", "--statistics", path], port)
+    want("three workers start", wait_for(port))
+    before = statistics(path)
+    for _ in range(60):
+        udp(query("www.example.com"), port=port)
+    message = query("www.example.com")
+    grown = {'zoned_queries_total{transport="udp"}': 60, "zoned_received_bytes_total": 60 * len(message), 'zoned_replies_total{code="NOERROR"}': 60, "zoned_sent_bytes_total": 60 * len(udp(message, port=port))}
+    grown = {what: count // 60 * 61 for what, count in grown.items()}
+    want("what they count is told together", counts(path, before, grown))
+    before = statistics(path)
+    for worker in children(host.pid):
+        os.kill(worker, signal.SIGKILL)
+        time.sleep(0.1)
+    host.send_signal(signal.SIGHUP)
+    time.sleep(4)
+    want("and stays when workers end and files are read anew", counts(path, before, {}))
+    host.terminate()
+    want("and they end", host.wait(15) == 0)
+    open(path + "x", "w").write("kept")
+    want("a file is not replaced by the socket", status(["--listen", f"127.0.0.1@{port}", "--zone", f"example.com={zone}", "--statistics", path + "x"]) == 1 and open(path + "x").read() == "kept")
+
+
 def try_signals(host, notified, zone):
     """Reload, a worker that ends, and the end."""
     open(zone, "w").write(SOA_AND_NS + WWW % 2)
@@ -327,7 +406,8 @@ def main():
     notified.bind(os.path.join(folder, "notify"))
     notified.settimeout(60)
     words = ["--zone", f"example.com={zone}", "--tcp-idle", "2", "--tcp-client", "20", "--deny", "127.0.0.9", "--deny-transfer", "127.0.0.8"]
-    host = start(words, PORT, env={**os.environ, "NOTIFY_SOCKET": os.path.join(folder, "notify")})
+    path = os.path.join(folder, "statistics")
+    host = start([*words, "--statistics", path], PORT, env={**os.environ, "NOTIFY_SOCKET": os.path.join(folder, "notify")})
     other = start(["--zone", f"example.com={zone}", "--max-udp", "600"], PORT + 1)
     try:
         want("systemd is told that it is ready", notified.recv(100) == b"READY=1\n")
@@ -337,6 +417,7 @@ def main():
         try_connections(children(host.pid)[0])
         try_rules()
         try_loop()
+        try_statistics(path)
         try_signals(host, notified, zone)
     finally:
         for it in (host, other):
@@ -348,6 +429,7 @@ def main():
                     it.kill()
     want("the second ends", other.returncode == 0)
     open(zone, "w").write(SOA_AND_NS + WWW % 1)
+    try_workers(zone, PORT + 2, path)
     try_privileges(zone, PORT + 2)
     if has_ipv6():
         try_wildcards(zone, PORT + 3)

@@ -9,7 +9,7 @@
  *    stays in the thread or process that it was made in; a forked child of a process without threads may go on with its own copy.
  *    Servers share nothing: each thread may have one of its own.
  *  - A pointer with a length is to so many bytes, never NULL, which nobody else changes during the call; what is written to
- *    (out, fault, length, taken, written, waiting) overlaps nothing else that is passed.
+ *    (out, fault, length, taken, written, waiting, counters) overlaps nothing else that is passed.
  *  - No call from a signal handler. malloc, realloc and free come from one allocator that aligns as C says.
  *
  * Calls that may fail answer one of these numbers: */
@@ -52,12 +52,14 @@ void zone_service_free(zone_service service);
 
 /* Settings, made before the first message, in any order but that a list of blocked names is for the zones that are added behind it.
  * Each answers DONE; or FAULT or MEMORY, and puts a text that tells it into fault, of at most room bytes and with no zero behind it; *length
- * is how many they are, 0 after DONE. After these the server is to be freed: a list of networks may be as before or not, and
- * zone_service_add_zone may have let a zone of that name go.
+ * is how many they are. After DONE it is 0, but where lines of a list of blocked names were skipped. After FAULT and MEMORY the server is to be
+ * freed: a list of networks may be as before or not, and zone_service_add_zone may have let a zone of that name go.
  *
  * zone_service_set_blocklist: the names that the lines of a list give, in any of the spellings that docs/OPERATORS.md tells, at least one; a
- *     second list takes the place of the first.
+ *     second list takes the place of the first. Where lines are skipped, the text after DONE tells how many, and the numbers of the first three.
  * zone_service_add_zone: the zone at a name (with or without a dot at its end), from the bytes of its zone file.
+ * zone_service_join_zones: behind the last zone, once: puts each zone beside the one above it, if that is served too, which has its DS records
+ *     (RFC 4035 section 3.1.4.1). Without it a query for DS at an apex is answered from the zone of that apex.
  * zone_service_set_allowed, .._denied: a network, as 192.0.2.0/24, whose addresses may use the server, or may not; one more by each call.
  * zone_service_set_transfer_allowed, .._denied: the same for transfers (AXFR, IXFR) by those who may use the server.
  * zone_service_set_max_udp: how many bytes a reply over UDP has at most, from 512 to 65,535; 1,232 where it is not called.
@@ -65,6 +67,7 @@ void zone_service_free(zone_service service);
 uint32_t zone_service_set_blocklist(zone_service *service, const uint8_t *text, size_t len, uint8_t *fault, size_t room, size_t *length);
 uint32_t zone_service_add_zone(zone_service *service, const uint8_t *name, size_t name_len, const uint8_t *text, size_t len,
                                uint8_t *fault, size_t room, size_t *length);
+uint32_t zone_service_join_zones(zone_service *service, uint8_t *fault, size_t room, size_t *length);
 uint32_t zone_service_set_allowed(zone_service *service, const uint8_t *network, size_t len, uint8_t *fault, size_t room, size_t *length);
 uint32_t zone_service_set_denied(zone_service *service, const uint8_t *network, size_t len, uint8_t *fault, size_t room, size_t *length);
 uint32_t zone_service_set_transfer_allowed(zone_service *service, const uint8_t *network, size_t len, uint8_t *fault, size_t room,
@@ -94,5 +97,20 @@ uint32_t zone_service_answer_stream(zone_service *service, const uint8_t *bytes,
 /* Writes more of the replies that wait to the front of out, as zone_service_answer does, and says how many bytes they take: 0 only where
  * none waits, or out has no room for the next. */
 size_t zone_service_take(zone_service *service, uint8_t *out, size_t room, size_t *waiting);
+
+/* What a server has done since it was made. Each number stops at 2^64 - 1, so that none ever falls. */
+struct zone_service_counters {
+    uint64_t udp, tcp;                               /* messages that came as datagrams, and over streams */
+    uint64_t received;                               /* bytes of these, without the lengths before them */
+    uint64_t denied, responses, unreadable, dropped; /* messages without a reply: DENIED, RESPONSE, UNREADABLE, and both kinds of MEMORY */
+    uint64_t codes[16];                              /* replies that were written, by the response code in their headers */
+    uint64_t truncated;                              /* those that are truncated */
+    uint64_t sent;                                   /* bytes of replies, without the lengths before them */
+};
+void zone_service_counters(zone_service *service, struct zone_service_counters *counters);
+
+/* Puts the text in which monitoring reads such numbers (Prometheus' text-based format) to the front of out, as far as there is room; it has
+ * less than 2,048 bytes. *length is how many they are. DONE, or MEMORY, and *length is 0. */
+uint32_t zone_service_statistics(const struct zone_service_counters *counters, uint8_t *out, size_t room, size_t *length);
 
 #endif

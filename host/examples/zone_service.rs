@@ -24,6 +24,7 @@ unsafe extern "C" {
     fn zone_service_free(service: Raw);
     fn zone_service_set_blocklist(service: *mut Raw, text: *const u8, len: usize, fault: *mut u8, room: usize, length: *mut usize) -> u32;
     fn zone_service_add_zone(service: *mut Raw, name: *const u8, name_len: usize, text: *const u8, len: usize, fault: *mut u8, room: usize, length: *mut usize) -> u32;
+    fn zone_service_join_zones(service: *mut Raw, fault: *mut u8, room: usize, length: *mut usize) -> u32;
     fn zone_service_set_allowed(service: *mut Raw, network: *const u8, len: usize, fault: *mut u8, room: usize, length: *mut usize) -> u32;
     fn zone_service_set_denied(service: *mut Raw, network: *const u8, len: usize, fault: *mut u8, room: usize, length: *mut usize) -> u32;
     fn zone_service_set_transfer_allowed(service: *mut Raw, network: *const u8, len: usize, fault: *mut u8, room: usize, length: *mut usize) -> u32;
@@ -35,6 +36,8 @@ unsafe extern "C" {
     fn zone_service_answer_stream(service: *mut Raw, bytes: *const u8, len: usize, source: *const u8, source_len: usize, port: u16, now: u64,
         out: *mut u8, room: usize, taken: *mut usize, written: *mut usize, waiting: *mut usize) -> u32;
     fn zone_service_take(service: *mut Raw, out: *mut u8, room: usize, waiting: *mut usize) -> usize;
+    fn zone_service_counters(service: *mut Raw, counters: *mut Counters);
+    fn zone_service_statistics(counters: *const Counters, out: *mut u8, room: usize, length: *mut usize) -> u32;
 }
 
 /// Why a setting is not taken, as a text.
@@ -82,6 +85,43 @@ pub struct Streamed {
     pub written: Written,
     /// Why the last of them has none.
     pub refusal: Option<Refusal>,
+}
+
+/// What a server has done since it was made. Each number stops at 2^64 - 1.
+#[derive(Debug, Clone, Copy, Default, PartialEq, Eq)]
+#[repr(C)]
+pub struct Counters {
+    /// Messages that came as datagrams.
+    pub udp: u64,
+    /// Messages that came over streams.
+    pub tcp: u64,
+    /// Bytes of these, without the lengths before them.
+    pub received: u64,
+    /// Messages whose address may not use the server.
+    pub denied: u64,
+    /// Messages that were themselves responses.
+    pub responses: u64,
+    /// Messages that began with none.
+    pub unreadable: u64,
+    /// Messages for which memory was refused.
+    pub dropped: u64,
+    /// Replies that were written, by the response code in their headers.
+    pub codes: [u64; 16],
+    /// Those that are truncated.
+    pub truncated: u64,
+    /// Bytes of replies, without the lengths before them.
+    pub sent: u64,
+}
+
+impl Counters {
+    /// The text in which monitoring reads numbers (Prometheus' text-based format); `None` without memory.
+    pub fn statistics(&self) -> Option<String> {
+        let (mut text, mut length) = (vec![0; 2048], 0);
+        // SAFETY: the slice is ours.
+        let told = unsafe { zone_service_statistics(self, text.as_mut_ptr(), text.len(), &mut length) };
+        text.truncate(length);
+        (told == 0).then(|| String::from_utf8_lossy(&text).into_owned())
+    }
 }
 
 /// How a message came.
@@ -147,9 +187,16 @@ impl ZoneService {
         Self::told(set, &fault, length)
     }
 
-    /// Has the names that a text lists blocked in each zone that is added later.
-    pub fn set_blocklist(&mut self, text: &[u8]) -> Result<(), SettingFault> {
-        self.set(zone_service_set_blocklist, text)
+    /// Has the names that a text lists blocked in each zone that is added later. The text that it gives tells what was skipped, if anything was.
+    #[rustfmt::skip]
+    pub fn set_blocklist(&mut self, text: &[u8]) -> Result<String, SettingFault> {
+        let (mut skipped, mut length) = ([0; 256], 0);
+        // SAFETY: the server is ours alone, and the slices are apart.
+        let set = unsafe {
+            zone_service_set_blocklist(&mut self.0, text.as_ptr(), text.len(), skipped.as_mut_ptr(), skipped.len(), &mut length)
+        };
+        Self::told(set, &skipped, length)?;
+        Ok(String::from_utf8_lossy(&skipped[..length]).into_owned())
     }
 
     /// Lets the addresses of a network use the server.
@@ -196,6 +243,14 @@ impl ZoneService {
         Self::told(set, &fault, length)
     }
 
+    /// Puts each zone that was added beside the one above it, if that is served too, which has its DS records (RFC 4035 section 3.1.4.1).
+    pub fn join_zones(&mut self) -> Result<(), SettingFault> {
+        let (mut fault, mut length) = ([0; 256], 0);
+        // SAFETY: the server is ours alone, and the slices are apart.
+        let set = unsafe { zone_service_join_zones(&mut self.0, fault.as_mut_ptr(), fault.len(), &mut length) };
+        Self::told(set, &fault, length)
+    }
+
     /// Answers a message that came at a moment in seconds since 1970: writes its replies, as many as there is room for.
     #[rustfmt::skip]
     pub fn answer(&mut self, message: &[u8], source: SocketAddr, transport: Transport, now: u64, out: &mut [u8]) -> Result<Written, Refusal> {
@@ -232,5 +287,12 @@ impl ZoneService {
         // SAFETY: the server is ours alone, and the slices are apart.
         let len = unsafe { zone_service_take(&mut self.0, out.as_mut_ptr(), out.len(), &mut waiting) };
         Written { len, waiting }
+    }
+    /// What the server has done since it was made.
+    pub fn counters(&mut self) -> Counters {
+        let mut counters = Counters::default();
+        // SAFETY: the server and what is written to are ours alone.
+        unsafe { zone_service_counters(&mut self.0, &mut counters) };
+        counters
     }
 }

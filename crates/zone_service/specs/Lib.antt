@@ -1,3 +1,5 @@
+pub mod Counted
 pub mod Exports
 pub mod Frames
+pub mod Lists
 pub mod Serving

@@ -6,6 +6,7 @@
 #![tactic(auto)]
 
 mod answering;
+mod counting;
 mod exports;
 mod frames;
 mod handle;

@@ -32,6 +32,13 @@ returns-in-Err-clause-answered g c =
     (λ (s : Server _). IsRefused first.rules s c.in-Some.message.now c.args.source Tcp c.args.now c.in-Err.refusal c.answer_at.new.self.server.catalog.zones)
     (rw rules_stay at c.in-Err.ensures.err)))
 
+pub returns-in-Err-clause-within : goal.returns-in-Err-clause-within
+returns-in-Err-clause-within g c =
+    let (rules_stay, same, len, room, turns, inside, so_far) = c.loop.invariant in
+    let (begins, idle) = c.in-Some.ensures.some in
+    let (waits, unwritten) = c.in-Err.ensures.kept in
+    (within_more c.args.bytes.now c.loop.consumed _ inside (rw (rest_is c.args.bytes.now c.loop.consumed) at begins), rw unwritten room)
+
 pub loop-preserved : goal.loop-preserved
 loop-preserved g c =
     let (rules_stay, same, len, room, turns, inside, so_far) = c.loop.invariant in
