@@ -384,6 +384,25 @@ def try_same(zone):
     want(f"and {len(answered)} messages of a connection", b"".join(map(frame, replies)) == serve("tcp", b"".join(map(frame, answered))))
 
 
+def try_joined(folder, port):
+    """Two zones, one below the other, and a list of blocked names of which lines are skipped."""
+    above, below, names = (os.path.join(folder, name) for name in ("above", "below", "names"))
+    open(above, "w").write(SOA_AND_NS + f"sub IN NS ns.sub\nsub IN DS 1 8 2 {'ab' * 32}\n")
+    open(below, "w").write(SOA_AND_NS + WWW % 9)
+    open(names, "w").write("<html>\nbad.sub.example.com\n<p>\n")
+    words = ["--zone", f"sub.example.com={below}", "--zone", f"example.com={above}", "--blocklist", names]
+    host = start(words, port, stderr=subprocess.PIPE, text=True)
+    for _ in range(100):
+        if (reply := udp(query("sub.example.com", 43), 0.1, port)) is not None:
+            break
+    want("the DS records of a zone are answered by the one above it", reply is not None and code(reply) == 0 and answers(reply) == 1 and b"\xab" * 32 in reply)
+    want("and all else of it by itself", udp(query("www.sub.example.com"), port=port)[-4:] == bytes([192, 0, 2, 9]))
+    want("a blocked name is 0.0.0.0", udp(query("bad.sub.example.com"), port=port)[-4:] == bytes(4))
+    host.terminate()
+    told = host.communicate(timeout=15)[1]
+    want("lines of a list that give no name are told", f"zoned: {names}: 2 lines skipped, which give no name: 1, 3\n" in told)
+
+
 def try_arguments(zone, bad):
     named = subprocess.run([ZONED, "--version"], stdout=subprocess.PIPE, text=True)
     want("--version tells it", named.returncode == 0 and named.stdout.startswith("zoned 0."))
@@ -429,6 +448,7 @@ def main():
                     it.kill()
     want("the second ends", other.returncode == 0)
     open(zone, "w").write(SOA_AND_NS + WWW % 1)
+    try_joined(folder, PORT + 2)
     try_workers(zone, PORT + 2, path)
     try_privileges(zone, PORT + 2)
     if has_ipv6():

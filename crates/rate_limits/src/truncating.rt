@@ -13,14 +13,18 @@ fn question_len(bytes: &[u8]) -> Option<usize>
     let mut at = 0;
     // Each turn takes two bytes at least.
     for _ in 0..bytes.len() {
-        let Some(label) = bytes.get(at) else {
+        if at >= bytes.len() {
             return None;
-        };
-        let label = usize::from(*label);
-        if label == 0 && bytes.len() - at >= 5 {
-            return Some(at + 5);
         }
-        if label == 0 || label > 63 {
+        let label = bytes[at] as usize;
+        if label == 0 {
+            return if bytes.len() - at >= 5 {
+                Some(at + 5)
+            } else {
+                None
+            };
+        }
+        if label > 63 {
             return None;
         }
         at += 1 + label;
