@@ -20,6 +20,7 @@ struct settings {
     struct texts networks[NETWORK_KINDS]; /* of each kind, in this order: allowed, denied, and the same for transfers */
     const char *blocklist, *identifier, *user, *statistics;
     int max_udp, workers;               /* bytes of a reply over UDP; processes that serve */
+    int rate_limit, rate_slip;          /* replies over UDP a second and network; of those above it each so many says TC */
     int tcp_idle, tcp_most, tcp_client; /* seconds; connections a worker; connections a client and worker */
 };
 

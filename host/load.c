@@ -46,14 +46,14 @@ static int set_text(setter *set, zone_service *service, const char *text)
 }
 
 /* Sets what a file has: the zone of a name, or the list of blocked names where there is no name. */
-static int set_file(zone_service *service, const char *what, const char *name, size_t name_len, const char *path)
+static int set_file(zone_service *service, const char *what, const void *name, size_t name_len, const char *path)
 {
     size_t len;
     uint8_t *text = read_file(path, &len);
     if (text == NULL)
         return -1;
     uint32_t set = name == NULL ? zone_service_set_blocklist(service, text, len, fault, sizeof fault, &fault_len)
-                                : zone_service_add_zone(service, (const uint8_t *)name, name_len, text, len, fault, sizeof fault, &fault_len);
+                                : zone_service_add_zone(service, name, name_len, text, len, fault, sizeof fault, &fault_len);
     free(text);
     return told(what, set);
 }
@@ -72,11 +72,12 @@ static int set_all(const struct settings *s, zone_service *service)
 {
     static setter *const set_network[NETWORK_KINDS] = {zone_service_set_allowed, zone_service_set_denied, zone_service_set_transfer_allowed,
                                                        zone_service_set_transfer_denied};
-    if (s->blocklist != NULL && set_file(service, s->blocklist, NULL, 0, s->blocklist) != 0)
+    if ((s->blocklist != NULL && set_file(service, s->blocklist, NULL, 0, s->blocklist) != 0) ||
+        (s->identifier != NULL && set_text(zone_service_set_identifier, service, s->identifier) != 0))
         return -1;
-    if (s->identifier != NULL && set_text(zone_service_set_identifier, service, s->identifier) != 0)
-        return -1;
-    if (told("--max-udp", zone_service_set_max_udp(service, (uint16_t)s->max_udp, fault, sizeof fault, &fault_len)) != 0)
+    if (told("--max-udp", zone_service_set_max_udp(service, (uint16_t)s->max_udp, fault, sizeof fault, &fault_len)) != 0 ||
+        told("--rate-limit", zone_service_set_rate_limit(service, (uint32_t)s->rate_limit, (uint32_t)s->rate_slip, fault, sizeof fault,
+                                                         &fault_len)) != 0)
         return -1;
     for (int kind = 0; kind < NETWORK_KINDS; kind++)
         for (int i = 0; i < s->networks[kind].count; i++)

@@ -23,7 +23,7 @@
 
 #define MOST_WORKERS 64
 
-static struct settings settings = {.max_udp = 1232, .workers = 1, .tcp_idle = 10, .tcp_most = 1000, .tcp_client = 100};
+static struct settings settings = {.max_udp = 1232, .workers = 1, .rate_slip = 2, .tcp_idle = 10, .tcp_most = 1000, .tcp_client = 100};
 static struct sockets sockets[MOST_WORKERS];
 static pid_t workers[MOST_WORKERS];
 static time_t begun[MOST_WORKERS];
@@ -82,6 +82,8 @@ static const struct option {
                {"--statistics", "PATH of a Unix socket where it tells what it has done", .word = &settings.statistics},
                {"--user", "NAME of the user that it becomes once its sockets are open", .word = &settings.user},
                {"--max-udp", "bytes of a reply over UDP at most", &settings.max_udp, .least = 512, .most = 65535},
+               {"--rate-limit", "replies over UDP a second to a network of clients, 0 for all", &settings.rate_limit, .most = 1000000},
+               {"--rate-slip", "of those above it each so many says TC, 0 for none", &settings.rate_slip, .most = 1000},
                {"--workers", "processes that serve", &settings.workers, .least = 1, .most = MOST_WORKERS},
                {"--tcp-idle", "seconds until a connection that does not get on is closed", &settings.tcp_idle, .least = 1, .most = 3600},
                {"--tcp-most", "connections of a worker", &settings.tcp_most, .least = 1, .most = 100000},

@@ -243,7 +243,7 @@ def try_statistics(path):
     queries, unanswered, replies = "zoned_queries_total", "zoned_unanswered_total", "zoned_replies_total"
     received, sent = "zoned_received_bytes_total", "zoned_sent_bytes_total"
     before, message = statistics(path), query("www.example.com")
-    want("statistics have a line for each of 25 numbers", len(before) == 25 and len(before.keys()) == 25)
+    want("statistics have a line for each of 26 numbers", len(before) == 26)
     reply = udp(message)
     want("a datagram and its reply are counted", counts(path, before, {f'{queries}{{transport="udp"}}': 1, received: len(message), f'{replies}{{code="NOERROR"}}': 1, sent: len(reply)}))
     before, message = statistics(path), query("no.example.com")
@@ -274,7 +274,7 @@ def try_statistics(path):
 
 def try_workers(zone, port, path):
     """That all workers are counted together, and that none is forgotten."""
-    host = start(["--zone", f"example.com={zone}", "--workers", "3", "--statistics", path], port)
+    host = start(["--zone", f"example.com={zone}", "--workers", "3", "--statistics", path, "--tcp-idle", "1"], port)
     want("three workers start", wait_for(port))
     before = statistics(path)
     for _ in range(60):
@@ -290,10 +290,49 @@ def try_workers(zone, port, path):
     host.send_signal(signal.SIGHUP)
     time.sleep(4)
     want("and stays when workers end and files are read anew", counts(path, before, {}))
-    host.terminate()
-    want("and they end", host.wait(15) == 0)
+    with tcp(port) as s:
+        s.sendall(frame(query("www.example.com")))
+        s.recv(512)
+        host.terminate()
+        want("they end once a connection is idle that stays open", host.wait(5) == 0)
     open(path + "x", "w").write("kept")
     want("a file is not replaced by the socket", status(["--listen", f"127.0.0.1@{port}", "--zone", f"example.com={zone}", "--statistics", path + "x"]) == 1 and open(path + "x").read() == "kept")
+
+
+def try_limits(zone, port, path):
+    """That a network gets so many replies over UDP a second, and of those above it every second one says TC."""
+    host = start(["--zone", f"example.com={zone}", "--rate-limit", "5", "--rate-slip", "2", "--statistics", path], port)
+    want("a server with limits starts", wait_for(port))
+    with socket.socket(socket.AF_INET, socket.SOCK_DGRAM) as s:
+        s.connect(("127.0.0.1", port))
+        s.settimeout(0.3)
+        message, replies = query("www.example.com"), []
+        # within one second of the clock
+        time.sleep(1.05 - time.time() % 1)
+        before = statistics(path)
+        for _ in range(15):
+            s.send(message)
+        try:
+            while True:
+                replies.append(s.recv(512))
+        except OSError:
+            pass
+    whole = [reply for reply in replies if not is_truncated(reply)]
+    want("a network gets so many replies a second", len(whole) == 5 and all(reply[-4:] == bytes([192, 0, 2, 1]) for reply in whole))
+    short = [reply for reply in replies if is_truncated(reply)]
+    want("every second one above that says TC, with the question alone", len(short) == 5 and all(reply[:2] == message[:2] and reply[4:] == message[4:] and answers(reply) == 0 for reply in short))
+    now = statistics(path)
+    kept = 'zoned_unanswered_total{reason="limited"}'
+    want("and the others are counted as kept back", now[kept] - before[kept] == 5 and now["zoned_truncated_total"] - before["zoned_truncated_total"] == 5)
+    time.sleep(1.05 - time.time() % 1)
+    for _ in range(8):
+        udp(message, 0.05, port)
+    want("another network has replies of its own", udp(message, 0.5, port, source="127.0.1.1")[-4:] == bytes([192, 0, 2, 1]))
+    with tcp(port) as s, s.makefile("rb") as f:
+        s.sendall(20 * frame(message))
+        want("over TCP there is no limit", all(read(f)[-4:] == bytes([192, 0, 2, 1]) for _ in range(20)))
+    host.terminate()
+    want("and it ends", host.wait(15) == 0)
 
 
 def try_signals(host, notified, zone):
@@ -449,6 +488,7 @@ def main():
     want("the second ends", other.returncode == 0)
     open(zone, "w").write(SOA_AND_NS + WWW % 1)
     try_joined(folder, PORT + 2)
+    try_limits(zone, PORT + 2, path)
     try_workers(zone, PORT + 2, path)
     try_privileges(zone, PORT + 2)
     if has_ipv6():

@@ -28,7 +28,8 @@ enum {
     ZONE_SERVICE_MEMORY = 4,       /* memory was refused; the zones are as before */
     ZONE_SERVICE_MEMORY_AFTER = 5, /* memory was refused for the replies to a message that was handled */
     ZONE_SERVICE_NO_ADDRESS = 6,   /* the source is no address of 4 or 16 bytes */
-    ZONE_SERVICE_FAULT = 7         /* a setting is not taken; fault tells why */
+    ZONE_SERVICE_FAULT = 7,        /* a setting is not taken; fault tells why */
+    ZONE_SERVICE_LIMITED = 8       /* the reply to a datagram is kept back, since its network got as many as it may */
 };
 
 /* A reply is at most so long, with its length before it. A buffer of this size takes at least one. */
@@ -63,6 +64,9 @@ void zone_service_free(zone_service service);
  * zone_service_set_allowed, .._denied: a network, as 192.0.2.0/24, whose addresses may use the server, or may not; one more by each call.
  * zone_service_set_transfer_allowed, .._denied: the same for transfers (AXFR, IXFR) by those who may use the server.
  * zone_service_set_max_udp: how many bytes a reply over UDP has at most, from 512 to 65,535; 1,232 where it is not called.
+ * zone_service_set_rate_limit: how many replies to datagrams a network of clients (24 bits of IPv4, 56 of IPv6) gets in a second, and of how
+ *     many above that one is sent without records and with TC, while the others are kept back (0: all are); all are sent where the rate is 0,
+ *     or it is not called. It takes a mebibyte.
  * zone_service_set_identifier: what identifies the server to clients that ask (RFC 5001), up to 65,531 bytes. */
 uint32_t zone_service_set_blocklist(zone_service *service, const uint8_t *text, size_t len, uint8_t *fault, size_t room, size_t *length);
 uint32_t zone_service_add_zone(zone_service *service, const uint8_t *name, size_t name_len, const uint8_t *text, size_t len,
@@ -75,13 +79,14 @@ uint32_t zone_service_set_transfer_allowed(zone_service *service, const uint8_t 
 uint32_t zone_service_set_transfer_denied(zone_service *service, const uint8_t *network, size_t len, uint8_t *fault, size_t room,
                                           size_t *length);
 uint32_t zone_service_set_max_udp(zone_service *service, uint16_t size, uint8_t *fault, size_t room, size_t *length);
+uint32_t zone_service_set_rate_limit(zone_service *service, uint32_t rate, uint32_t slip, uint8_t *fault, size_t room, size_t *length);
 uint32_t zone_service_set_identifier(zone_service *service, const uint8_t *text, size_t len, uint8_t *fault, size_t room, size_t *length);
 
 /* Answers a message that came from an address (4 or 16 bytes, the first one highest) and port, over a stream or as a datagram, at a moment
  * in seconds since 1970. DONE where it has replies: they are written to the front of out, each behind its length in two bytes (RFC 1035
  * section 4.2.2), as many as there is room for; *written is how many bytes they take, and *waiting how many replies are left for
- * zone_service_take. The next message that has replies lets those go. Any other number but FAULT: it has none, *written is 0, out is as it
- * was, and replies that waited wait still. */
+ * zone_service_take. The next message that has replies lets those go. LIMITED: *written is 0, and out may be written to. Any other number but
+ * FAULT: it has none, *written is 0, out is as it was, and replies that waited wait still. */
 uint32_t zone_service_answer(zone_service *service, const uint8_t *message, size_t len, const uint8_t *source, size_t source_len,
                              uint16_t port, bool stream, uint64_t now, uint8_t *out, size_t room, size_t *written, size_t *waiting);
 
@@ -103,6 +108,7 @@ struct zone_service_counters {
     uint64_t udp, tcp;                               /* messages that came as datagrams, and over streams */
     uint64_t received;                               /* bytes of these, without the lengths before them */
     uint64_t denied, responses, unreadable, dropped; /* messages without a reply: DENIED, RESPONSE, UNREADABLE, and both kinds of MEMORY */
+    uint64_t limited;                                /* and LIMITED */
     uint64_t codes[16];                              /* replies that were written, by the response code in their headers */
     uint64_t truncated;                              /* those that are truncated */
     uint64_t sent;                                   /* bytes of replies, without the lengths before them */

@@ -102,6 +102,25 @@ fn counts() {
 }
 
 #[test]
+fn limits_replies() {
+    let (mut service, mut out) = (server(), vec![0; FRAME]);
+    service.set_rate_limit(2, 2).unwrap();
+    let one = query(b"www.example.com", 1);
+    let mut answer = |source: &str| service.answer(&one, source.parse().unwrap(), Transport::Datagram, 7, &mut out).map(|w| (w.len, out[4] & 2));
+    let whole = answer("192.0.2.1:53").unwrap();
+    assert_eq!(answer("192.0.2.200:53"), Ok(whole));
+    assert_eq!(answer("192.0.2.1:53"), Err(Refusal::Limited));
+    assert_eq!(answer("192.0.2.7:53"), Ok((2 + one.len(), 2)));
+    assert_eq!(answer("192.0.2.1:53"), Err(Refusal::Limited));
+    assert_eq!(answer("192.0.3.1:53"), Ok(whole));
+    assert_eq!(answer("[2001:db8:0:1::1]:53"), Ok(whole));
+    assert_eq!(answer("[2001:db8:0:2::1]:53"), Ok(whole));
+    assert_eq!(answer("[2001:db8:0:3::1]:53"), Err(Refusal::Limited));
+    let counted = service.counters();
+    assert_eq!((counted.limited, counted.truncated, counted.codes[0]), (3, 1, 6));
+}
+
+#[test]
 fn takes_a_stream() {
     let (mut service, mut out) = (server(), vec![0; 2 * FRAME]);
     let one = query(b"www.example.com", 1);

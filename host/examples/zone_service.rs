@@ -30,6 +30,7 @@ unsafe extern "C" {
     fn zone_service_set_transfer_allowed(service: *mut Raw, network: *const u8, len: usize, fault: *mut u8, room: usize, length: *mut usize) -> u32;
     fn zone_service_set_transfer_denied(service: *mut Raw, network: *const u8, len: usize, fault: *mut u8, room: usize, length: *mut usize) -> u32;
     fn zone_service_set_max_udp(service: *mut Raw, size: u16, fault: *mut u8, room: usize, length: *mut usize) -> u32;
+    fn zone_service_set_rate_limit(service: *mut Raw, rate: u32, slip: u32, fault: *mut u8, room: usize, length: *mut usize) -> u32;
     fn zone_service_set_identifier(service: *mut Raw, text: *const u8, len: usize, fault: *mut u8, room: usize, length: *mut usize) -> u32;
     fn zone_service_answer(service: *mut Raw, message: *const u8, len: usize, source: *const u8, source_len: usize, port: u16, stream: bool, now: u64,
         out: *mut u8, room: usize, written: *mut usize, waiting: *mut usize) -> u32;
@@ -65,6 +66,8 @@ pub enum Refusal {
     Memory,
     /// Memory was refused for the replies to a message that was handled.
     MemoryAfterHandling,
+    /// The reply to a datagram is kept back, since its network got as many as it may.
+    Limited,
 }
 
 /// What was written: replies, each behind its length in two bytes (RFC 1035 section 4.2.2).
@@ -105,6 +108,8 @@ pub struct Counters {
     pub unreadable: u64,
     /// Messages for which memory was refused.
     pub dropped: u64,
+    /// Messages whose reply was kept back, since their networks got as many as they may.
+    pub limited: u64,
     /// Replies that were written, by the response code in their headers.
     pub codes: [u64; 16],
     /// Those that are truncated.
@@ -151,6 +156,7 @@ fn refusal(told: u32) -> Option<Refusal> {
         2 => Some(Refusal::Response),
         3 => Some(Refusal::Unreadable),
         5 => Some(Refusal::MemoryAfterHandling),
+        8 => Some(Refusal::Limited),
         _ => Some(Refusal::Memory),
     }
 }
@@ -229,6 +235,15 @@ impl ZoneService {
         let (mut fault, mut length) = ([0; 256], 0);
         // SAFETY: the server is ours alone, and the slices are apart.
         let set = unsafe { zone_service_set_max_udp(&mut self.0, size, fault.as_mut_ptr(), fault.len(), &mut length) };
+        Self::told(set, &fault, length)
+    }
+
+    /// Sets how many replies to datagrams a network of clients gets in a second, and of how many above that one is truncated; all are sent
+    /// where the rate is 0.
+    pub fn set_rate_limit(&mut self, rate: u32, slip: u32) -> Result<(), SettingFault> {
+        let (mut fault, mut length) = ([0; 256], 0);
+        // SAFETY: the server is ours alone, and the slices are apart.
+        let set = unsafe { zone_service_set_rate_limit(&mut self.0, rate, slip, fault.as_mut_ptr(), fault.len(), &mut length) };
         Self::told(set, &fault, length)
     }
 

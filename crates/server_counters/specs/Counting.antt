@@ -2,7 +2,7 @@
 use Rattle.std.specs.Prelude.{◌+◌, ◌-◌, ◌/◌, ◌%◌, ◌^◌, ◌∷◌, ℕ, Bool, List, false, get_or, if◌then◌else◌, length, min, nat_eq, replicate, set, true}
 use Rattle.server_counters.specs.declared.counters.Counters.{Counters}
 use Rattle.server_counters.specs.declared.counters.Unanswered.{Unanswered}
-use Rattle.server_counters.specs.declared.counters.Unanswered.TheVariants.{Denied, Dropped, Response, Unreadable}
+use Rattle.server_counters.specs.declared.counters.Unanswered.TheVariants.{Denied, Dropped, Limited, Response, Unreadable}
 
 -- a count with so many more, as 64 bits tell it: the greatest number that they hold stands for all above it
 abbrev pub more : ℕ → ℕ → ℕ
@@ -10,7 +10,7 @@ more count by = min (count + by) (2 ^ 64 - 1)
 
 -- nothing is counted
 abbrev pub no_counts : Counters
-no_counts = record { udp = 0; tcp = 0; received = 0; denied = 0; responses = 0; unreadable = 0; dropped = 0; codes = replicate 16 0; truncated = 0; sent = 0 }
+no_counts = record { udp = 0; tcp = 0; received = 0; denied = 0; responses = 0; unreadable = 0; dropped = 0; limited = 0; codes = replicate 16 0; truncated = 0; sent = 0 }
 
 -- A message of so many bytes came over a stream, or as a datagram.
 abbrev pub message_counted : Counters → Bool → ℕ → Counters
@@ -23,6 +23,7 @@ unanswered_counted counts Denied = record counts { denied = more counts.denied 1
 unanswered_counted counts Response = record counts { responses = more counts.responses 1 }
 unanswered_counted counts Unreadable = record counts { unreadable = more counts.unreadable 1 }
 unanswered_counted counts Dropped = record counts { dropped = more counts.dropped 1 }
+unanswered_counted counts Limited = record counts { limited = more counts.limited 1 }
 
 -- the response code of a header, of which the fourth byte has this value: its lower four bits (RFC 1035 section 4.1.1)
 abbrev pub code_in : ℕ → ℕ

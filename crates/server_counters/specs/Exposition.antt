@@ -20,6 +20,7 @@ unanswered_lines counts = codes "# TYPE zoned_unanswered_total counter\n"
     ++ line_of (codes "zoned_unanswered_total{reason=\"response\"}") counts.responses
     ++ line_of (codes "zoned_unanswered_total{reason=\"unreadable\"}") counts.unreadable
     ++ line_of (codes "zoned_unanswered_total{reason=\"memory\"}") counts.dropped
+    ++ line_of (codes "zoned_unanswered_total{reason=\"limited\"}") counts.limited
 
 abbrev pub reply_lines : Counters → List ℕ
 reply_lines counts = codes "# TYPE zoned_truncated_total counter\n"

@@ -14,6 +14,8 @@ pub enum Unanswered {
     Unreadable,
     /// Memory was refused.
     Dropped,
+    /// Its network got as many replies as it may.
+    Limited,
 }
 
 /// What a server has done since it was made. Each number stops at 2^64 - 1, so that none ever falls. C has it as a structure of the same
@@ -35,6 +37,8 @@ pub struct Counters {
     pub unreadable: u64,
     /// For how many memory was refused.
     pub dropped: u64,
+    /// The reply to how many was kept back, since their networks got as many as they may.
+    pub limited: u64,
     /// How many replies have each response code in their header (RFC 1035 section 4.1.1), from 0 to 15. The upper bits of a code that is
     /// split between header and OPT record (RFC 6891 section 6.1.3) are not looked at.
     pub codes: [u64; 16],
@@ -57,6 +61,7 @@ impl Counters {
             responses: 0,
             unreadable: 0,
             dropped: 0,
+            limited: 0,
             codes: [0; 16],
             truncated: 0,
             sent: 0,
@@ -84,6 +89,7 @@ impl Counters {
             Unanswered::Response => self.responses = self.responses.saturating_add(1),
             Unanswered::Unreadable => self.unreadable = self.unreadable.saturating_add(1),
             Unanswered::Dropped => self.dropped = self.dropped.saturating_add(1),
+            Unanswered::Limited => self.limited = self.limited.saturating_add(1),
         }
     }
 

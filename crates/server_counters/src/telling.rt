@@ -45,6 +45,7 @@ fn put_unanswered(alloc: Global, text: &mut String, counters: &Counters) -> Resu
     put_line(alloc, text, "zoned_unanswered_total{reason=\"response\"}", counters.responses)?;
     put_line(alloc, text, "zoned_unanswered_total{reason=\"unreadable\"}", counters.unreadable)?;
     put_line(alloc, text, "zoned_unanswered_total{reason=\"memory\"}", counters.dropped)?;
+    put_line(alloc, text, "zoned_unanswered_total{reason=\"limited\"}", counters.limited)?;
     Ok(())
 }
 

@@ -2,7 +2,7 @@
 use Rattle.std.specs.Prelude.{◌≡◌, ℕ, Bool, List, drop, false, fold, if◌then◌else◌, length, nat_eq, take, true}
 use Rattle.server_counters.specs.Counting.{message_counted, reply_counted, unanswered_counted}
 use Rattle.server_counters.specs.declared.counters.Counters.{Counters}
-use Rattle.server_counters.specs.declared.counters.Unanswered.TheVariants.{Denied, Dropped, Response, Unreadable}
+use Rattle.server_counters.specs.declared.counters.Unanswered.TheVariants.{Denied, Dropped, Limited, Response, Unreadable}
 use Rattle.zone_service.specs.Frames.{AreFrames, IsCutShort}
 
 -- a message is counted that came over a stream, or a reply
@@ -25,7 +25,8 @@ number_counted counters number =
     if nat_eq number 2 then unanswered_counted counters Response else
     if nat_eq number 3 then unanswered_counted counters Unreadable else
     if nat_eq number 4 then unanswered_counted counters Dropped else
-    if nat_eq number 5 then unanswered_counted counters Dropped else counters
+    if nat_eq number 5 then unanswered_counted counters Dropped else
+    if nat_eq number 8 then unanswered_counted counters Limited else counters
 
 -- A message of so many bytes is counted, the number that it is answered with, and the replies that are written.
 abbrev pub AnswerCounted : Bool → ℕ → ℕ → List ℕ → Counters → Counters → Type 0

@@ -42,6 +42,7 @@ fn count_number(counters: &mut Counters, number: u32)
         2 => Unanswered::Response,
         3 => Unanswered::Unreadable,
         4 | 5 => Unanswered::Dropped,
+        8 => Unanswered::Limited,
         _ => return,
     };
     counters.count_unanswered(reason);

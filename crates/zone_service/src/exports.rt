@@ -1,6 +1,6 @@
 //! What C calls. `host/zone_service.h` says of each what it is given and what it answers.
 
-ghost use Rattle.std.specs.Prelude.{◌≡◌, ◌≤◌, ◌⊎◌, ◌↔◌, ◌++◌, ◌∷◌, [], IsOk, Some, false, length, min, option_map, take};
+ghost use Rattle.std.specs.Prelude.{◌≡◌, ◌≤◌, ◌⊎◌, ◌↔◌, ◌++◌, ◌∷◌, [], ℕ, IsOk, List, Some, false, length, min, option_map, take};
 ghost use Rattle.access_control.specs.Access.{Inserts, Network};
 ghost use Rattle.hickory_catalog.specs.Server.{server_of};
 ghost use Rattle.name_lists.specs.Counts.{Counts};
@@ -10,11 +10,13 @@ ghost use Rattle.server_counters.specs.Exposition.{exposition_of};
 ghost use Rattle.zone_service.specs.Counted.{AnswerCounted, AreCounted, StreamCounted, one_counted};
 ghost use Rattle.zone_service.specs.Exports.{AnswerTold, StreamTold, transport_of};
 ghost use Rattle.zone_service.specs.Frames.{ArePut};
+ghost use Rattle.zone_service.specs.Limited.{AreLimitsOf, IsLimited};
 ghost use Rattle.zone_service.specs.Lists.{IsListOfText};
 ghost use Rattle.zone_service.specs.Serving.{waiting_in};
 
 use crate::counting::{count_answer, count_frames, count_stream};
 use crate::handle::{Handle, address};
+use crate::limiting::limit;
 use crate::service::Service;
 use crate::settings::SettingFault;
 use crate::told::{DONE, MEMORY, tell_answer, tell_stream};
@@ -242,6 +244,23 @@ pub extern "C" fn zone_service_set_max_udp(
     told(alloc, service.set_max_udp(size), fault, count)
 }
 
+/// Sets how many replies over UDP a network of clients gets a second, and of how many above that one is truncated; all where the rate is 0.
+#[unsafe(no_mangle)]
+pub extern "C" fn zone_service_set_rate_limit(
+    alloc: Global,
+    service: &mut Handle,
+    rate: u32,
+    slip: u32,
+    fault: &mut [u8],
+    count: &mut usize,
+) -> u32
+    ensures made { result ≡ 0 → AreLimitsOf rate slip service.new.service.limits }
+    ensures others { service.new.service ≡ record service.old.service { limits = service.new.service.limits } }
+{
+    let service = service.service();
+    told(alloc, service.set_rate_limit(alloc, rate, slip), fault, count)
+}
+
 /// Sets what identifies the server to clients that ask (RFC 5001).
 #[unsafe(no_mangle)]
 pub extern "C" fn zone_service_set_identifier(
@@ -272,14 +291,17 @@ pub extern "C" fn zone_service_answer(
     written: &mut usize,
     waiting: &mut usize,
 ) -> u32
-    ensures others { service.new.service ≡ record service.old.service { answering = service.new.service.answering; counters = service.new.service.counters } }
+    ensures others { service.new.service ≡ record service.old.service { answering = service.new.service.answering; counters = service.new.service.counters; limits = service.new.service.limits } }
     ensures rules { service.new.service.answering.server.rules ≡ service.old.service.answering.server.rules }
-    ensures told { AnswerTold (server_of ⟦<Handler as ZoneHandler>⟧ ⟦<NoKeys as ReplySigner>⟧.signature_for service.old.service.answering.server.catalog) service.old.service.answering message.now source.now port (transport_of stream) now out.old result written.new out.new service.new.service.answering }
+    ensures told { (made : ℕ) × (count : ℕ) × (bytes : List ℕ) ×
+        AnswerTold (server_of ⟦<Handler as ZoneHandler>⟧ ⟦<NoKeys as ReplySigner>⟧.signature_for service.old.service.answering.server.catalog) service.old.service.answering message.now source.now port (transport_of stream) now out.old made count bytes service.new.service.answering ×
+        IsLimited service.old.service.limits stream source.now now made (take count bytes) result (take written.new out.new) service.new.service.limits }
+    ensures within { written.new ≤ length out.new }
     ensures waiting { waiting.new ≡ length (waiting_in service.new.service.answering) }
     ensures counted { AnswerCounted stream (length message.now) result (take written.new out.new) service.old.service.counters service.new.service.counters }
 {
     let service = service.service();
-    let number = tell_answer(
+    let made = tell_answer(
         alloc,
         &mut service.answering,
         message,
@@ -290,6 +312,16 @@ pub extern "C" fn zone_service_answer(
         out,
         written,
         waiting,
+    );
+    let number = limit(
+        alloc,
+        &mut service.limits,
+        stream,
+        source,
+        now,
+        made,
+        out,
+        written,
     );
     count_answer(
         &mut service.counters,

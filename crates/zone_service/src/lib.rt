@@ -10,6 +10,7 @@ mod counting;
 mod exports;
 mod frames;
 mod handle;
+mod limiting;
 mod service;
 mod settings;
 mod told;

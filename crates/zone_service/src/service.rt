@@ -12,6 +12,7 @@ use hickory_server::store::blocklist::BlocklistZoneHandler;
 use hickory_server::zone_handler::Catalog;
 use name_lists::ListReport;
 use server_counters::Counters;
+use rate_limits::RateLimits;
 use served_zones::chains::{chain, put_chain};
 use served_zones::handler::{Handler, Zones};
 use served_zones::identifier::identifier;
@@ -20,12 +21,13 @@ use served_zones::zones::zone_of_file;
 use std::alloc::{AllocError, Global};
 use std::rc::Rc;
 
-/// A server, with what it has done in numbers, the zones that were added, in their order, and the list of blocked names for those that are
+/// A server, with what it has done in numbers, how many replies networks get, the zones that were added, in their order, and the list of blocked names for those that are
 /// still to come.
 #[derive(Drop)]
 pub struct Service {
     pub(crate) answering: Answering<NoKeys, Handler>,
     pub(crate) counters: Counters,
+    pub(crate) limits: Option<RateLimits>,
     loaded: Vec<Loaded>,
     list: Option<Rc<BlocklistZoneHandler>>,
 }
@@ -56,6 +58,7 @@ fn load(
 
 impl Service {
     ghost use Rattle.zone_service.specs.Serving.{waiting_in};
+    ghost use Rattle.zone_service.specs.Limited.{AreLimitsOf};
     ghost use Rattle.zone_service.specs.Lists.{IsListOfText};
 
     /// A server without zones, which everybody may use.
@@ -64,6 +67,7 @@ impl Service {
         Ok(Service {
             answering: Answering::new(alloc, server),
             counters: Counters::new(),
+            limits: None,
             loaded: Vec::new(alloc),
             list: None,
         })
@@ -167,6 +171,25 @@ impl Service {
             return Err(SettingFault::MaxUdp);
         }
         self.answering.server.rules.max_udp = size;
+        Ok(())
+    }
+
+    /// Sets how many replies over UDP a network of clients gets a second, and of how many above that one is truncated; all where the rate
+    /// is 0.
+    pub fn set_rate_limit(
+        &mut self,
+        alloc: Global,
+        rate: u32,
+        slip: u32,
+    ) -> Result<(), SettingFault>
+        ensures ok { OnOk result (AreLimitsOf rate slip self.new.limits) }
+        ensures others { self.new ≡ record self.old { limits = self.new.limits } }
+    {
+        self.limits = if rate == 0 {
+            None
+        } else {
+            Some(RateLimits::new(alloc, rate, slip, 1)?)
+        };
         Ok(())
     }
 
