@@ -1,5 +1,5 @@
 -- Questions, label by label.
-use Rattle.std.proofs.Common.{◌≡◌, ◌≤◌, ◌<◌, ◌+◌, ◌∙◌, ◌++◌, ◌∷◌, [], ℕ, List, ap, arith, drop, drop-cons, get_or, length, length-drop, suc, take}
+use Rattle.std.proofs.Common.{◌≡◌, ◌≤◌, ◌<◌, ◌+◌, ◌∙◌, ◌++◌, ◌∷◌, ℕ, List, ap, arith, drop, drop-cons, get_or, length, length-drop, suc, take}
 use Rattle.std.proofs.Math.Seq.{take-add}
 use Rattle.std.proofs.lemmas.List.{length-take-le}
 use Rattle.rate_limits.specs.Truncating.{AreLabels, IsQuestion, more}

@@ -1,5 +1,5 @@
 -- Which replies over UDP are sent, truncated and dropped.
-use Rattle.std.specs.Prelude.{◌+◌, ◌*◌, ◌-◌, ◌/◌, ◌%◌, ◌^◌, ◌∷◌, [], ℕ, Bool, List, false, get_or, if◌then◌else◌, min, nat_eq, nat_lt, set, true}
+use Rattle.std.specs.Prelude.{◌+◌, ◌*◌, ◌-◌, ◌/◌, ◌%◌, ◌^◌, ◌∷◌, [], ℕ, List, get_or, if◌then◌else◌, min, nat_eq, nat_lt, set}
 use Rattle.rate_limits.specs.declared.limits.Place.{Place}
 use Rattle.rate_limits.specs.declared.limits.Verdict.{Verdict}
 use Rattle.rate_limits.specs.declared.limits.Verdict.TheVariants.{Drop, Send, Truncate}

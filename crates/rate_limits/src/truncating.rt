@@ -50,7 +50,20 @@ pub fn truncated(alloc: Global, reply: &[u8]) -> Result<Option<Vec<u8>>, AllocEr
     let Some(len) = question_len(body) else {
         return Ok(None);
     };
-    let header = [*a, *b, with_truncation(*flags), *code, 0, 1, 0, 0, 0, 0, 0, 0];
+    let header = [
+        *a,
+        *b,
+        with_truncation(*flags),
+        *code,
+        0,
+        1,
+        0,
+        0,
+        0,
+        0,
+        0,
+        0,
+    ];
     let mut bytes = Vec::new(alloc);
     bytes.extend_from_slice(&header)?;
     bytes.extend_from_slice(&body[..len])?;

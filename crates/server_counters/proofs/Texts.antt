@@ -1,5 +1,5 @@
 -- Texts that grow at their ends.
-use Rattle.std.proofs.Common.{◌≡◌, ◌<◌, ◌+◌, ◌++◌, ◌∷◌, ◌∙◌, [], ℕ, List, ap, append_assoc, arith, codes, get_or, length, length-take, refl, sym, take}
+use Rattle.std.proofs.Common.{◌≡◌, ◌<◌, ◌+◌, ◌++◌, ◌∷◌, ◌∙◌, [], ℕ, List, ap, append_assoc, arith, codes, get_or, length, length-take, sym, take}
 use Rattle.std.proofs.lemmas.List.{append-nil, take_more}
 use Rattle.server_counters.specs.Exposition.{code_line, code_lines, code_lines_from}
 
@@ -29,5 +29,5 @@ code_more old now new counts i within so_far put =
     let lines = code_lines_from 0 (take i counts) in
     let next = code_line i (get_or counts i 0) in
     let more : lines ++ next ≡ code_lines_from 0 (take (i + 1) counts) =
-        sym (ap (λ (xs : List ℕ). code_lines_from 0 xs) (take_more counts i 0 within) ∙ behind ∙ ap (λ (xs : List ℕ). lines ++ xs) line) in
+    sym (ap (λ (xs : List ℕ). code_lines_from 0 xs) (take_more counts i 0 within) ∙ behind ∙ ap (λ (xs : List ℕ). lines ++ xs) line) in
     grew old now new (begins ++ lines) next so_far put ∙ ap (λ (xs : List ℕ). old ++ xs) (append_assoc begins lines next ∙ ap (λ (xs : List ℕ). begins ++ xs) more)

@@ -29,8 +29,18 @@ fn put_messages(alloc: Global, text: &mut String, counters: &Counters) -> Result
     ensures { OnOk result (string_bytes text.new ≡ string_bytes text.old ++ message_lines counters.now) }
 {
     put(text, "# TYPE zoned_queries_total counter\n")?;
-    put_line(alloc, text, "zoned_queries_total{transport=\"udp\"}", counters.udp)?;
-    put_line(alloc, text, "zoned_queries_total{transport=\"tcp\"}", counters.tcp)?;
+    put_line(
+        alloc,
+        text,
+        "zoned_queries_total{transport=\"udp\"}",
+        counters.udp,
+    )?;
+    put_line(
+        alloc,
+        text,
+        "zoned_queries_total{transport=\"tcp\"}",
+        counters.tcp,
+    )?;
     put(text, "# TYPE zoned_received_bytes_total counter\n")?;
     put_line(alloc, text, "zoned_received_bytes_total", counters.received)?;
     Ok(())
@@ -41,11 +51,36 @@ fn put_unanswered(alloc: Global, text: &mut String, counters: &Counters) -> Resu
     ensures { OnOk result (string_bytes text.new ≡ string_bytes text.old ++ unanswered_lines counters.now) }
 {
     put(text, "# TYPE zoned_unanswered_total counter\n")?;
-    put_line(alloc, text, "zoned_unanswered_total{reason=\"denied\"}", counters.denied)?;
-    put_line(alloc, text, "zoned_unanswered_total{reason=\"response\"}", counters.responses)?;
-    put_line(alloc, text, "zoned_unanswered_total{reason=\"unreadable\"}", counters.unreadable)?;
-    put_line(alloc, text, "zoned_unanswered_total{reason=\"memory\"}", counters.dropped)?;
-    put_line(alloc, text, "zoned_unanswered_total{reason=\"limited\"}", counters.limited)?;
+    put_line(
+        alloc,
+        text,
+        "zoned_unanswered_total{reason=\"denied\"}",
+        counters.denied,
+    )?;
+    put_line(
+        alloc,
+        text,
+        "zoned_unanswered_total{reason=\"response\"}",
+        counters.responses,
+    )?;
+    put_line(
+        alloc,
+        text,
+        "zoned_unanswered_total{reason=\"unreadable\"}",
+        counters.unreadable,
+    )?;
+    put_line(
+        alloc,
+        text,
+        "zoned_unanswered_total{reason=\"memory\"}",
+        counters.dropped,
+    )?;
+    put_line(
+        alloc,
+        text,
+        "zoned_unanswered_total{reason=\"limited\"}",
+        counters.limited,
+    )?;
     Ok(())
 }
 

@@ -258,7 +258,12 @@ pub extern "C" fn zone_service_set_rate_limit(
     ensures others { service.new.service ≡ record service.old.service { limits = service.new.service.limits } }
 {
     let service = service.service();
-    told(alloc, service.set_rate_limit(alloc, rate, slip), fault, count)
+    told(
+        alloc,
+        service.set_rate_limit(alloc, rate, slip),
+        fault,
+        count,
+    )
 }
 
 /// Sets what identifies the server to clients that ask (RFC 5001).

@@ -11,13 +11,13 @@ use hickory_server::server::{NoKeys, Rules, Server};
 use hickory_server::store::blocklist::BlocklistZoneHandler;
 use hickory_server::zone_handler::Catalog;
 use name_lists::ListReport;
-use server_counters::Counters;
 use rate_limits::RateLimits;
 use served_zones::chains::{chain, put_chain};
 use served_zones::handler::{Handler, Zones};
 use served_zones::identifier::identifier;
 use served_zones::parents::{Loaded, alone, join_parents};
 use served_zones::zones::zone_of_file;
+use server_counters::Counters;
 use std::alloc::{AllocError, Global};
 use std::rc::Rc;
 
@@ -74,11 +74,7 @@ impl Service {
     }
 
     /// Has the names that a text lists blocked in each zone that comes later, and tells what became of its lines.
-    pub fn set_blocklist(
-        &mut self,
-        alloc: Global,
-        text: &[u8],
-    ) -> Result<ListReport, SettingFault>
+    pub fn set_blocklist(&mut self, alloc: Global, text: &[u8]) -> Result<ListReport, SettingFault>
         ensures list { IfOk result (λ counts. IsListOfText text.now counts (option_map (λ it. it.value) self.new.list)) }
         ensures others { self.new ≡ record self.old { list = self.new.list } }
     {
@@ -104,11 +100,7 @@ impl Service {
         ensures ok { OnOk result (AreJoined self.old.loaded.items self.old.answering.server.catalog.zones self.new.answering.server.catalog.zones) }
         ensures rules { self.new.answering.server.rules ≡ self.old.answering.server.rules }
     {
-        Ok(join_parents(
-            alloc,
-            &mut self.answering.server.catalog,
-            &self.loaded,
-        )?)
+        Ok(join_parents(alloc, &mut self.answering.server.catalog, &self.loaded)?)
     }
 
     /// Lets the addresses of a network use the server.

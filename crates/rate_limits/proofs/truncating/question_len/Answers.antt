@@ -1,4 +1,4 @@
-use Rattle.std.proofs.Common.{arith, get_or, refl, rules}
+use Rattle.std.proofs.Common.{arith, get_or, refl}
 use Rattle.rate_limits.specs.Truncating.{none}
 use Rattle.rate_limits.proofs.Questions.{labels_more, question_here}
 use Rattle.rate_limits.proofs.truncating.question_len.Goals as goal

@@ -1,4 +1,4 @@
-use Rattle.std.proofs.Common.{◌≡◌, ◌-◌, ◌++◌, ◌∷◌, ◌∙◌, [], ℕ, List, ap, arith, drop, get_or, length, length-drop, take}
+use Rattle.std.proofs.Common.{◌≡◌, ◌-◌, ◌++◌, ◌∙◌, ℕ, List, ap, arith, drop, get_or, length, length-drop, take}
 use Rattle.std.proofs.lemmas.List.{take_all}
 use Rattle.rate_limits.specs.Truncating.{header, with_truncation}
 use Rattle.rate_limits.proofs.truncating.truncated.Goals as goal
@@ -13,7 +13,7 @@ returns c =
       c.in-Some.len,
       rw all at c.in-Some.ensures.question,
       c.in_ok-extend_from_slice-2.ensures.items
-      ∙ ap (λ (xs : List ℕ). xs ++ take c.in-Some.len body) (c.in_ok-extend_from_slice.ensures.items ∙ ap (λ (xs : List ℕ). xs ++ first c.with_truncation.result) c.new-bytes.ensures.items)
-      ∙ ap (λ (flags : ℕ). first flags ++ take c.in-Some.len body) c.with_truncation.ensures
-      ∙ ap (λ (xs : List ℕ). first (with_truncation (get_or reply 2 0)) ++ take c.in-Some.len xs) all,
+          ∙ ap (λ (xs : List ℕ). xs ++ take c.in-Some.len body) (c.in_ok-extend_from_slice.ensures.items ∙ ap (λ (xs : List ℕ). xs ++ first c.with_truncation.result) c.new-bytes.ensures.items)
+          ∙ ap (λ (flags : ℕ). first flags ++ take c.in-Some.len body) c.with_truncation.ensures
+          ∙ ap (λ (xs : List ℕ). first (with_truncation (get_or reply 2 0)) ++ take c.in-Some.len xs) all,
     )

@@ -1,5 +1,5 @@
 -- The lines of the codes so far are put.
-use Rattle.std.proofs.Common.{◌≡◌, ◌++◌, codes, string_bytes, take}
+use Rattle.std.proofs.Common.{◌≡◌, ◌++◌, string_bytes, take}
 use Rattle.server_counters.specs.Exposition.{code_lines}
 use Rattle.server_counters.proofs.telling.put_codes.Given as goal
 

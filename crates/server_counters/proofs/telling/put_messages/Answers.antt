@@ -1,5 +1,5 @@
 use Rattle.std.proofs.Common.{◌++◌, codes, string_bytes}
-use Rattle.server_counters.specs.Exposition.{code_name, line_of}
+use Rattle.server_counters.specs.Exposition.{line_of}
 use Rattle.server_counters.proofs.Texts.{grew}
 use Rattle.server_counters.proofs.telling.put_messages.Goals as goal
 

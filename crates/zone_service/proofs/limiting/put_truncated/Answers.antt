@@ -12,6 +12,6 @@ returns-clause-some c =
     (λ end. (end ≤ length new) × (frame : List ℕ) × IsFrame frame c.deref.result.now × (take end new ≡ take 0 c.args.out.now ++ frame))
     (λ end. (end ≤ length new) × (reply : List ℕ) × (short : List ℕ) × BeginsWith old reply × IsTruncated reply short × IsFrame (take end new) short)
     (λ end put.
-      let (within, frame, is, front) = put in
-      (within, c.in-Some.reply.now, c.in-Ok-Some.short.items, c.in-Some.ensures.whole, rw c.in-Ok-Some.field-0-is at c.in-Ok-Some.ensures, rw front (rw c.deref.ensures.value at is)))
+    let (within, frame, is, front) = put in
+    (within, c.in-Some.reply.now, c.in-Ok-Some.short.items, c.in-Some.ensures.whole, rw c.in-Ok-Some.field-0-is at c.in-Ok-Some.ensures, rw front (rw c.deref.ensures.value at is)))
     c.put_frame.ensures.frame

@@ -1,9 +1,8 @@
-use Rattle.std.proofs.Common.{◌≡◌, [], List, ℕ, None, refl, rules, arith, ap, ◌∙◌, sym}
+use Rattle.std.proofs.Common.{[], refl, rules, arith, ◌∙◌, sym}
 use Rattle.wire_messages.specs.declared.protocol.Protocol.TheVariants.{Tcp}
 use Rattle.hickory_catalog.specs.Server.{Server, server_of}
 use Rattle.hickory_server.specs.ServedBy.{BytesServed}
 use Rattle.hickory_server.specs.declared.server.answer.Answer.TheVariants.{Replies}
-use Rattle.hickory_server.specs.declared.server.rules.Rules.{Rules}
 use Rattle.zone_service.specs.Serving.{IsRefused, none, waiting_in}
 use Rattle.zone_service.proofs.Streams.{answered_more, at_zones, others_stay, refused_last, rest_is, within_more}
 use Rattle.zone_service.proofs.answering.Answering.answer_whole.Goals as goal
