@@ -56,6 +56,17 @@ def use(s):
     return chance.random() < 0.1
 
 
+def ask(path):
+    """Connects to where statistics are told, and reads them, or not."""
+    with socket.socket(socket.AF_UNIX, socket.SOCK_STREAM) as s:
+        s.settimeout(5)
+        try:
+            s.connect(path)
+            s.recv(chance.choice([1, 8192])) if chance.random() < 0.7 else s.send(b"x")
+        except OSError:
+            pass
+
+
 def round_of(datagrams, connections):
     datagrams.sendto(damaged(), ("127.0.0.1", PORT))
     try:
@@ -93,7 +104,8 @@ def main():
     records = "".join(f'h{i} IN TXT "{"x" * 200}"\n' for i in range(2000))
     zone.write("$TTL 60\n@ IN SOA ns admin 7 3600 1800 604800 86400\n@ IN NS ns\nwww IN A 192.0.2.1\n" + records)
     zone.close()
-    limits = ["--tcp-most", "40", "--tcp-client", "60", "--tcp-idle", "1"]
+    told = f"{zone.name}.statistics"
+    limits = ["--tcp-most", "40", "--tcp-client", "60", "--tcp-idle", "1", "--rate-limit", "100", "--statistics", told]
     host = subprocess.Popen([ZONED, "--listen", f"127.0.0.1@{PORT}", "--zone", f"example.com={zone.name}", *limits])
     time.sleep(3)
     first, end, count, connections = children(host), time.time() + float(sys.argv[2]), 0, []
@@ -102,10 +114,12 @@ def main():
     while time.time() < end:
         count += 1
         round_of(datagrams, connections)
+        if chance.random() < 0.01:
+            ask(told)
     for s in connections:
         s.close()
     datagrams.close()
-    time.sleep(0.5)
+    time.sleep(1.5)
     good, same = answers_as_ever(), children(host) == first
     host.terminate()
     status = host.wait(20)

@@ -18,14 +18,15 @@ struct texts {
 struct settings {
     struct texts addresses, zones;        /* ADDRESS@PORT; NAME=FILE */
     struct texts networks[NETWORK_KINDS]; /* of each kind, in this order: allowed, denied, and the same for transfers */
-    const char *blocklist, *identifier, *user;
+    const char *blocklist, *identifier, *user, *statistics;
     int max_udp, workers;               /* bytes of a reply over UDP; processes that serve */
+    int rate_limit, rate_slip;          /* replies over UDP a second and network; of those above it each so many says TC */
     int tcp_idle, tcp_most, tcp_client; /* seconds; connections a worker; connections a client and worker */
 };
 
-/* The sockets of a worker: one of each kind for each address. */
+/* The sockets of a worker: for each address one for datagrams, and behind it one for connections. */
 struct sockets {
-    int udp[MOST_ADDRESSES], tcp[MOST_ADDRESSES], count;
+    int fds[2 * MOST_ADDRESSES], count;
 };
 
 /* load.c: the server that the settings ask for, read from their files. 0, or -1 with a line on the standard error. */
@@ -34,8 +35,13 @@ int load(const struct settings *settings, zone_service *service);
 /* sockets.c */
 int open_sockets(const struct settings *settings, struct sockets *sockets);
 
-/* worker.c: serves until SIGTERM, then lets its connections end. */
-int work(const struct settings *settings, const struct sockets *sockets, zone_service *service);
+/* worker.c: serves until SIGTERM, then lets its connections end. statistics is a listener, or less than 0. */
+int work(const struct settings *settings, const struct sockets *sockets, int statistics, zone_service *service);
+
+/* statistics.c: begin makes the socket where they are told, add has what a server counted since the last time, tell answers a client. */
+int statistics_begin(const char *path);
+void statistics_add(zone_service *service);
+void statistics_tell(int listener);
 
 /* udp.c: answers what waits at a socket. */
 void udp_serve(int fd, zone_service *service, uint64_t now);

@@ -10,35 +10,30 @@ static uint8_t *read_file(const char *path, size_t *len)
 {
     FILE *file = fopen(path, "rb");
     uint8_t *bytes = NULL, *more = NULL;
-    size_t have = 0, room = 0, got = 1;
-    while (file != NULL && got > 0) {
-        if (have == room) {
-            if ((more = realloc(bytes, room = room * 2 + 65536)) == NULL)
-                break;
-            bytes = more;
-        }
-        got = fread(bytes + have, 1, room - have, file);
-        have += got;
+    size_t room = 0, got = 1;
+    for (*len = 0; file != NULL && got > 0; *len += got) {
+        if (*len == room && (more = realloc(bytes, room = room * 2 + 65536)) == NULL)
+            break;
+        bytes = more;
+        got = fread(bytes + *len, 1, room - *len, file);
     }
     int whole = got == 0 && !ferror(file);
     if (file != NULL)
         fclose(file);
-    if (!whole) {
-        complain("%s: cannot be read", path);
-        free(bytes);
-        return NULL;
-    }
-    *len = have;
-    return bytes;
+    if (whole)
+        return bytes;
+    complain("%s: cannot be read", path);
+    free(bytes);
+    return NULL;
 }
 
-/* What a setting came to. */
+/* What a setting came to; of a list of blocked names that was taken, what of it was skipped. */
 static uint8_t fault[256];
 static size_t fault_len;
 
 static int told(const char *what, uint32_t set)
 {
-    if (set != ZONE_SERVICE_DONE)
+    if (set != ZONE_SERVICE_DONE || fault_len > 0)
         complain("%s: %.*s", what, (int)fault_len, (const char *)fault);
     return set == ZONE_SERVICE_DONE ? 0 : -1;
 }
@@ -50,59 +45,48 @@ static int set_text(setter *set, zone_service *service, const char *text)
     return told(text, set(service, (const uint8_t *)text, strlen(text), fault, sizeof fault, &fault_len));
 }
 
-static int set_blocklist(zone_service *service, const char *path)
+/* Sets what a file has: the zone of a name, or the list of blocked names where there is no name. */
+static int set_file(zone_service *service, const char *what, const void *name, size_t name_len, const char *path)
 {
     size_t len;
     uint8_t *text = read_file(path, &len);
     if (text == NULL)
         return -1;
-    uint32_t set = zone_service_set_blocklist(service, text, len, fault, sizeof fault, &fault_len);
+    uint32_t set = name == NULL ? zone_service_set_blocklist(service, text, len, fault, sizeof fault, &fault_len)
+                                : zone_service_add_zone(service, name, name_len, text, len, fault, sizeof fault, &fault_len);
     free(text);
-    return told(path, set);
+    return told(what, set);
 }
 
 /* Adds the zone of NAME=FILE. */
 static int add_zone(zone_service *service, const char *zone)
 {
     const char *mark = strchr(zone, '=');
-    size_t len, name_len = mark == NULL ? 0 : (size_t)(mark - zone);
-    if (mark == NULL) {
-        complain("%s: not NAME=FILE", zone);
-        return -1;
-    }
-    uint8_t *text = read_file(mark + 1, &len);
-    if (text == NULL)
-        return -1;
-    uint32_t set = zone_service_add_zone(service, (const uint8_t *)zone, name_len, text, len, fault, sizeof fault, &fault_len);
-    free(text);
-    return told(zone, set);
-}
-
-static int set_networks(const struct settings *s, zone_service *service)
-{
-    static setter *const set[NETWORK_KINDS] = {zone_service_set_allowed, zone_service_set_denied, zone_service_set_transfer_allowed,
-                                               zone_service_set_transfer_denied};
-    for (int kind = 0; kind < NETWORK_KINDS; kind++)
-        for (int i = 0; i < s->networks[kind].count; i++)
-            if (set_text(set[kind], service, s->networks[kind].at[i]) != 0)
-                return -1;
-    return 0;
+    if (mark != NULL)
+        return set_file(service, zone, zone, (size_t)(mark - zone), mark + 1);
+    complain("%s: not NAME=FILE", zone);
+    return -1;
 }
 
 static int set_all(const struct settings *s, zone_service *service)
 {
-    if (s->blocklist != NULL && set_blocklist(service, s->blocklist) != 0)
+    static setter *const set_network[NETWORK_KINDS] = {zone_service_set_allowed, zone_service_set_denied, zone_service_set_transfer_allowed,
+                                                       zone_service_set_transfer_denied};
+    if ((s->blocklist != NULL && set_file(service, s->blocklist, NULL, 0, s->blocklist) != 0) ||
+        (s->identifier != NULL && set_text(zone_service_set_identifier, service, s->identifier) != 0))
         return -1;
-    if (s->identifier != NULL && set_text(zone_service_set_identifier, service, s->identifier) != 0)
+    if (told("--max-udp", zone_service_set_max_udp(service, (uint16_t)s->max_udp, fault, sizeof fault, &fault_len)) != 0 ||
+        told("--rate-limit", zone_service_set_rate_limit(service, (uint32_t)s->rate_limit, (uint32_t)s->rate_slip, fault, sizeof fault,
+                                                         &fault_len)) != 0)
         return -1;
-    if (told("--max-udp", zone_service_set_max_udp(service, (uint16_t)s->max_udp, fault, sizeof fault, &fault_len)) != 0)
-        return -1;
-    if (set_networks(s, service) != 0)
-        return -1;
+    for (int kind = 0; kind < NETWORK_KINDS; kind++)
+        for (int i = 0; i < s->networks[kind].count; i++)
+            if (set_text(set_network[kind], service, s->networks[kind].at[i]) != 0)
+                return -1;
     for (int i = 0; i < s->zones.count; i++)
         if (add_zone(service, s->zones.at[i]) != 0)
             return -1;
-    return 0;
+    return told("--zone", zone_service_join_zones(service, fault, sizeof fault, &fault_len));
 }
 
 int load(const struct settings *settings, zone_service *service)

@@ -23,11 +23,12 @@
 
 #define MOST_WORKERS 64
 
-static struct settings settings = {.max_udp = 1232, .workers = 1, .tcp_idle = 10, .tcp_most = 1000, .tcp_client = 100};
+static struct settings settings = {.max_udp = 1232, .workers = 1, .rate_slip = 2, .tcp_idle = 10, .tcp_most = 1000, .tcp_client = 100};
 static struct sockets sockets[MOST_WORKERS];
 static pid_t workers[MOST_WORKERS];
 static time_t begun[MOST_WORKERS];
 static zone_service service;
+static int statistics = -1; /* the listener where they are told */
 
 void complain(const char *format, ...)
 {
@@ -63,91 +64,84 @@ static void usage(void)
     exit(2);
 }
 
-/* Options with a number behind them, with a text, and with one of several texts. */
-static const struct {
+/* Options, each with one of these behind it: a number, a text, or one of several texts. */
+static const struct option {
     const char *name, *says;
-    int *at, least, most;
-} numbers[] = {{"--max-udp", "bytes of a reply over UDP at most", &settings.max_udp, 512, 65535},
-               {"--workers", "processes that serve", &settings.workers, 1, MOST_WORKERS},
-               {"--tcp-idle", "seconds until a connection that does not get on is closed", &settings.tcp_idle, 1, 3600},
-               {"--tcp-most", "connections of a worker", &settings.tcp_most, 1, 100000},
-               {"--tcp-client", "connections of a client and worker", &settings.tcp_client, 1, 100000}};
-static const struct {
-    const char *name, *says, **at;
-} words[] = {{"--blocklist", "FILE of names that are blocked, a line each", &settings.blocklist},
-             {"--nsid", "TEXT that identifies this server", &settings.identifier},
-             {"--user", "NAME of the user that it becomes once its sockets are open", &settings.user}};
-static const struct {
-    const char *name, *says;
-    struct texts *at;
-    int most;
-} lists[] = {{"--listen", "ADDRESS[@PORT], over UDP and TCP; port 53", &settings.addresses, MOST_ADDRESSES},
-             {"--zone", "NAME=FILE: the zone at NAME, from a zone file", &settings.zones, MOST_TEXTS},
-             {"--allow", "NET that may ask", &settings.networks[0], MOST_TEXTS},
-             {"--deny", "NET that may not", &settings.networks[1], MOST_TEXTS},
-             {"--allow-transfer", "NET that may have zones transferred", &settings.networks[2], MOST_TEXTS},
-             {"--deny-transfer", "NET that may not", &settings.networks[3], MOST_TEXTS}};
-
-#define EACH(i, table) for (size_t i = 0; i < sizeof table / sizeof table[0]; i++) /* of a table of options */
+    int *number;
+    const char **word;
+    struct texts *list;
+    int least, most; /* numbers; or how many texts at most */
+} options[] = {{"--listen", "ADDRESS[@PORT], over UDP and TCP; port 53", .list = &settings.addresses, .most = MOST_ADDRESSES},
+               {"--zone", "NAME=FILE: the zone at NAME, from a zone file", .list = &settings.zones, .most = MOST_TEXTS},
+               {"--allow", "NET that may ask", .list = &settings.networks[0], .most = MOST_TEXTS},
+               {"--deny", "NET that may not", .list = &settings.networks[1], .most = MOST_TEXTS},
+               {"--allow-transfer", "NET that may have zones transferred", .list = &settings.networks[2], .most = MOST_TEXTS},
+               {"--deny-transfer", "NET that may not", .list = &settings.networks[3], .most = MOST_TEXTS},
+               {"--blocklist", "FILE of names that are blocked, a line each", .word = &settings.blocklist},
+               {"--nsid", "TEXT that identifies this server", .word = &settings.identifier},
+               {"--statistics", "PATH of a Unix socket where it tells what it has done", .word = &settings.statistics},
+               {"--user", "NAME of the user that it becomes once its sockets are open", .word = &settings.user},
+               {"--max-udp", "bytes of a reply over UDP at most", &settings.max_udp, .least = 512, .most = 65535},
+               {"--rate-limit", "replies over UDP a second to a network of clients, 0 for all", &settings.rate_limit, .most = 1000000},
+               {"--rate-slip", "of those above it each so many says TC, 0 for none", &settings.rate_slip, .most = 1000},
+               {"--workers", "processes that serve", &settings.workers, .least = 1, .most = MOST_WORKERS},
+               {"--tcp-idle", "seconds until a connection that does not get on is closed", &settings.tcp_idle, .least = 1, .most = 3600},
+               {"--tcp-most", "connections of a worker", &settings.tcp_most, .least = 1, .most = 100000},
+               {"--tcp-client", "connections of a client and worker", &settings.tcp_client, .least = 1, .most = 100000},
+               {NULL}};
 
 static void help(void)
 {
     puts("zoned --listen ADDRESS[@PORT].. --zone NAME=FILE.. [OPTION]..\n"
          "  --check           read the files, tell what is wrong with them, and end\n  --version, --help");
-    EACH (i, lists)
-        printf("  %-17s %s; up to %d times\n", lists[i].name, lists[i].says, lists[i].most);
-    EACH (i, words)
-        printf("  %-17s %s\n", words[i].name, words[i].says);
-    EACH (i, numbers)
-        printf("  %-17s %s: %d to %d; %d\n", numbers[i].name, numbers[i].says, numbers[i].least, numbers[i].most, *numbers[i].at);
+    for (const struct option *o = options; o->name != NULL; o++) {
+        printf("  %-17s %s", o->name, o->says);
+        if (o->list != NULL)
+            printf("; up to %d times", o->most);
+        if (o->number != NULL)
+            printf(": %d to %d; %d", o->least, o->most, *o->number);
+        puts("");
+    }
     exit(0);
 }
 
-static void put_option(const char *option, const char *text)
+static void put_option(const char *name, const char *text)
 {
-    EACH (i, numbers)
-        if (strcmp(option, numbers[i].name) == 0) {
-            char *rest;
-            long n = strtol(text, &rest, 10);
-            if (rest == text || *rest != 0 || n < numbers[i].least || n > numbers[i].most) {
-                complain("%s: not a number from %d to %d", text, numbers[i].least, numbers[i].most);
-                exit(2);
-            }
-            *numbers[i].at = (int)n;
-            return;
+    const struct option *o = options;
+    while (o->name != NULL && strcmp(name, o->name) != 0)
+        o++;
+    if (o->number != NULL) {
+        char *rest;
+        long n = strtol(text, &rest, 10);
+        if (rest == text || *rest != 0 || n < o->least || n > o->most) {
+            complain("%s: not a number from %d to %d", text, o->least, o->most);
+            exit(2);
         }
-    EACH (i, words)
-        if (strcmp(option, words[i].name) == 0) {
-            *words[i].at = text;
-            return;
-        }
-    EACH (i, lists)
-        if (strcmp(option, lists[i].name) == 0 && lists[i].at->count < lists[i].most) {
-            lists[i].at->at[lists[i].at->count++] = text;
-            return;
-        }
-    usage();
+        *o->number = (int)n;
+    } else if (o->word != NULL) {
+        *o->word = text;
+    } else if (o->list != NULL && o->list->count < o->most) {
+        o->list->at[o->list->count++] = text;
+    } else {
+        usage();
+    }
 }
 
 /* Reads the arguments. Whether the files are only to be read. */
 static int read_arguments(int argc, char **argv)
 {
     int check = 0;
-    for (int i = 1; i < argc; i++) {
-        if (strcmp(argv[i], "--help") == 0 || strcmp(argv[i], "-h") == 0) {
+    for (int i = 1; i < argc; i++)
+        if (strcmp(argv[i], "--help") == 0 || strcmp(argv[i], "-h") == 0)
             help();
-        } else if (strcmp(argv[i], "--version") == 0) {
-            puts("zoned " ZONED_VERSION);
-            exit(0);
-        } else if (strcmp(argv[i], "--check") == 0) {
+        else if (strcmp(argv[i], "--version") == 0)
+            exit(puts("zoned " ZONED_VERSION) < 0);
+        else if (strcmp(argv[i], "--check") == 0)
             check = 1;
-        } else {
-            if (i + 1 == argc)
-                usage();
-            put_option(argv[i], argv[i + 1]);
-            i++;
-        }
-    }
+        else if (i + 1 == argc)
+            usage();
+        else
+            put_option(argv[i], argv[i + 1]), i++;
     if ((settings.addresses.count == 0 && !check) || settings.zones.count == 0)
         usage();
     return check;
@@ -172,8 +166,8 @@ static void begin(int worker)
         prctl(PR_SET_PDEATHSIG, SIGTERM);
         for (int i = 0; i < settings.workers; i++)
             for (int j = 0; i != worker && j < sockets[i].count; j++)
-                close(sockets[i].udp[j]), close(sockets[i].tcp[j]);
-        _exit(getppid() == parent ? work(&settings, &sockets[worker], &service) : 0);
+                close(sockets[i].fds[j]);
+        _exit(getppid() == parent ? work(&settings, &sockets[worker], statistics, &service) : 0);
     }
     if (child < 0)
         complain("cannot begin a worker: %s", strerror(errno));
@@ -213,12 +207,11 @@ static void replace_ended(void)
 
 int main(int argc, char **argv)
 {
+    static const int awaited[] = {SIGHUP, SIGTERM, SIGINT, SIGCHLD};
     sigset_t signals;
     sigemptyset(&signals);
-    sigaddset(&signals, SIGHUP);
-    sigaddset(&signals, SIGTERM);
-    sigaddset(&signals, SIGINT);
-    sigaddset(&signals, SIGCHLD);
+    for (size_t i = 0; i < sizeof awaited / sizeof awaited[0]; i++)
+        sigaddset(&signals, awaited[i]);
     sigprocmask(SIG_BLOCK, &signals, NULL);
     if (read_arguments(argc, argv))
         return load(&settings, &service) == 0 ? 0 : 1;
@@ -228,26 +221,23 @@ int main(int argc, char **argv)
     /* The files are read without privileges, as they will be at a reload. */
     if (let_privileges_go() != 0 || load(&settings, &service) != 0)
         return 1;
+    if (settings.statistics != NULL && (statistics = statistics_begin(settings.statistics)) < 0)
+        return 1;
     for (int i = 0; i < settings.workers; i++)
         begin(i);
     notify("READY=1\n");
-    for (;;) {
-        switch (sigwaitinfo(&signals, NULL)) {
-        case SIGHUP:
+    for (int came = 0; came != SIGTERM && came != SIGINT;) {
+        came = sigwaitinfo(&signals, NULL);
+        if (came == SIGHUP)
             reload();
-            break;
-        case SIGCHLD:
+        else if (came == SIGCHLD)
             replace_ended();
-            break;
-        case SIGTERM:
-        case SIGINT:
-            notify("STOPPING=1\n");
-            for (int i = 0; i < settings.workers; i++)
-                if (workers[i] > 0)
-                    kill(workers[i], SIGTERM);
-            while (wait(NULL) > 0)
-                ;
-            return 0;
-        }
     }
+    notify("STOPPING=1\n");
+    for (int i = 0; i < settings.workers; i++)
+        if (workers[i] > 0)
+            kill(workers[i], SIGTERM);
+    while (wait(NULL) > 0)
+        ;
+    return 0;
 }

@@ -217,6 +217,124 @@ def try_loop():
     want("two servers that are handed each other's replies end at the first", count == 1)
 
 
+def statistics(path):
+    """What the socket tells: each number by what stands before it."""
+    with socket.socket(socket.AF_UNIX, socket.SOCK_STREAM) as s:
+        s.settimeout(5)
+        s.connect(path)
+        text = s.makefile("rb").read().decode()
+    return {what: int(count) for what, count in (line.rsplit(" ", 1) for line in text.splitlines() if not line.startswith("# TYPE zoned_"))}
+
+
+def counts(path, before, wanted):
+    """Whether what was counted since comes to this, and to nothing else. A reply may come before it is counted."""
+    for _ in range(50):
+        now = statistics(path)
+        grown = {what: count - before[what] for what, count in now.items() if count != before[what]}
+        if grown == wanted:
+            return True
+        time.sleep(0.05)
+    print("note: counted", grown)
+    return False
+
+
+def try_statistics(path):
+    """What is counted of each kind of message, in numbers."""
+    queries, unanswered, replies = "zoned_queries_total", "zoned_unanswered_total", "zoned_replies_total"
+    received, sent = "zoned_received_bytes_total", "zoned_sent_bytes_total"
+    before, message = statistics(path), query("www.example.com")
+    want("statistics have a line for each of 26 numbers", len(before) == 26)
+    reply = udp(message)
+    want("a datagram and its reply are counted", counts(path, before, {f'{queries}{{transport="udp"}}': 1, received: len(message), f'{replies}{{code="NOERROR"}}': 1, sent: len(reply)}))
+    before, message = statistics(path), query("no.example.com")
+    with tcp() as s:
+        f = s.makefile("rb")
+        s.sendall(3 * frame(message))
+        size = sum(len(read(f)) for _ in range(3))
+    want("so are messages of a connection, by their codes", counts(path, before, {f'{queries}{{transport="tcp"}}': 3, received: 3 * len(message), f'{replies}{{code="NXDOMAIN"}}': 3, sent: size}))
+    before, message = statistics(path), query("www.example.com", dns_class=3)
+    reply = udp(message)
+    want("REFUSED is counted", counts(path, before, {f'{queries}{{transport="udp"}}': 1, received: len(message), f'{replies}{{code="REFUSED"}}': 1, sent: len(reply)}))
+    before, message = statistics(path), query("large.example.com", 16)
+    reply = udp(message)
+    want("so is a reply that is truncated", counts(path, before, {f'{queries}{{transport="udp"}}': 1, received: len(message), f'{replies}{{code="NOERROR"}}': 1, "zoned_truncated_total": 1, sent: len(reply)}))
+    for what, message, source in (("denied", query("www.example.com"), "127.0.0.9"), ("response", query("www.example.com", flags=b"\x81\x00"), "127.0.0.1"), ("unreadable", b"\0" * 11, "127.0.0.1")):
+        before = statistics(path)
+        udp(message, 0.2, source=source)
+        want(f"a message without a reply is counted as {what}", counts(path, before, {f'{queries}{{transport="udp"}}': 1, received: len(message), f'{unanswered}{{reason="{what}"}}': 1}))
+    before, records = statistics(path), 0
+    with tcp() as s:
+        s.sendall(frame(query("example.com", 252)))
+        f, replies_sent, size = s.makefile("rb"), 0, 0
+        while records < 20004:
+            reply = read(f)
+            records, replies_sent, size = records + answers(reply), replies_sent + 1, size + len(reply)
+    want("each reply of a transfer is counted", counts(path, before, {f'{queries}{{transport="tcp"}}': 1, received: len(query("example.com", 252)), f'{replies}{{code="NOERROR"}}': replies_sent, sent: size}))
+
+
+def try_workers(zone, port, path):
+    """That all workers are counted together, and that none is forgotten."""
+    host = start(["--zone", f"example.com={zone}", "--workers", "3", "--statistics", path, "--tcp-idle", "1"], port)
+    want("three workers start", wait_for(port))
+    before = statistics(path)
+    for _ in range(60):
+        udp(query("www.example.com"), port=port)
+    message = query("www.example.com")
+    grown = {'zoned_queries_total{transport="udp"}': 60, "zoned_received_bytes_total": 60 * len(message), 'zoned_replies_total{code="NOERROR"}': 60, "zoned_sent_bytes_total": 60 * len(udp(message, port=port))}
+    grown = {what: count // 60 * 61 for what, count in grown.items()}
+    want("what they count is told together", counts(path, before, grown))
+    before = statistics(path)
+    for worker in children(host.pid):
+        os.kill(worker, signal.SIGKILL)
+        time.sleep(0.1)
+    host.send_signal(signal.SIGHUP)
+    time.sleep(4)
+    want("and stays when workers end and files are read anew", counts(path, before, {}))
+    with tcp(port) as s:
+        s.sendall(frame(query("www.example.com")))
+        s.recv(512)
+        host.terminate()
+        want("they end once a connection is idle that stays open", host.wait(5) == 0)
+    open(path + "x", "w").write("kept")
+    want("a file is not replaced by the socket", status(["--listen", f"127.0.0.1@{port}", "--zone", f"example.com={zone}", "--statistics", path + "x"]) == 1 and open(path + "x").read() == "kept")
+
+
+def try_limits(zone, port, path):
+    """That a network gets so many replies over UDP a second, and of those above it every second one says TC."""
+    host = start(["--zone", f"example.com={zone}", "--rate-limit", "5", "--rate-slip", "2", "--statistics", path], port)
+    want("a server with limits starts", wait_for(port))
+    with socket.socket(socket.AF_INET, socket.SOCK_DGRAM) as s:
+        s.connect(("127.0.0.1", port))
+        s.settimeout(0.3)
+        message, replies = query("www.example.com"), []
+        # within one second of the clock
+        time.sleep(1.05 - time.time() % 1)
+        before = statistics(path)
+        for _ in range(15):
+            s.send(message)
+        try:
+            while True:
+                replies.append(s.recv(512))
+        except OSError:
+            pass
+    whole = [reply for reply in replies if not is_truncated(reply)]
+    want("a network gets so many replies a second", len(whole) == 5 and all(reply[-4:] == bytes([192, 0, 2, 1]) for reply in whole))
+    short = [reply for reply in replies if is_truncated(reply)]
+    want("every second one above that says TC, with the question alone", len(short) == 5 and all(reply[:2] == message[:2] and reply[4:] == message[4:] and answers(reply) == 0 for reply in short))
+    now = statistics(path)
+    kept = 'zoned_unanswered_total{reason="limited"}'
+    want("and the others are counted as kept back", now[kept] - before[kept] == 5 and now["zoned_truncated_total"] - before["zoned_truncated_total"] == 5)
+    time.sleep(1.05 - time.time() % 1)
+    for _ in range(8):
+        udp(message, 0.05, port)
+    want("another network has replies of its own", udp(message, 0.5, port, source="127.0.1.1")[-4:] == bytes([192, 0, 2, 1]))
+    with tcp(port) as s, s.makefile("rb") as f:
+        s.sendall(20 * frame(message))
+        want("over TCP there is no limit", all(read(f)[-4:] == bytes([192, 0, 2, 1]) for _ in range(20)))
+    host.terminate()
+    want("and it ends", host.wait(15) == 0)
+
+
 def try_signals(host, notified, zone):
     """Reload, a worker that ends, and the end."""
     open(zone, "w").write(SOA_AND_NS + WWW % 2)
@@ -305,6 +423,25 @@ def try_same(zone):
     want(f"and {len(answered)} messages of a connection", b"".join(map(frame, replies)) == serve("tcp", b"".join(map(frame, answered))))
 
 
+def try_joined(folder, port):
+    """Two zones, one below the other, and a list of blocked names of which lines are skipped."""
+    above, below, names = (os.path.join(folder, name) for name in ("above", "below", "names"))
+    open(above, "w").write(SOA_AND_NS + f"sub IN NS ns.sub\nsub IN DS 1 8 2 {'ab' * 32}\n")
+    open(below, "w").write(SOA_AND_NS + WWW % 9)
+    open(names, "w").write("<html>\nbad.sub.example.com\n<p>\n")
+    words = ["--zone", f"sub.example.com={below}", "--zone", f"example.com={above}", "--blocklist", names]
+    host = start(words, port, stderr=subprocess.PIPE, text=True)
+    for _ in range(100):
+        if (reply := udp(query("sub.example.com", 43), 0.1, port)) is not None:
+            break
+    want("the DS records of a zone are answered by the one above it", reply is not None and code(reply) == 0 and answers(reply) == 1 and b"\xab" * 32 in reply)
+    want("and all else of it by itself", udp(query("www.sub.example.com"), port=port)[-4:] == bytes([192, 0, 2, 9]))
+    want("a blocked name is 0.0.0.0", udp(query("bad.sub.example.com"), port=port)[-4:] == bytes(4))
+    host.terminate()
+    told = host.communicate(timeout=15)[1]
+    want("lines of a list that give no name are told", f"zoned: {names}: 2 lines skipped, which give no name: 1, 3\n" in told)
+
+
 def try_arguments(zone, bad):
     named = subprocess.run([ZONED, "--version"], stdout=subprocess.PIPE, text=True)
     want("--version tells it", named.returncode == 0 and named.stdout.startswith("zoned 0."))
@@ -327,7 +464,8 @@ def main():
     notified.bind(os.path.join(folder, "notify"))
     notified.settimeout(60)
     words = ["--zone", f"example.com={zone}", "--tcp-idle", "2", "--tcp-client", "20", "--deny", "127.0.0.9", "--deny-transfer", "127.0.0.8"]
-    host = start(words, PORT, env={**os.environ, "NOTIFY_SOCKET": os.path.join(folder, "notify")})
+    path = os.path.join(folder, "statistics")
+    host = start([*words, "--statistics", path], PORT, env={**os.environ, "NOTIFY_SOCKET": os.path.join(folder, "notify")})
     other = start(["--zone", f"example.com={zone}", "--max-udp", "600"], PORT + 1)
     try:
         want("systemd is told that it is ready", notified.recv(100) == b"READY=1\n")
@@ -337,6 +475,7 @@ def main():
         try_connections(children(host.pid)[0])
         try_rules()
         try_loop()
+        try_statistics(path)
         try_signals(host, notified, zone)
     finally:
         for it in (host, other):
@@ -348,6 +487,9 @@ def main():
                     it.kill()
     want("the second ends", other.returncode == 0)
     open(zone, "w").write(SOA_AND_NS + WWW % 1)
+    try_joined(folder, PORT + 2)
+    try_limits(zone, PORT + 2, path)
+    try_workers(zone, PORT + 2, path)
     try_privileges(zone, PORT + 2)
     if has_ipv6():
         try_wildcards(zone, PORT + 3)

@@ -9,7 +9,7 @@
  *    stays in the thread or process that it was made in; a forked child of a process without threads may go on with its own copy.
  *    Servers share nothing: each thread may have one of its own.
  *  - A pointer with a length is to so many bytes, never NULL, which nobody else changes during the call; what is written to
- *    (out, fault, length, taken, written, waiting) overlaps nothing else that is passed.
+ *    (out, fault, length, taken, written, waiting, counters) overlaps nothing else that is passed.
  *  - No call from a signal handler. malloc, realloc and free come from one allocator that aligns as C says.
  *
  * Calls that may fail answer one of these numbers: */
@@ -28,7 +28,8 @@ enum {
     ZONE_SERVICE_MEMORY = 4,       /* memory was refused; the zones are as before */
     ZONE_SERVICE_MEMORY_AFTER = 5, /* memory was refused for the replies to a message that was handled */
     ZONE_SERVICE_NO_ADDRESS = 6,   /* the source is no address of 4 or 16 bytes */
-    ZONE_SERVICE_FAULT = 7         /* a setting is not taken; fault tells why */
+    ZONE_SERVICE_FAULT = 7,        /* a setting is not taken; fault tells why */
+    ZONE_SERVICE_LIMITED = 8       /* the reply to a datagram is kept back, since its network got as many as it may */
 };
 
 /* A reply is at most so long, with its length before it. A buffer of this size takes at least one. */
@@ -52,19 +53,25 @@ void zone_service_free(zone_service service);
 
 /* Settings, made before the first message, in any order but that a list of blocked names is for the zones that are added behind it.
  * Each answers DONE; or FAULT or MEMORY, and puts a text that tells it into fault, of at most room bytes and with no zero behind it; *length
- * is how many they are, 0 after DONE. After these the server is to be freed: a list of networks may be as before or not, and
- * zone_service_add_zone may have let a zone of that name go.
+ * is how many they are. After DONE it is 0, but where lines of a list of blocked names were skipped. After FAULT and MEMORY the server is to be
+ * freed: a list of networks may be as before or not, and zone_service_add_zone may have let a zone of that name go.
  *
  * zone_service_set_blocklist: the names that the lines of a list give, in any of the spellings that docs/OPERATORS.md tells, at least one; a
- *     second list takes the place of the first.
+ *     second list takes the place of the first. Where lines are skipped, the text after DONE tells how many, and the numbers of the first three.
  * zone_service_add_zone: the zone at a name (with or without a dot at its end), from the bytes of its zone file.
+ * zone_service_join_zones: behind the last zone, once: puts each zone beside the one above it, if that is served too, which has its DS records
+ *     (RFC 4035 section 3.1.4.1). Without it a query for DS at an apex is answered from the zone of that apex.
  * zone_service_set_allowed, .._denied: a network, as 192.0.2.0/24, whose addresses may use the server, or may not; one more by each call.
  * zone_service_set_transfer_allowed, .._denied: the same for transfers (AXFR, IXFR) by those who may use the server.
  * zone_service_set_max_udp: how many bytes a reply over UDP has at most, from 512 to 65,535; 1,232 where it is not called.
+ * zone_service_set_rate_limit: how many replies to datagrams a network of clients (24 bits of IPv4, 56 of IPv6) gets in a second, and of how
+ *     many above that one is sent without records and with TC, while the others are kept back (0: all are); all are sent where the rate is 0,
+ *     or it is not called. It takes a mebibyte.
  * zone_service_set_identifier: what identifies the server to clients that ask (RFC 5001), up to 65,531 bytes. */
 uint32_t zone_service_set_blocklist(zone_service *service, const uint8_t *text, size_t len, uint8_t *fault, size_t room, size_t *length);
 uint32_t zone_service_add_zone(zone_service *service, const uint8_t *name, size_t name_len, const uint8_t *text, size_t len,
                                uint8_t *fault, size_t room, size_t *length);
+uint32_t zone_service_join_zones(zone_service *service, uint8_t *fault, size_t room, size_t *length);
 uint32_t zone_service_set_allowed(zone_service *service, const uint8_t *network, size_t len, uint8_t *fault, size_t room, size_t *length);
 uint32_t zone_service_set_denied(zone_service *service, const uint8_t *network, size_t len, uint8_t *fault, size_t room, size_t *length);
 uint32_t zone_service_set_transfer_allowed(zone_service *service, const uint8_t *network, size_t len, uint8_t *fault, size_t room,
@@ -72,13 +79,14 @@ uint32_t zone_service_set_transfer_allowed(zone_service *service, const uint8_t 
 uint32_t zone_service_set_transfer_denied(zone_service *service, const uint8_t *network, size_t len, uint8_t *fault, size_t room,
                                           size_t *length);
 uint32_t zone_service_set_max_udp(zone_service *service, uint16_t size, uint8_t *fault, size_t room, size_t *length);
+uint32_t zone_service_set_rate_limit(zone_service *service, uint32_t rate, uint32_t slip, uint8_t *fault, size_t room, size_t *length);
 uint32_t zone_service_set_identifier(zone_service *service, const uint8_t *text, size_t len, uint8_t *fault, size_t room, size_t *length);
 
 /* Answers a message that came from an address (4 or 16 bytes, the first one highest) and port, over a stream or as a datagram, at a moment
  * in seconds since 1970. DONE where it has replies: they are written to the front of out, each behind its length in two bytes (RFC 1035
  * section 4.2.2), as many as there is room for; *written is how many bytes they take, and *waiting how many replies are left for
- * zone_service_take. The next message that has replies lets those go. Any other number but FAULT: it has none, *written is 0, out is as it
- * was, and replies that waited wait still. */
+ * zone_service_take. The next message that has replies lets those go. LIMITED: *written is 0, and out may be written to. Any other number but
+ * FAULT: it has none, *written is 0, out is as it was, and replies that waited wait still. */
 uint32_t zone_service_answer(zone_service *service, const uint8_t *message, size_t len, const uint8_t *source, size_t source_len,
                              uint16_t port, bool stream, uint64_t now, uint8_t *out, size_t room, size_t *written, size_t *waiting);
 
@@ -94,5 +102,21 @@ uint32_t zone_service_answer_stream(zone_service *service, const uint8_t *bytes,
 /* Writes more of the replies that wait to the front of out, as zone_service_answer does, and says how many bytes they take: 0 only where
  * none waits, or out has no room for the next. */
 size_t zone_service_take(zone_service *service, uint8_t *out, size_t room, size_t *waiting);
+
+/* What a server has done since it was made. Each number stops at 2^64 - 1, so that none ever falls. */
+struct zone_service_counters {
+    uint64_t udp, tcp;                               /* messages that came as datagrams, and over streams */
+    uint64_t received;                               /* bytes of these, without the lengths before them */
+    uint64_t denied, responses, unreadable, dropped; /* messages without a reply: DENIED, RESPONSE, UNREADABLE, and both kinds of MEMORY */
+    uint64_t limited;                                /* and LIMITED */
+    uint64_t codes[16];                              /* replies that were written, by the response code in their headers */
+    uint64_t truncated;                              /* those that are truncated */
+    uint64_t sent;                                   /* bytes of replies, without the lengths before them */
+};
+void zone_service_counters(zone_service *service, struct zone_service_counters *counters);
+
+/* Puts the text in which monitoring reads such numbers (Prometheus' text-based format) to the front of out, as far as there is room; it has
+ * less than 2,048 bytes. *length is how many they are. DONE, or MEMORY, and *length is 0. */
+uint32_t zone_service_statistics(const struct zone_service_counters *counters, uint8_t *out, size_t room, size_t *length);
 
 #endif

@@ -1,6 +1,6 @@
 //! Each call of the wrapper once, on what a server is given.
 use std::net::SocketAddr;
-use zone_service::{FRAME, Refusal, Transport, Written, ZoneService};
+use zone_service::{Counters, FRAME, Refusal, Transport, Written, ZoneService};
 
 const ZONE: &[u8] = b"$TTL 60\n@ IN SOA ns admin 7 3600 1800 604800 86400\n@ IN NS ns\nwww IN A 192.0.2.1\n";
 
@@ -73,13 +73,51 @@ fn settings() {
     assert!(service.allow("192.0.2.0/33").is_err() && service.set_max_udp(511).is_err());
     service.set_max_udp(512).unwrap();
     service.set_identifier(b"one").unwrap();
-    service.set_blocklist(b"www.example.net\n").unwrap();
+    assert_eq!(service.set_blocklist(b"www.example.net\n").unwrap(), "");
+    assert_eq!(service.set_blocklist(b"<html>\nwww.example.net\n<p>\n").unwrap(), "2 lines skipped, which give no name: 1, 3");
     service.add_zone("example.net.", ZONE).unwrap();
     service.answer(&query(b"www.example.net", 1), client(), Transport::Datagram, 1, &mut out).unwrap();
     service.allow_transfer("198.51.100.0/24").unwrap();
     service.deny_transfer("192.0.2.9").unwrap();
     service.answer(&query(b"example.com", 252), client(), Transport::Stream, 1, &mut out).unwrap();
     assert_eq!(out[5] & 15, 5);
+}
+
+#[test]
+fn counts() {
+    let (mut service, mut out) = (server(), vec![0; FRAME]);
+    assert_eq!(service.counters(), Counters::default());
+    let one = query(b"www.example.com", 1);
+    let written = service.answer(&one, client(), Transport::Datagram, 1, &mut out).unwrap().len;
+    service.answer(b"short", client(), Transport::Datagram, 1, &mut out).unwrap_err();
+    let stream = [&(one.len() as u16).to_be_bytes()[..], &one].concat();
+    service.answer_stream(&stream, client(), 1, &mut out);
+    let (received, sent) = (2 * one.len() as u64 + 5, 2 * (written as u64 - 2));
+    let mut codes = [0; 16];
+    codes[0] = 2;
+    let counted = Counters { udp: 2, tcp: 1, received, unreadable: 1, codes, sent, ..Counters::default() };
+    assert_eq!(service.counters(), counted);
+    let text = counted.statistics().unwrap();
+    assert!(text.contains("zoned_queries_total{transport=\"udp\"} 2\n") && text.contains("zoned_replies_total{code=\"NOERROR\"} 2\n"));
+}
+
+#[test]
+fn limits_replies() {
+    let (mut service, mut out) = (server(), vec![0; FRAME]);
+    service.set_rate_limit(2, 2).unwrap();
+    let one = query(b"www.example.com", 1);
+    let mut answer = |source: &str| service.answer(&one, source.parse().unwrap(), Transport::Datagram, 7, &mut out).map(|w| (w.len, out[4] & 2));
+    let whole = answer("192.0.2.1:53").unwrap();
+    assert_eq!(answer("192.0.2.200:53"), Ok(whole));
+    assert_eq!(answer("192.0.2.1:53"), Err(Refusal::Limited));
+    assert_eq!(answer("192.0.2.7:53"), Ok((2 + one.len(), 2)));
+    assert_eq!(answer("192.0.2.1:53"), Err(Refusal::Limited));
+    assert_eq!(answer("192.0.3.1:53"), Ok(whole));
+    assert_eq!(answer("[2001:db8:0:1::1]:53"), Ok(whole));
+    assert_eq!(answer("[2001:db8:0:2::1]:53"), Ok(whole));
+    assert_eq!(answer("[2001:db8:0:3::1]:53"), Err(Refusal::Limited));
+    let counted = service.counters();
+    assert_eq!((counted.limited, counted.truncated, counted.codes[0]), (3, 1, 6));
 }
 
 #[test]

@@ -24,17 +24,21 @@ unsafe extern "C" {
     fn zone_service_free(service: Raw);
     fn zone_service_set_blocklist(service: *mut Raw, text: *const u8, len: usize, fault: *mut u8, room: usize, length: *mut usize) -> u32;
     fn zone_service_add_zone(service: *mut Raw, name: *const u8, name_len: usize, text: *const u8, len: usize, fault: *mut u8, room: usize, length: *mut usize) -> u32;
+    fn zone_service_join_zones(service: *mut Raw, fault: *mut u8, room: usize, length: *mut usize) -> u32;
     fn zone_service_set_allowed(service: *mut Raw, network: *const u8, len: usize, fault: *mut u8, room: usize, length: *mut usize) -> u32;
     fn zone_service_set_denied(service: *mut Raw, network: *const u8, len: usize, fault: *mut u8, room: usize, length: *mut usize) -> u32;
     fn zone_service_set_transfer_allowed(service: *mut Raw, network: *const u8, len: usize, fault: *mut u8, room: usize, length: *mut usize) -> u32;
     fn zone_service_set_transfer_denied(service: *mut Raw, network: *const u8, len: usize, fault: *mut u8, room: usize, length: *mut usize) -> u32;
     fn zone_service_set_max_udp(service: *mut Raw, size: u16, fault: *mut u8, room: usize, length: *mut usize) -> u32;
+    fn zone_service_set_rate_limit(service: *mut Raw, rate: u32, slip: u32, fault: *mut u8, room: usize, length: *mut usize) -> u32;
     fn zone_service_set_identifier(service: *mut Raw, text: *const u8, len: usize, fault: *mut u8, room: usize, length: *mut usize) -> u32;
     fn zone_service_answer(service: *mut Raw, message: *const u8, len: usize, source: *const u8, source_len: usize, port: u16, stream: bool, now: u64,
         out: *mut u8, room: usize, written: *mut usize, waiting: *mut usize) -> u32;
     fn zone_service_answer_stream(service: *mut Raw, bytes: *const u8, len: usize, source: *const u8, source_len: usize, port: u16, now: u64,
         out: *mut u8, room: usize, taken: *mut usize, written: *mut usize, waiting: *mut usize) -> u32;
     fn zone_service_take(service: *mut Raw, out: *mut u8, room: usize, waiting: *mut usize) -> usize;
+    fn zone_service_counters(service: *mut Raw, counters: *mut Counters);
+    fn zone_service_statistics(counters: *const Counters, out: *mut u8, room: usize, length: *mut usize) -> u32;
 }
 
 /// Why a setting is not taken, as a text.
@@ -62,6 +66,8 @@ pub enum Refusal {
     Memory,
     /// Memory was refused for the replies to a message that was handled.
     MemoryAfterHandling,
+    /// The reply to a datagram is kept back, since its network got as many as it may.
+    Limited,
 }
 
 /// What was written: replies, each behind its length in two bytes (RFC 1035 section 4.2.2).
@@ -82,6 +88,45 @@ pub struct Streamed {
     pub written: Written,
     /// Why the last of them has none.
     pub refusal: Option<Refusal>,
+}
+
+/// What a server has done since it was made. Each number stops at 2^64 - 1.
+#[derive(Debug, Clone, Copy, Default, PartialEq, Eq)]
+#[repr(C)]
+pub struct Counters {
+    /// Messages that came as datagrams.
+    pub udp: u64,
+    /// Messages that came over streams.
+    pub tcp: u64,
+    /// Bytes of these, without the lengths before them.
+    pub received: u64,
+    /// Messages whose address may not use the server.
+    pub denied: u64,
+    /// Messages that were themselves responses.
+    pub responses: u64,
+    /// Messages that began with none.
+    pub unreadable: u64,
+    /// Messages for which memory was refused.
+    pub dropped: u64,
+    /// Messages whose reply was kept back, since their networks got as many as they may.
+    pub limited: u64,
+    /// Replies that were written, by the response code in their headers.
+    pub codes: [u64; 16],
+    /// Those that are truncated.
+    pub truncated: u64,
+    /// Bytes of replies, without the lengths before them.
+    pub sent: u64,
+}
+
+impl Counters {
+    /// The text in which monitoring reads numbers (Prometheus' text-based format); `None` without memory.
+    pub fn statistics(&self) -> Option<String> {
+        let (mut text, mut length) = (vec![0; 2048], 0);
+        // SAFETY: the slice is ours.
+        let told = unsafe { zone_service_statistics(self, text.as_mut_ptr(), text.len(), &mut length) };
+        text.truncate(length);
+        (told == 0).then(|| String::from_utf8_lossy(&text).into_owned())
+    }
 }
 
 /// How a message came.
@@ -111,6 +156,7 @@ fn refusal(told: u32) -> Option<Refusal> {
         2 => Some(Refusal::Response),
         3 => Some(Refusal::Unreadable),
         5 => Some(Refusal::MemoryAfterHandling),
+        8 => Some(Refusal::Limited),
         _ => Some(Refusal::Memory),
     }
 }
@@ -147,9 +193,16 @@ impl ZoneService {
         Self::told(set, &fault, length)
     }
 
-    /// Has the names that a text lists blocked in each zone that is added later.
-    pub fn set_blocklist(&mut self, text: &[u8]) -> Result<(), SettingFault> {
-        self.set(zone_service_set_blocklist, text)
+    /// Has the names that a text lists blocked in each zone that is added later. The text that it gives tells what was skipped, if anything was.
+    #[rustfmt::skip]
+    pub fn set_blocklist(&mut self, text: &[u8]) -> Result<String, SettingFault> {
+        let (mut skipped, mut length) = ([0; 256], 0);
+        // SAFETY: the server is ours alone, and the slices are apart.
+        let set = unsafe {
+            zone_service_set_blocklist(&mut self.0, text.as_ptr(), text.len(), skipped.as_mut_ptr(), skipped.len(), &mut length)
+        };
+        Self::told(set, &skipped, length)?;
+        Ok(String::from_utf8_lossy(&skipped[..length]).into_owned())
     }
 
     /// Lets the addresses of a network use the server.
@@ -185,6 +238,15 @@ impl ZoneService {
         Self::told(set, &fault, length)
     }
 
+    /// Sets how many replies to datagrams a network of clients gets in a second, and of how many above that one is truncated; all are sent
+    /// where the rate is 0.
+    pub fn set_rate_limit(&mut self, rate: u32, slip: u32) -> Result<(), SettingFault> {
+        let (mut fault, mut length) = ([0; 256], 0);
+        // SAFETY: the server is ours alone, and the slices are apart.
+        let set = unsafe { zone_service_set_rate_limit(&mut self.0, rate, slip, fault.as_mut_ptr(), fault.len(), &mut length) };
+        Self::told(set, &fault, length)
+    }
+
     /// Serves the zone of this name from the text of its file.
     #[rustfmt::skip]
     pub fn add_zone(&mut self, name: &str, text: &[u8]) -> Result<(), SettingFault> {
@@ -193,6 +255,14 @@ impl ZoneService {
         let set = unsafe {
             zone_service_add_zone(&mut self.0, name.as_ptr(), name.len(), text.as_ptr(), text.len(), fault.as_mut_ptr(), fault.len(), &mut length)
         };
+        Self::told(set, &fault, length)
+    }
+
+    /// Puts each zone that was added beside the one above it, if that is served too, which has its DS records (RFC 4035 section 3.1.4.1).
+    pub fn join_zones(&mut self) -> Result<(), SettingFault> {
+        let (mut fault, mut length) = ([0; 256], 0);
+        // SAFETY: the server is ours alone, and the slices are apart.
+        let set = unsafe { zone_service_join_zones(&mut self.0, fault.as_mut_ptr(), fault.len(), &mut length) };
         Self::told(set, &fault, length)
     }
 
@@ -232,5 +302,12 @@ impl ZoneService {
         // SAFETY: the server is ours alone, and the slices are apart.
         let len = unsafe { zone_service_take(&mut self.0, out.as_mut_ptr(), out.len(), &mut waiting) };
         Written { len, waiting }
+    }
+    /// What the server has done since it was made.
+    pub fn counters(&mut self) -> Counters {
+        let mut counters = Counters::default();
+        // SAFETY: the server and what is written to are ours alone.
+        unsafe { zone_service_counters(&mut self.0, &mut counters) };
+        counters
     }
 }

@@ -12,7 +12,7 @@ use Rattle.hickory_server.specs.declared.server.answer.Answer.TheVariants.{Repli
 use Rattle.hickory_catalog.specs.Signing.{Signer}
 use Rattle.hickory_catalog.specs.declared.catalog.Catalog.{Catalog}
 use Rattle.hickory_server.specs.declared.server.rules.Rules.{Rules}
-use Rattle.zone_service.specs.Frames.{AreFrames, ArePut, BeginsWith, IsFrame}
+use Rattle.zone_service.specs.Frames.{ArePut, BeginsWith, IsFrame}
 use Rattle.zone_service.specs.Serving.{Exchange, IsAnsweredStream, IsRefused, next, none}
 use Rattle.zone_service.specs.declared.answering.Refusal.{Refusal}
 use Rattle.zone_service.proofs.Written.{frames_append, frames_more}

@@ -1,7 +1,7 @@
 -- A message that stands whole at the front of bytes.
-use Rattle.std.proofs.Common.{◌≡◌, ℕ, ◌+◌, ◌-◌, ◌*◌, ◌<◌, ◌≤◌, List, [], ◌∷◌, ◌++◌, arith, refl, sym, ap, ◌∙◌, get_or, length, take, drop}
+use Rattle.std.proofs.Common.{◌≡◌, ℕ, ◌+◌, ◌-◌, ◌*◌, ◌<◌, ◌≤◌, List, [], ◌∷◌, arith, refl, sym, ap, ◌∙◌, get_or, length, take, drop}
 use Rattle.std.proofs.lemmas.List.{length-take-le, take-append-drop, take_all}
-use Rattle.zone_service.specs.Frames.{BeginsWith, IsFrame}
+use Rattle.zone_service.specs.Frames.{BeginsWith}
 
 pub begins : (bytes : List ℕ) (len : ℕ) → 2 ≤ length bytes → len ≡ 256 * get_or bytes 0 0 + get_or bytes 1 0 → get_or bytes 1 0 < 256
     → len ≤ length (take (length bytes - 2) (drop 2 bytes)) → BeginsWith bytes (take len (take (length bytes - 2) (drop 2 bytes)))

@@ -197,6 +197,7 @@ impl<S: ReplySigner, H: ZoneHandler> Answering<S, H> {
         ensures others { self.new.server.catalog ≡ record self.old.server.catalog { zones = self.new.server.catalog.zones } }
         ensures answered { IsAnsweredStream self.old.server.rules (server_of H.ZoneHandler S.signature_for self.old.server.catalog) bytes.now source now result out.new (waiting_in self.new) self.new.server.catalog.zones }
         ensures at_end { IsNone result.refusal → waiting_in self.new ≡ [] → IsAtEnd bytes.now result.consumed (length out.new) result.written }
+        ensures within { (result.consumed ≤ length bytes.now) × (result.written ≤ length out.new) }
     {
         let mut consumed = 0;
         let mut written = 0;
@@ -242,6 +243,7 @@ impl<S: ReplySigner, H: ZoneHandler> Answering<S, H> {
         ensures rules { self.new.server.rules ≡ self.old.server.rules }
         ensures others { self.new.server.catalog ≡ record self.old.server.catalog { zones = self.new.server.catalog.zones } }
         ensures step { IsStreamStep (server_of H.ZoneHandler S.signature_for self.old.server.catalog) self.old bytes.now source now result out.new self.new }
+        ensures within { (result.consumed ≤ length bytes.now) × (result.written ≤ length out.new) }
     {
         self.taken = self.pending.len();
         self.answer_whole(alloc, bytes, source, now, out)

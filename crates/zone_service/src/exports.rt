@@ -1,20 +1,30 @@
 //! What C calls. `host/zone_service.h` says of each what it is given and what it answers.
 
-ghost use Rattle.std.specs.Prelude.{◌≡◌, ◌≤◌, ◌↔◌, ◌∷◌, [], IsOk, Some, length, option_map};
+ghost use Rattle.std.specs.Prelude.{◌≡◌, ◌≤◌, ◌⊎◌, ◌↔◌, ◌++◌, ◌∷◌, [], ℕ, IsOk, List, Some, false, length, min, option_map, take};
 ghost use Rattle.access_control.specs.Access.{Inserts, Network};
 ghost use Rattle.hickory_catalog.specs.Server.{server_of};
-ghost use Rattle.served_zones.specs.ServedZones.{IsLoaded};
+ghost use Rattle.name_lists.specs.Counts.{Counts};
+ghost use Rattle.served_zones.specs.ServedZones.{AreJoined, IsLoadedAs};
+ghost use Rattle.served_zones.specs.declared.parents.Loaded.{Loaded};
+ghost use Rattle.server_counters.specs.Exposition.{exposition_of};
+ghost use Rattle.zone_service.specs.Counted.{AnswerCounted, AreCounted, StreamCounted, one_counted};
 ghost use Rattle.zone_service.specs.Exports.{AnswerTold, StreamTold, transport_of};
 ghost use Rattle.zone_service.specs.Frames.{ArePut};
+ghost use Rattle.zone_service.specs.Limited.{AreLimitsOf, IsLimited};
+ghost use Rattle.zone_service.specs.Lists.{IsListOfText};
 ghost use Rattle.zone_service.specs.Serving.{waiting_in};
 
+use crate::counting::{count_answer, count_frames, count_stream};
 use crate::handle::{Handle, address};
+use crate::limiting::limit;
 use crate::service::Service;
 use crate::settings::SettingFault;
 use crate::told::{DONE, MEMORY, tell_answer, tell_stream};
 use hickory_server::server::NoKeys;
 use hickory_server::zone_handler::{ReplySigner, ZoneHandler};
+use name_lists::ListReport;
 use served_zones::handler::Handler;
+use server_counters::{Counters, exposition};
 use std::alloc::{AllocError, Global};
 
 /// A setting is not taken.
@@ -23,7 +33,8 @@ const FAULT: u32 = 7;
 /// Puts the front of a text that there is room for: how many bytes it has.
 fn put_text(out: &mut [u8], text: &[u8]) -> usize
     ensures len { length out.new ≡ length out.old }
-    ensures within { result ≤ length out.new }
+    ensures count { result ≡ min (length text.now) (length out.new) }
+    ensures put { take result out.new ≡ take result text.now }
 {
     let count = text.len().min(out.len());
     out[..count].copy_from_slice(&text[..count]);
@@ -47,6 +58,42 @@ fn told(alloc: Global, set: Result<(), SettingFault>, fault: &mut [u8], count: &
         SettingFault::Memory => MEMORY,
         _ => FAULT,
     }
+}
+
+/// What of a list was skipped, as a text: how many lines, and the numbers of the first three. It is empty where none was.
+fn skipped(alloc: Global, report: &ListReport) -> Result<String, AllocError> {
+    let lines = report.skipped();
+    match report.first_skipped() {
+        [] => Ok(String::new(alloc)),
+        [a] => format!(in alloc; "1 line skipped, which gives no name: {a}"),
+        [a, b] => format!(in alloc; "2 lines skipped, which give no name: {a}, {b}"),
+        [a, b, c, ..] => format!(in alloc;
+            "{lines} lines skipped, which give no name, the first: {a}, {b}, {c}"
+        ),
+    }
+}
+
+/// Tells what a list of blocked names came to: puts the text of its fault, or else of what was skipped, as far as there is room, and its
+/// length.
+fn told_of_list(
+    alloc: Global,
+    set: Result<ListReport, SettingFault>,
+    fault: &mut [u8],
+    count: &mut usize,
+) -> u32
+    ensures done { result ≡ 0 → IsOk set }
+    ensures count { count.new ≤ length fault.new }
+{
+    *count = 0;
+    let report = match set {
+        Ok(report) => report,
+        Err(e) => return told(alloc, Err(e), fault, count),
+    };
+    let Ok(text) = skipped(alloc, &report) else {
+        return MEMORY;
+    };
+    *count = put_text(fault, text.as_bytes());
+    DONE
 }
 
 /// Makes a server in a box.
@@ -75,7 +122,7 @@ pub extern "C" fn zone_service_free(alloc: Global, service: Handle) {
     drop(service.into_box(alloc));
 }
 
-/// Has the names that a text lists blocked in each zone that is added later.
+/// Has the names that a text lists blocked in each zone that is added later. Lines that are skipped are told.
 #[unsafe(no_mangle)]
 pub extern "C" fn zone_service_set_blocklist(
     alloc: Global,
@@ -84,10 +131,11 @@ pub extern "C" fn zone_service_set_blocklist(
     fault: &mut [u8],
     count: &mut usize,
 ) -> u32
-    ensures { service.new.service ≡ record service.old.service { list = service.new.service.list } }
+    ensures list { result ≡ 0 → (counts : Counts) × IsListOfText text.now counts (option_map (λ it. it.value) service.new.service.list) }
+    ensures others { service.new.service ≡ record service.old.service { list = service.new.service.list } }
 {
     let service = service.service();
-    told(alloc, service.set_blocklist(alloc, text), fault, count)
+    told_of_list(alloc, service.set_blocklist(alloc, text), fault, count)
 }
 
 /// Serves the zone of this name from the bytes of its file.
@@ -100,10 +148,25 @@ pub extern "C" fn zone_service_add_zone(
     fault: &mut [u8],
     count: &mut usize,
 ) -> u32
-    ensures made { result ≡ 0 → IsLoaded (option_map (λ it. it.value) service.old.service.list) service.old.service.answering.server.catalog.zones service.new.service.answering.server.catalog.zones }
+    ensures made { result ≡ 0 → (loaded : Loaded) × (service.new.service.loaded.items ≡ service.old.service.loaded.items ++ loaded ∷ []) ×
+        IsLoadedAs name.now (option_map (λ it. it.value) service.old.service.list) loaded service.old.service.answering.server.catalog.zones service.new.service.answering.server.catalog.zones }
 {
     let service = service.service();
     told(alloc, service.add_zone(alloc, name, text), fault, count)
+}
+
+/// Puts each zone that was added beside the zone above it, if there is one, which has its DS records (RFC 4035 section 3.1.4.1).
+#[unsafe(no_mangle)]
+pub extern "C" fn zone_service_join_zones(
+    alloc: Global,
+    service: &mut Handle,
+    fault: &mut [u8],
+    count: &mut usize,
+) -> u32
+    ensures made { result ≡ 0 → AreJoined service.old.service.loaded.items service.old.service.answering.server.catalog.zones service.new.service.answering.server.catalog.zones }
+{
+    let service = service.service();
+    told(alloc, service.join_zones(alloc), fault, count)
 }
 
 /// Lets the addresses of a network use the server.
@@ -181,6 +244,28 @@ pub extern "C" fn zone_service_set_max_udp(
     told(alloc, service.set_max_udp(size), fault, count)
 }
 
+/// Sets how many replies over UDP a network of clients gets a second, and of how many above that one is truncated; all where the rate is 0.
+#[unsafe(no_mangle)]
+pub extern "C" fn zone_service_set_rate_limit(
+    alloc: Global,
+    service: &mut Handle,
+    rate: u32,
+    slip: u32,
+    fault: &mut [u8],
+    count: &mut usize,
+) -> u32
+    ensures made { result ≡ 0 → AreLimitsOf rate slip service.new.service.limits }
+    ensures others { service.new.service ≡ record service.old.service { limits = service.new.service.limits } }
+{
+    let service = service.service();
+    told(
+        alloc,
+        service.set_rate_limit(alloc, rate, slip),
+        fault,
+        count,
+    )
+}
+
 /// Sets what identifies the server to clients that ask (RFC 5001).
 #[unsafe(no_mangle)]
 pub extern "C" fn zone_service_set_identifier(
@@ -211,13 +296,17 @@ pub extern "C" fn zone_service_answer(
     written: &mut usize,
     waiting: &mut usize,
 ) -> u32
-    ensures others { service.new.service ≡ record service.old.service { answering = service.new.service.answering } }
+    ensures others { service.new.service ≡ record service.old.service { answering = service.new.service.answering; counters = service.new.service.counters; limits = service.new.service.limits } }
     ensures rules { service.new.service.answering.server.rules ≡ service.old.service.answering.server.rules }
-    ensures told { AnswerTold (server_of ⟦<Handler as ZoneHandler>⟧ ⟦<NoKeys as ReplySigner>⟧.signature_for service.old.service.answering.server.catalog) service.old.service.answering message.now source.now port (transport_of stream) now out.old result written.new out.new service.new.service.answering }
+    ensures told { (made : ℕ) × (count : ℕ) × (bytes : List ℕ) ×
+        AnswerTold (server_of ⟦<Handler as ZoneHandler>⟧ ⟦<NoKeys as ReplySigner>⟧.signature_for service.old.service.answering.server.catalog) service.old.service.answering message.now source.now port (transport_of stream) now out.old made count bytes service.new.service.answering ×
+        IsLimited service.old.service.limits stream source.now now made (take count bytes) result (take written.new out.new) service.new.service.limits }
+    ensures within { written.new ≤ length out.new }
     ensures waiting { waiting.new ≡ length (waiting_in service.new.service.answering) }
+    ensures counted { AnswerCounted stream (length message.now) result (take written.new out.new) service.old.service.counters service.new.service.counters }
 {
     let service = service.service();
-    tell_answer(
+    let made = tell_answer(
         alloc,
         &mut service.answering,
         message,
@@ -228,7 +317,25 @@ pub extern "C" fn zone_service_answer(
         out,
         written,
         waiting,
-    )
+    );
+    let number = limit(
+        alloc,
+        &mut service.limits,
+        stream,
+        source,
+        now,
+        made,
+        out,
+        written,
+    );
+    count_answer(
+        &mut service.counters,
+        stream,
+        message.len(),
+        number,
+        &out[..*written],
+    );
+    number
 }
 
 /// Answers the messages that stand whole at the front of a stream's bytes, each behind its length in two bytes, and says how many bytes
@@ -247,13 +354,14 @@ pub extern "C" fn zone_service_answer_stream(
     written: &mut usize,
     waiting: &mut usize,
 ) -> u32
-    ensures others { service.new.service ≡ record service.old.service { answering = service.new.service.answering } }
+    ensures others { service.new.service ≡ record service.old.service { answering = service.new.service.answering; counters = service.new.service.counters } }
     ensures rules { service.new.service.answering.server.rules ≡ service.old.service.answering.server.rules }
     ensures told { StreamTold (server_of ⟦<Handler as ZoneHandler>⟧ ⟦<NoKeys as ReplySigner>⟧.signature_for service.old.service.answering.server.catalog) service.old.service.answering bytes.now source.now port now out.old result taken.new written.new out.new service.new.service.answering }
     ensures waiting { waiting.new ≡ length (waiting_in service.new.service.answering) }
+    ensures counted { StreamCounted (take taken.new bytes.now) result (take written.new out.new) service.old.service.counters service.new.service.counters }
 {
     let service = service.service();
-    tell_stream(
+    let number = tell_stream(
         alloc,
         &mut service.answering,
         bytes,
@@ -264,7 +372,14 @@ pub extern "C" fn zone_service_answer_stream(
         taken,
         written,
         waiting,
-    )
+    );
+    count_stream(
+        &mut service.counters,
+        &bytes[..*taken],
+        number,
+        &out[..*written],
+    );
+    number
 }
 
 /// Writes replies to the last message that wait, each behind its length in two bytes, as many as there is room for, and says how many
@@ -275,13 +390,44 @@ pub extern "C" fn zone_service_take(
     out: &mut [u8],
     waiting: &mut usize,
 ) -> usize
-    ensures others { service.new.service ≡ record service.old.service { answering = service.new.service.answering } }
+    ensures others { service.new.service ≡ record service.old.service { answering = service.new.service.answering; counters = service.new.service.counters } }
     ensures server { service.new.service.answering.server ≡ service.old.service.answering.server }
     ensures put { ArePut (waiting_in service.old.service.answering) out.old 0 out.new result (waiting_in service.new.service.answering) }
     ensures waiting { waiting.new ≡ length (waiting_in service.new.service.answering) }
+    ensures counted { AreCounted (one_counted false) (take result out.new) service.old.service.counters service.new.service.counters }
 {
     let service = service.service();
     let written = service.answering.take(out);
+    count_frames(&mut service.counters, false, &out[..written]);
     *waiting = service.answering.waiting();
     written
+}
+
+/// Tells what the server has done since it was made, in numbers.
+#[unsafe(no_mangle)]
+pub extern "C" fn zone_service_counters(service: &mut Handle, counters: &mut Counters)
+    ensures told { counters.new ≡ service.old.service.counters }
+    ensures kept { service.new.service ≡ service.old.service }
+{
+    *counters = service.service().counters;
+}
+
+/// Puts the text in which monitoring reads numbers, as far as there is room, and its length.
+#[unsafe(no_mangle)]
+pub extern "C" fn zone_service_statistics(
+    alloc: Global,
+    counters: &Counters,
+    out: &mut [u8],
+    count: &mut usize,
+) -> u32
+    ensures text { result ≡ 0 → take count.new out.new ≡ take count.new (exposition_of counters.now) }
+    ensures whole { result ≡ 0 → count.new ≡ min (length (exposition_of counters.now)) (length out.new) }
+    ensures none { (result ≡ 0) ⊎ ((result ≡ 4) × (count.new ≡ 0)) }
+{
+    *count = 0;
+    let Ok(text) = exposition(alloc, counters) else {
+        return MEMORY;
+    };
+    *count = put_text(out, text.as_bytes());
+    DONE
 }

@@ -36,7 +36,7 @@ fn put(out: &mut [u8], at: usize, bytes: &[u8]) -> usize
 }
 
 /// Writes a reply behind its length in two bytes at this place: the place behind it, if there is room.
-fn put_frame(out: &mut [u8], at: usize, reply: &[u8]) -> Option<usize>
+pub(crate) fn put_frame(out: &mut [u8], at: usize, reply: &[u8]) -> Option<usize>
     requires { at ≤ length out.old }
     ensures len { length out.new ≡ length out.old }
     ensures kept { IsNone result → out.new ≡ out.old }

@@ -6,9 +6,11 @@
 #![tactic(auto)]
 
 mod answering;
+mod counting;
 mod exports;
 mod frames;
 mod handle;
+mod limiting;
 mod service;
 mod settings;
 mod told;

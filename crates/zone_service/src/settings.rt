@@ -1,8 +1,13 @@
 //! What a server is told before its first message, and why it is not taken.
 
+ghost use Rattle.std.specs.Prelude.{◌≡◌, IfOk, Some, option_map};
+ghost use Rattle.served_zones.specs.ServedZones.{IsApexText};
+ghost use Rattle.zone_service.specs.Lists.{IsListOfText};
+
 use hickory_server::access::{IpNet, IpNetTextError};
 use hickory_server::proto::{Name, NameError};
 use hickory_server::store::blocklist::BlocklistZoneHandler;
+use name_lists::ListReport;
 use served_zones::chains::apex;
 use served_zones::identifier::IdentifierFault;
 use served_zones::lists;
@@ -75,7 +80,9 @@ impl From<IdentifierFault> for SettingFault {
 }
 
 /// The name that a text spells, with or without a dot at its end; the root is a dot alone.
-pub(crate) fn zone_name(alloc: Global, text: &[u8]) -> Result<Name, SettingFault> {
+pub(crate) fn zone_name(alloc: Global, text: &[u8]) -> Result<Name, SettingFault>
+    ensures { IfOk result (IsApexText text.now) }
+{
     let Ok(text) = str::from_utf8(text) else {
         return Err(SettingFault::NotUtf8);
     };
@@ -94,14 +101,29 @@ pub(crate) fn network(text: &[u8]) -> Result<IpNet, SettingFault> {
     text.parse::<IpNet>().map_err(SettingFault::Network)
 }
 
-/// The list of the names in a text.
+/// The list of the names in a text, and what became of its lines.
 pub(crate) fn blocklist(
     alloc: Global,
     text: &[u8],
-) -> Result<Rc<BlocklistZoneHandler>, SettingFault> {
+) -> Result<(Rc<BlocklistZoneHandler>, ListReport), SettingFault>
+    ensures { IfOk result (λ both. IsListOfText text.now both.1 (Some both.0.value)) }
+{
     let mut list = lists::blocklist(alloc)?;
-    if lists::add_names(alloc, &mut list, text)?.taken() == 0 {
+    let report = lists::add_names(alloc, &mut list, text)?;
+    if report.taken() == 0 {
         return Err(SettingFault::NoNames);
     }
-    Ok(Rc::new(alloc, list)?)
+    Ok((Rc::new(alloc, list)?, report))
+}
+
+/// The list of blocked names once more, if there is one.
+pub(crate) fn shared(
+    list: Option<&Rc<BlocklistZoneHandler>>,
+) -> Result<Option<Rc<BlocklistZoneHandler>>, AllocError>
+    ensures { IfOk result (λ shared. option_map (λ it. it.value) shared ≡ option_map (λ it. it.now.value) list.entry) }
+{
+    match list {
+        Some(list) => Ok(Some(list.clone()?)),
+        None => Ok(None),
+    }
 }

@@ -1,6 +1,6 @@
 //! What is told of messages, in numbers.
 
-ghost use Rattle.std.specs.Prelude.{◌≡◌, ◌≢◌, [], IfErr, IfOk, IfSome, IsNone, length};
+ghost use Rattle.std.specs.Prelude.{◌≡◌, ◌≢◌, ◌≤◌, [], IfErr, IfOk, IfSome, IsNone, length};
 ghost use Rattle.hickory_catalog.specs.Server.{server_of};
 ghost use Rattle.zone_service.specs.Exports.{AnswerTold, IsAddress, IsNoAddress, IsSource, StreamTold, refusal_number, transport_of};
 ghost use Rattle.zone_service.specs.Serving.{waiting_in};
@@ -83,6 +83,7 @@ pub(crate) fn tell_answer<S: ReplySigner, H: ZoneHandler>(
     ensures others { answering.new.server.catalog ≡ record answering.old.server.catalog { zones = answering.new.server.catalog.zones } }
     ensures told { AnswerTold (server_of H.ZoneHandler S.signature_for answering.old.server.catalog) answering.old message.now source.now port (transport_of stream) now out.old result written.new out.new answering.new }
     ensures waiting { waiting.new ≡ length (waiting_in answering.new) }
+    ensures within { written.new ≤ length out.new }
 {
     *written = 0;
     let Some(source) = source_of(source, port) else {
@@ -119,6 +120,7 @@ pub(crate) fn tell_stream<S: ReplySigner, H: ZoneHandler>(
     ensures others { answering.new.server.catalog ≡ record answering.old.server.catalog { zones = answering.new.server.catalog.zones } }
     ensures told { StreamTold (server_of H.ZoneHandler S.signature_for answering.old.server.catalog) answering.old bytes.now source.now port now out.old result taken.new written.new out.new answering.new }
     ensures waiting { waiting.new ≡ length (waiting_in answering.new) }
+    ensures within { (taken.new ≤ length bytes.now) × (written.new ≤ length out.new) }
 {
     *taken = 0;
     *written = 0;

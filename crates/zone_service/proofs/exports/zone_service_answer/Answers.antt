@@ -1,4 +1,10 @@
 use Rattle.zone_service.proofs.exports.zone_service_answer.Goals as goal
 
 pub returns-clause-told : goal.returns-clause-told
-returns-clause-told c = rw c.service-service.ensures.value at c.tell_answer.ensures.told
+returns-clause-told c = (
+  c.tell_answer-made.result,
+  c.tell_answer-made.new.written,
+  c.tell_answer-made.new.out,
+  rw c.service-service.ensures.value at c.tell_answer-made.ensures.told,
+  rw c.service-service.ensures.value at c.limit-number.ensures.limited,
+)

@@ -1,4 +1,4 @@
-use Rattle.std.proofs.Common.{◌≡◌, ◌++◌, rules, drop, length, refl, sym, take, ◌∙◌, ap, append_assoc, arith}
+use Rattle.std.proofs.Common.{◌≡◌, ◌++◌, rules, length, refl, sym, take, ◌∙◌, ap, append_assoc, arith}
 use Rattle.std.proofs.lemmas.List.{take-append-drop}
 use Rattle.zone_service.proofs.Written.{begins_at, frames_more, none_at_end, one_more}
 use Rattle.zone_service.proofs.frames.put_frames.Goals as goal

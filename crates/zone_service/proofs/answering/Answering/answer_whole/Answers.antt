@@ -1,9 +1,8 @@
-use Rattle.std.proofs.Common.{◌≡◌, [], List, ℕ, None, refl, rules, arith, ap, ◌∙◌, sym}
+use Rattle.std.proofs.Common.{[], refl, rules, arith, ◌∙◌, sym}
 use Rattle.wire_messages.specs.declared.protocol.Protocol.TheVariants.{Tcp}
 use Rattle.hickory_catalog.specs.Server.{Server, server_of}
 use Rattle.hickory_server.specs.ServedBy.{BytesServed}
 use Rattle.hickory_server.specs.declared.server.answer.Answer.TheVariants.{Replies}
-use Rattle.hickory_server.specs.declared.server.rules.Rules.{Rules}
 use Rattle.zone_service.specs.Serving.{IsRefused, none, waiting_in}
 use Rattle.zone_service.proofs.Streams.{answered_more, at_zones, others_stay, refused_last, rest_is, within_more}
 use Rattle.zone_service.proofs.answering.Answering.answer_whole.Goals as goal
@@ -31,6 +30,13 @@ returns-in-Err-clause-answered g c =
     (at_zones g.H.ZoneHandler g.S.ReplySigner.signature_for first.catalog c.loop.self.server.catalog same
     (λ (s : Server _). IsRefused first.rules s c.in-Some.message.now c.args.source Tcp c.args.now c.in-Err.refusal c.answer_at.new.self.server.catalog.zones)
     (rw rules_stay at c.in-Err.ensures.err)))
+
+pub returns-in-Err-clause-within : goal.returns-in-Err-clause-within
+returns-in-Err-clause-within g c =
+    let (rules_stay, same, len, room, turns, inside, so_far) = c.loop.invariant in
+    let (begins, idle) = c.in-Some.ensures.some in
+    let (waits, unwritten) = c.in-Err.ensures.kept in
+    (within_more c.args.bytes.now c.loop.consumed _ inside (rw (rest_is c.args.bytes.now c.loop.consumed) at begins), rw unwritten room)
 
 pub loop-preserved : goal.loop-preserved
 loop-preserved g c =

@@ -1,0 +1,20 @@
+use Rattle.std.proofs.Common.{[], ◌∷◌, ◌++◌, ◌∙◌, ap, arith}
+use Rattle.server_counters.specs.declared.counters.Counters.{Counters}
+use Rattle.zone_service.specs.Counted.{one_counted}
+use Rattle.zone_service.proofs.Counted.{fold_more}
+use Rattle.zone_service.proofs.Written.{frames_more}
+use Rattle.zone_service.proofs.Streams.{front_more, rest_is, within_more}
+use Rattle.zone_service.proofs.counting.count_frames.Goals as goal
+
+pub loop-preserved : goal.loop-preserved
+loop-preserved c =
+    let (turns, inside, messages, are_messages, counted) = c.loop.invariant in
+    let message = c.in-Some.message.now in
+    let begins = rw (rest_is c.args.frames.now c.loop.at) at c.in-Some.ensures.whole in
+    let (frame, is, front) = front_more c.args.frames.now c.loop.at message begins in (
+      omega arith,
+      within_more c.args.frames.now c.loop.at message inside begins,
+      messages ++ message ∷ [],
+      rw front (frames_more _ messages frame message are_messages is),
+      c.count_one.ensures ∙ ap (λ (so_far : Counters). one_counted c.args.came so_far message) counted ∙ fold_more (one_counted c.args.came) c.args.counters.now messages message,
+    )
