@@ -12,11 +12,12 @@ REPOSITORY = os.path.dirname(FOLDER)
 PROGRAMS = {
     "": "zone_script", "zone_reply": "zone_reply", "zone_serve": "zone_serve", "tests_server": "tests_server",
     "tests_zones": "tests_zones", "tests_lists": "tests_lists", "tests_tsig": "tests_tsig", "tests_signed": "tests_signed",
-    "check_zone": "check_zone",
+    "check_zone": "check_zone", "zone_journal": "zone_journal",
 }
 
 # The folders of files that programs may be told to read, by the names that their arguments use.
-DATA = {"zone_serve": ["zone_files", "zone_serve/files"], "zone_script": ["zone_files", "zone_serve/files"], "check_zone": ["check_zone/files"]}
+DATA = {"zone_serve": ["zone_files", "zone_serve/files"], "zone_script": ["zone_files", "zone_serve/files"], "check_zone": ["check_zone/files"],
+        "zone_journal": ["zone_journal/files"]}
 
 # What a program reads and where it prints are needed of each case, in one of these forms.
 NEEDED = [("in", "hex", "stdin"), ("out", "outhex", "stdout")]

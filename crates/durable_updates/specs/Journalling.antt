@@ -1,12 +1,16 @@
 -- What becomes of a journal while a request is answered.
 use Rattle.std.specs.Prelude.{◌≡◌, ◌⊎◌, ◌≤◌, ◌^◌, ℕ, Bool, length, true, false, List, [], ◌∷◌, ◌++◌, Result, OnErr, OnOk}
-use Rattle.update_journal.specs.Frames.{IsBeforeOrAfter}
+use Rattle.update_journal.specs.Frames.{AreTooLong, IsBeforeOrAfter}
 use Rattle.update_journal.specs.JournalState.{IsShut, JournalState}
 use Rattle.update_journal.specs.Settled.{IsSettled}
 
 -- The journal takes no entry any more, or this one is too long for it.
 abbrev pub RefusesEntry : {D : Type 0} → (D → Bool) → JournalState D → List ℕ → Type 0
 RefusesEntry is_usable journal entry = IsShut is_usable journal ⊎ (2 ^ 32 ≤ length entry)
+
+-- The same of the entries of a batch: one of them, or all together, may be too long.
+abbrev pub RefusesEntries : {D : Type 0} → (D → Bool) → JournalState D → List (List ℕ) → Type 0
+RefusesEntries is_usable journal entries = IsShut is_usable journal ⊎ AreTooLong entries
 
 module _ {D : Type 0} (seen : D → List ℕ) (may_leave : D → List ℕ → Type 0) where
   -- An entry is added where the answer is Ok, and is then on the disk. After an error the journal is as before, or it is shut, and the entry
@@ -16,3 +20,10 @@ module _ {D : Type 0} (seen : D → List ℕ) (may_leave : D → List ℕ → Ty
     pub opened : OnOk answer ((old.is_open ≡ true) × (new.is_open ≡ true))
     pub refused : OnErr answer ((new ≡ old) ⊎ ((old.is_open ≡ true) × (new.is_open ≡ false)))
     pub crash : (entries : List (List ℕ)) → IsSettled seen may_leave old entries → (c : List ℕ) → may_leave new.disk c → IsBeforeOrAfter entries (entry ∷ []) c
+
+  -- The same of the entries of a batch, all or none. Where there are none, the journal is left alone, whether it takes entries or not.
+  pub record JournalsAll {T E : Type 0} (answer : Result T E) (added : List (List ℕ)) (old new : JournalState D) : Type 0 where
+    pub acknowledged : OnOk answer ((entries : List (List ℕ)) → IsSettled seen may_leave old entries → IsSettled seen may_leave new (entries ++ added))
+    pub opened : OnOk answer (((added ≡ []) × (new ≡ old)) ⊎ ((old.is_open ≡ true) × (new.is_open ≡ true)))
+    pub refused : OnErr answer ((new ≡ old) ⊎ ((old.is_open ≡ true) × (new.is_open ≡ false)))
+    pub crash : (entries : List (List ℕ)) → IsSettled seen may_leave old entries → (c : List ℕ) → may_leave new.disk c → IsBeforeOrAfter entries added c

@@ -1,3 +1,5 @@
+pub mod Batches
+pub mod Commits
 pub mod DurableUpdates
 pub mod Journalling
 pub mod Recorded

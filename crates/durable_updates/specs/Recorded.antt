@@ -1,5 +1,5 @@
 -- What a server keeps in memory and on the disk while it serves.
-use Rattle.std.specs.Prelude.{◌≡◌, ◌⊎◌, ℕ, true, false, IsTrue, List, [], ◌∷◌, ◌++◌, Result, Ok}
+use Rattle.std.specs.Prelude.{◌≡◌, ◌⊎◌, ℕ, true, false, IsTrue, List, [], ◌++◌, Result, Ok}
 use Rattle.hickory_base.specs.requests.Requests.{ReceivedRequest}
 use Rattle.hickory_base.specs.zone_store.ZoneAnswers.{MemoryZone}
 use Rattle.sqlite_disk.specs.declared.Disk.{Ghosts as DiskGhosts}
@@ -10,13 +10,9 @@ use Rattle.update_journal.specs.Recovery.{Recovers}
 use Rattle.update_journal.specs.Settled.{IsSettled}
 use Rattle.update_journal.specs.declared.error.JournalError.{JournalError}
 use Rattle.update_journal.specs.declared.reading.Recovered.{Recovered}
+use Rattle.durable_updates.specs.Batches.{bytes_of}
 use Rattle.durable_updates.specs.Redone.{Redone}
-use Rattle.durable_updates.specs.Runs.{IsRead, Life, bytes_of}
-
--- Each request was read from its bytes.
-abbrev pub AreRead : List ReceivedRequest → Type 0
-AreRead [] = Unit {0}
-AreRead (request ∷ requests) = IsRead request × AreRead requests
+use Rattle.durable_updates.specs.Runs.{AreRead, Life}
 
 module _ {D : Type 0} (disks : DiskGhosts D) where
   -- The journal takes entries, and these are on the disk.
@@ -25,12 +21,10 @@ module _ {D : Type 0} (disks : DiskGhosts D) where
     pub none : in_doubt ≡ []
     pub settled : IsSettled disks.seen disks.may_leave journal entries
 
-  -- It takes none. One request is in doubt: each crash leaves these entries, with that one or without.
+  -- It takes none. Requests of one call are in doubt: each crash leaves these entries, with all of those or without.
   pub record IsFailed (entries : List (List ℕ)) (in_doubt : List ReceivedRequest) (journal : JournalState D) : Type 0 where
     pub shut : journal.is_open ≡ false
-    pub request : ReceivedRequest
-    pub one : in_doubt ≡ request ∷ []
-    pub leaves : (c : List ℕ) → disks.may_leave journal.disk c → IsBeforeOrAfter entries (request.bytes ∷ []) c
+    pub leaves : (c : List ℕ) → disks.may_leave journal.disk c → IsBeforeOrAfter entries (bytes_of in_doubt) c
 
   -- On the disk are the entries from before and those of all requests that were acknowledged since; they make this zone of the first one.
   pub record IsRecorded (base : MemoryZone) (before : List (List ℕ)) (life : Life) (zone : MemoryZone) (journal : JournalState D) : Type 0 where

@@ -17,20 +17,26 @@ use Rattle.update_journal.specs.Read.{contents}
 use Rattle.update_journal.specs.Recovery.{Recovers}
 use Rattle.update_journal.specs.declared.reading.Recovered.{Recovered}
 use Rattle.update_journal.specs.declared.error.JournalError.{JournalError}
+use Rattle.durable_updates.specs.Batches.{AnswersBatch, Told, accepted, bytes_of}
 use Rattle.durable_updates.specs.DurableUpdates.{AnswersDurably}
-use Rattle.durable_updates.specs.Journalling.{Journals, RefusesEntry}
+use Rattle.durable_updates.specs.Journalling.{Journals, JournalsAll, RefusesEntries, RefusesEntry}
 use Rattle.durable_updates.specs.Redone.{Makes, Redone}
 
 -- The message of a request is the one that its bytes begin with, as it is of each that `Request::from_bytes` reads.
 abbrev pub IsRead : ReceivedRequest → Type 0
 IsRead request = Reads request.bytes (message_of request.message)
 
--- the entries of requests
-abbrev pub bytes_of : List ReceivedRequest → List (List ℕ)
-bytes_of requests = map (λ (request : ReceivedRequest). request.bytes) requests
+-- Each request was read from its bytes.
+abbrev pub AreRead : List ReceivedRequest → Type 0
+AreRead [] = Unit {0}
+AreRead (request ∷ requests) = IsRead request × AreRead requests
 
--- What a process did from its start to its end: the requests that it acknowledged, in their order; and the one, if any, that is in doubt: the journal
--- failed with it, or the process ended while it was at it.
+-- requests without the moments at which they are judged
+abbrev pub untimed : List (ReceivedRequest × ℕ) → List ReceivedRequest
+untimed requests = map (λ (request : ReceivedRequest × ℕ). request.0) requests
+
+-- What a process did from its start to its end: the requests that it acknowledged, in their order; and those of one call, if any, that are in doubt
+-- together: the journal failed with them, or the process ended while it was at them.
 pub record Life : Type 0 where
   pub acknowledged : List ReceivedRequest
   pub in_doubt : List ReceivedRequest
@@ -39,20 +45,21 @@ pub record Life : Type 0 where
 abbrev pub unused : Life
 unused = record { acknowledged = []; in_doubt = [] }
 
--- this request is in doubt, unless another is already
-abbrev pub doubted : List ReceivedRequest → ReceivedRequest → List ReceivedRequest
-doubted [] request = request ∷ []
-doubted (first ∷ others) request = first ∷ others
+-- these requests are in doubt, unless others are already
+abbrev pub doubted : List ReceivedRequest → List ReceivedRequest → List ReceivedRequest
+doubted [] requests = requests
+doubted (first ∷ others) requests = first ∷ others
 
--- once a request was answered: with Ok it is acknowledged; with an error it was refused, or is in doubt where the journal takes no entry any more
-abbrev pub after_answer : Life → ReceivedRequest → Result Bool UpdateFault → Bool → Life
-after_answer life request (Ok changed) is_open = record life { acknowledged = life.acknowledged ++ request ∷ [] }
-after_answer life request (Err fault) true = life
-after_answer life request (Err fault) false = record life { in_doubt = doubted life.in_doubt request }
+-- Once requests that are written together were answered: with Ok they are acknowledged; with an error they were refused, or are in doubt where the
+-- journal takes no entry any more.
+abbrev pub after_answer : {T : Type 0} → Life → List ReceivedRequest → Result T UpdateFault → Bool → Life
+after_answer life requests (Ok told) is_open = record life { acknowledged = life.acknowledged ++ requests }
+after_answer life requests (Err fault) true = life
+after_answer life requests (Err fault) false = record life { in_doubt = doubted life.in_doubt requests }
 
--- where the process ended while it was at this request
-abbrev pub cut_short : Life → ReceivedRequest → Life
-cut_short life request = record life { in_doubt = doubted life.in_doubt request }
+-- where the process ended while it was at these requests
+abbrev pub cut_short : Life → List ReceivedRequest → Life
+cut_short life requests = record life { in_doubt = doubted life.in_doubt requests }
 
 -- The entries that lives, the last of them first, may leave: behind those of the lives before it, of each all that it acknowledged, and then what is in
 -- doubt, whole or not at all.
@@ -62,10 +69,10 @@ MayStand (life ∷ earlier) entries =
     (before : List (List ℕ)) × MayStand earlier before
     × ((entries ≡ before ++ bytes_of life.acknowledged) ⊎ (entries ≡ (before ++ bytes_of life.acknowledged) ++ bytes_of life.in_doubt))
 
--- Of no life more than one request is in doubt.
-abbrev pub OneInDoubt : List Life → Type 0
-OneInDoubt [] = Unit {0}
-OneInDoubt (life ∷ earlier) = (length life.in_doubt ≤ 1) × OneInDoubt earlier
+-- Of no life more than so many requests are in doubt.
+abbrev pub AtMostInDoubt : ℕ → List Life → Type 0
+AtMostInDoubt most [] = Unit {0}
+AtMostInDoubt most (life ∷ earlier) = (length life.in_doubt ≤ most) × AtMostInDoubt most earlier
 
 -- a zone with its journal
 pub record Server (V D : Type 0) : Type 0 where
@@ -79,6 +86,11 @@ module _ {V D : Type 0} (by : Ghosts V) (disks : DiskGhosts D) where
     pub made : OnOk answer (Makes (update_of request.message).updates old.zone.zone new.zone.zone)
     pub kept : OnErr answer (new.zone ≡ old.zone)
     pub journals : Journals disks.seen disks.may_leave answer request.bytes old.journal new.journal
+
+  -- Requests, each at its moment, are answered as one batch: the contract of `update_all_durably`.
+  pub record ServesAll (requests : List (ReceivedRequest × ℕ)) (told : List Told) (old new : Server V D) : Type 0 where
+    pub answers : AnswersBatch (RefusesEntries disks.is_usable new.journal) by requests told old.zone new.zone
+    pub journals : JournalsAll disks.seen disks.may_leave answers.written (bytes_of (accepted requests answers.judged)) old.journal new.journal
 
   -- A disk has this file, and nothing else, as after a crash; its recovery answers so, and the disk told no lie: the contract of `recover`.
   pub record Opens (file : List ℕ) (result : Result Recovered JournalError) (opened : D) : Type 0 where
@@ -97,36 +109,44 @@ module _ {V D : Type 0} (by : Ghosts V) (disks : DiskGhosts D) where
     pub journal : server.journal ≡ record { disk = opened; end = found.end; is_open = true }
     pub redone : Redone (contents found.entries.items) base server.zone.zone
 
-  -- From its first state on the server has answered requests, one after another, each at its moment.
-  pub data Serves (first : Server V D) : Life → Server V D → Type 0 where
-    begun : Serves first unused first
+  -- From its first state on the server has answered requests, one after another, each at its moment, or in batches of so many at most.
+  pub data Serves (most : ℕ) (first : Server V D) : Life → Server V D → Type 0 where
+    begun : Serves most first unused first
     answered : {life : Life} {old new : Server V D} (request : ReceivedRequest) (now : ℕ) (answer : Result Bool UpdateFault) (context : Option TSigResponseContext)
-        → Serves first life old → IsRead request → ServesOne request now answer context old new
-        → Serves first (after_answer life request answer new.journal.is_open) new
+        → Serves most first life old → IsRead request → ServesOne request now answer context old new
+        → Serves most first (after_answer life (request ∷ []) answer new.journal.is_open) new
+    answered_all : {life : Life} {old new : Server V D} (requests : List (ReceivedRequest × ℕ)) (told : List Told)
+        → Serves most first life old → AreRead (untimed requests) → length requests ≤ most → (all : ServesAll requests told old new)
+        → Serves most first (after_answer life (accepted requests all.answers.judged) all.answers.written new.journal.is_open) new
 
-  -- A life begins with one file, and a crash leaves another: while the server started, or between two requests, or while it was at one, at any moment
-  -- of the call.
-  pub data IsLife (base : MemoryZone) (file : List ℕ) : Life → List ℕ → Type 0 where
-    while_starting : {next : List ℕ} {result : Result Recovered JournalError} {opened : D} → Opens file result opened → disks.may_leave opened next → IsLife base file unused next
-    between_requests : {next : List ℕ} {life : Life} {first server : Server V D} → Starts base file first → Serves first life server → disks.may_leave server.journal.disk next
-        → IsLife base file life next
+  -- A life begins with one file, and a crash leaves another: while the server started, or between two calls, or while it was at one request or at a
+  -- batch, at any moment of the call.
+  pub data IsLife (most : ℕ) (base : MemoryZone) (file : List ℕ) : Life → List ℕ → Type 0 where
+    while_starting : {next : List ℕ} {result : Result Recovered JournalError} {opened : D} → Opens file result opened → disks.may_leave opened next → IsLife most base file unused next
+    between_requests : {next : List ℕ} {life : Life} {first server : Server V D} → Starts base file first → Serves most first life server → disks.may_leave server.journal.disk next
+        → IsLife most base file life next
     within_request : {next : List ℕ} {life : Life} {first old new : Server V D} (request : ReceivedRequest) (now : ℕ) (answer : Result Bool UpdateFault) (context : Option TSigResponseContext)
-        → Starts base file first → Serves first life old → IsRead request → ServesOne request now answer context old new → disks.may_leave new.journal.disk next
-        → IsLife base file (cut_short life request) next
+        → Starts base file first → Serves most first life old → IsRead request → ServesOne request now answer context old new → disks.may_leave new.journal.disk next
+        → IsLife most base file (cut_short life (request ∷ [])) next
+    within_batch : {next : List ℕ} {life : Life} {first old new : Server V D} (requests : List (ReceivedRequest × ℕ)) (told : List Told)
+        → Starts base file first → Serves most first life old → AreRead (untimed requests) → length requests ≤ most → (all : ServesAll requests told old new)
+        → disks.may_leave new.journal.disk next
+        → IsLife most base file (cut_short life (accepted requests all.answers.judged)) next
 
   -- Lives, the last first, and the file that they left. Before the first the file is empty.
-  pub data Run (base : MemoryZone) : List Life → List ℕ → Type 0 where
-    unborn : Run base [] []
-    lived : {lives : List Life} {file next : List ℕ} {life : Life} → Run base lives file → IsLife base file life next → Run base (life ∷ lives) next
+  pub data Run (most : ℕ) (base : MemoryZone) : List Life → List ℕ → Type 0 where
+    unborn : Run most base [] []
+    lived : {lives : List Life} {file next : List ℕ} {life : Life} → Run most base lives file → IsLife most base file life next → Run most base (life ∷ lives) next
 
   -- After a run the file stands for what its lives may leave. A server that starts on it has the zone that these entries make of the first zone; and
   -- while it serves, the zone of these and of the requests that it has acknowledged since.
-  pub record IsKept (base : MemoryZone) (lives : List Life) (file : List ℕ) : Type 0 where
+  pub record IsKept (most : ℕ) (base : MemoryZone) (lives : List Life) (file : List ℕ) : Type 0 where
     pub stands : (entries : List (List ℕ)) × StandsFor file entries × MayStand lives entries
-    pub one_in_doubt : OneInDoubt lives
-    pub served : (first server : Server V D) (life : Life) → Starts base file first → Serves first life server
+    pub few_in_doubt : AtMostInDoubt most lives
+    pub served : (first server : Server V D) (life : Life) → Starts base file first → Serves most first life server
         → (entries : List (List ℕ)) × StandsFor file entries × MayStand lives entries
         × Redone entries base first.zone.zone × Redone (entries ++ bytes_of life.acknowledged) base server.zone.zone
 
+  -- Where batches have so many requests at most, and that is 1 where there are none.
   abbrev pub RunsAreKept : Type 0
-  RunsAreKept = (base : MemoryZone) (lives : List Life) (file : List ℕ) → Run base lives file → IsKept base lives file
+  RunsAreKept = (most : ℕ) → 1 ≤ most → (base : MemoryZone) (lives : List Life) (file : List ℕ) → Run most base lives file → IsKept most base lives file

@@ -5,10 +5,12 @@ ghost use Rattle.hickory_base.specs.zone_store.ZoneAnswers.{LookedUp};
 ghost use Rattle.hickory_base.specs.declared.zone_store.lookup.LookupControlFlow.TheVariants.{Skip};
 ghost use Rattle.hickory_store.specs.Permission.{transfer_permission};
 ghost use Rattle.hickory_store.specs.TransferAnswers.{SearchedIn, TransferredAs};
+ghost use Rattle.durable_updates.specs.Batches.{AnswersBatch};
 ghost use Rattle.durable_updates.specs.DurableUpdates.{AnswersDurably};
 ghost use Rattle.sqlite_disk.specs.Disk.{Only};
 ghost use Rattle.durable_updates.specs.Recorded.{IsDurable, IsOpenedFrom, IsRecovered};
 
+use crate::batches::{UpdateAnswer, update_all_durably};
 use crate::redoing::{RedoError, redo};
 use crate::updating::update_durably;
 use hickory_base::errors::{LookupError, UpdateFault};
@@ -20,7 +22,7 @@ use hickory_base::zone_store::{
 use hickory_store::sqlite::{SqliteZoneHandler, Verifier};
 use hickory_wire::{LowerName, Record, RecordType, TSigResponseContext};
 use sqlite_disk::Disk;
-use std::alloc::Global;
+use std::alloc::{AllocError, Global};
 use std::marker::Model;
 use thiserror::Error;
 use update_journal::{Journal, JournalError, recover};
@@ -105,6 +107,20 @@ impl<V: Verifier, D: Disk + Drop> JournalledZone<V, D> {
     /// Whether the journal takes entries. Once it does not, every update is ServFail, until the zone is recovered from the file.
     pub fn takes_updates(&self) -> bool {
         self.journal.is_open()
+    }
+
+    /// Makes the updates that requests ask for, each at its moment in seconds since 1970, as `update_all_durably` does: judged one after
+    /// another, on the disk together, all or none, and then answered, in their order. Where they could not be written, none is
+    /// acknowledged, and the zone is as before. With an error memory was refused, and nothing happened.
+    pub fn update_all(
+        &mut self,
+        alloc: Global,
+        requests: &[(Request, u64)],
+    ) -> Result<Vec<UpdateAnswer>, AllocError>
+        ensures answers { IfOk result (λ told. AnswersBatch (λ _. Unit {0}) V.Verifier requests.now told.items self.old self.new) }
+        ensures memory { IfErr result (λ _. self.new ≡ self.old) }
+    {
+        update_all_durably(&mut self.zone, &mut self.journal, alloc, requests)
     }
 
     /// The zone and its journal, as they are after whatever was asked of the handler.

@@ -27,8 +27,8 @@ pub enum RedoError {
     Memory,
 }
 
-/// Reads an entry. Where it came from is not kept.
-fn read_entry(alloc: Global, entry: &[u8]) -> Result<Request, RedoError>
+/// Reads an entry: the request that its bytes begin with. Where that came from is not kept.
+pub fn read_entry(alloc: Global, entry: &[u8]) -> Result<Request, RedoError>
     ensures reads { IfOk result (λ request. Reads entry.now (message_of request.message)) }
 {
     let Ok(bytes) = Vec::from_slice(alloc, entry) else {

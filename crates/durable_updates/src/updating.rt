@@ -84,7 +84,7 @@ fn make<V: Verifier, D: Disk>(
 }
 
 /// What goes with an answer for the signer of the reply: nothing where memory was refused.
-fn told_context(
+pub(crate) fn told_context(
     answer: &Result<bool, UpdateFault>,
     context: Option<TSigResponseContext>,
 ) -> Option<TSigResponseContext>

@@ -1,3 +1,4 @@
+pub mod Endings
 pub mod Errors
 pub mod Frames
 pub mod Generations

@@ -1,6 +1,7 @@
 //! A journal of entries in one file: each is on the disk before it is acknowledged, whole or not at all.
 #![tactic(auto)]
 
+mod endings;
 mod error;
 mod generations;
 mod journal;
@@ -9,8 +10,9 @@ mod reading;
 mod recovering;
 mod writing;
 
+pub use endings::{Ending, ending_at};
 pub use error::JournalError;
 pub use generations::{generation, is_newer};
 pub use journal::Journal;
-pub use reading::Recovered;
+pub use reading::{Recovered, read_entries};
 pub use recovering::recover;

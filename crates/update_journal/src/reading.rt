@@ -2,7 +2,7 @@
 
 ghost use Rattle.std.specs.Prelude.{◌≡◌, ◌≤◌, ◌<◌, ◌^◌, ◌++◌, List, ℕ, IfOk, IfSome, IfNone, None, drop, length, take};
 ghost use Rattle.std.specs.Int.{w32, from_be_bytes};
-ghost use Rattle.update_journal.specs.Frames.{frame, IsEnd, IsSmall};
+ghost use Rattle.update_journal.specs.Frames.{frame, IsEnd, IsSmall, StandsFor};
 ghost use Rattle.update_journal.specs.Read.{contents, IsSplit};
 
 use std::alloc::{AllocError, Global};
@@ -55,4 +55,16 @@ pub(crate) fn read_frames(alloc: Global, bytes: &[u8]) -> Result<Recovered, Allo
         entries,
         end: bytes.len() - rest.len(),
     })
+}
+
+/// The entries of a journal in the bytes of its file, and where its gate stands. Unlike `recover` it needs no disk, and writes nothing.
+/// It takes memory for the entries.
+pub fn read_entries(alloc: Global, bytes: &[u8]) -> Result<Recovered, AllocError>
+    ensures stands { IfOk result (λ found. StandsFor bytes.now (contents found.entries.items)) }
+    ensures split { IfOk result (λ found. IsSplit bytes.now (contents found.entries.items) found.end) }
+{
+    match read_frames(alloc, bytes) {
+        Ok(found) => Ok(found),
+        Err(e) => Err(e),
+    }
 }

@@ -1,7 +1,7 @@
 -- One request more.
-use Rattle.std.proofs.Common.{IsTrue, subst}
+use Rattle.std.proofs.Common.{IsTrue, [], ◌∷◌, subst}
 use Rattle.durable_updates.specs.Runs.{Server, ServesOne, after_answer}
-use Rattle.durable_updates.proofs.Histories.{step_on}
+use Rattle.durable_updates.proofs.Histories.{one_on}
 use Rattle.durable_updates.proofs.handler.JournalledZoneZoneHandler.update.Goals as goal
 
 pub invariant_of-self : goal.invariant_of-self
@@ -13,6 +13,6 @@ invariant_of-self g c = λ clean.
     record { answers = c.update_durably.ensures.answers; made = c.update_durably.ensures.made; kept = c.update_durably.ensures.kept; journals = c.update_durably.ensures.journals } in (
       was.0,
       was.1,
-      after_answer was.2 c.args.request.now c.update_durably.result.0 c.update_durably.new.journal.is_open,
-      step_on g.V.Verifier g.D.Disk was.0 was.1 was.2 c.args.request.now c.args.now c.update_durably.result.0 c.update_durably.result.1 (record { zone = c.self.inside.zone; journal = c.self.inside.journal }) (record { zone = c.update_durably.new.zone; journal = c.update_durably.new.journal }) was.3 serves,
+      after_answer was.2 (c.args.request.now ∷ []) c.update_durably.result.0 c.update_durably.new.journal.is_open,
+      one_on g.V.Verifier g.D.Disk was.0 was.1 was.2 c.args.request.now c.args.now c.update_durably.result.0 c.update_durably.result.1 (record { zone = c.self.inside.zone; journal = c.self.inside.journal }) (record { zone = c.update_durably.new.zone; journal = c.update_durably.new.journal }) was.3 serves,
     )

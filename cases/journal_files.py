@@ -1,0 +1,72 @@
+#!/usr/bin/env python3
+"""Makes the journals of cases/zone_journal/files: frames of requests, and a gate behind them.
+
+    cases/journal_files.py
+
+A frame is a gate that is open, 1, the length of the entry in four bytes, and the entry: a request for an update (RFC 2136), whose sections are written here
+field by field.
+"""
+import os
+import struct
+
+FOLDER = os.path.join(os.path.dirname(os.path.realpath(__file__)), "zone_journal/files")
+
+A, NS, SOA, TXT, TSIG, ANY_TYPE = 1, 2, 6, 16, 250, 255
+IN, NONE, ANY = 1, 254, 255
+
+
+def name(text):
+    labels = [it.encode() for it in text.split(".") if it]
+    return b"".join(bytes([len(it)]) + it for it in labels) + b"\0"
+
+
+def record(owner, kind, of_class, ttl, data):
+    return name(owner) + struct.pack(">HHIH", kind, of_class, ttl, len(data)) + data
+
+
+def update(zone, records, key=None, opcode=5, required=()):
+    """A request with these prerequisites, whose update section has these records; signed by a key of this name, with a MAC that nobody asks for here."""
+    signature = b""
+    if key:
+        data = name("hmac-sha256") + (1700000000).to_bytes(6, "big") + struct.pack(">HH", 300, 32) + bytes(range(32)) + struct.pack(">HHH", 7, 0, 0)
+        signature = record(key, TSIG, ANY, 0, data)
+    header = struct.pack(">HHHHHH", 7, opcode << 11, 1, len(required), len(records), 1 if key else 0)
+    return header + name(zone) + struct.pack(">HH", SOA, IN) + b"".join(required) + b"".join(records) + signature
+
+
+def journal(entries, behind=b"\0"):
+    return b"".join(b"\1" + struct.pack(">I", len(it)) + it for it in entries) + behind
+
+
+ADDED = update("example.com", [record("www.example.com", A, IN, 300, bytes([192, 0, 2, 1]))])
+TWO = update("example.com", [record("www.example.com", A, IN, 300, bytes([192, 0, 2, 2])), record("note.example.com", TXT, IN, 60, b"\5first")], "update-key")
+TAKEN = update("example.com", [record("www.example.com", A, NONE, 0, bytes([192, 0, 2, 1])), record("note.example.com", ANY_TYPE, ANY, 0, b"")])
+OTHER = update("example.net", [record("www.example.net", A, IN, 300, bytes([192, 0, 2, 1]))])
+QUERY = update("example.com", [], opcode=0)
+
+FILES = {
+    "none.journal": b"",
+    "emptied.journal": b"\0" + journal([ADDED])[1:],
+    "one.journal": journal([ADDED]),
+    "three.journal": journal([ADDED, TWO, TAKEN]),
+    "behind.journal": journal([ADDED], b"\0" + journal([TWO])[1:]),
+    "cut.journal": journal([ADDED, TWO])[:-20],
+    "no_gate.journal": journal([ADDED], b""),
+    "open.journal": journal([ADDED], b"\1"),
+    "generation.journal": journal([(7).to_bytes(8, "big"), ADDED]),
+    "generation_late.journal": journal([ADDED, (7).to_bytes(8, "big")]),
+    "other_zone.journal": journal([ADDED, OTHER]),
+    "query.journal": journal([QUERY, ADDED]),
+    "no_message.journal": journal([ADDED, b"no message", TWO]),
+}
+
+
+def main():
+    os.makedirs(FOLDER, exist_ok=True)
+    for file, made in FILES.items():
+        with open(os.path.join(FOLDER, file), "wb") as it:
+            it.write(made)
+
+
+if __name__ == "__main__":
+    main()

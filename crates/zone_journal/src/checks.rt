@@ -1,0 +1,91 @@
+//! Whether a journal is whole.
+
+use crate::entries::{Entry, behind, entry_of, zone_of};
+use crate::fault::Fault;
+use hickory_wire::LowerName;
+use std::alloc::Global;
+use std::io;
+use update_journal::{Ending, generation};
+
+/// Whether an entry may stand in the journal of a zone.
+fn may_stand(entry: &Entry, zone: &Option<LowerName>) -> bool {
+    match entry {
+        Entry::Generation(_) => true,
+        Entry::Update(_) => match (zone_of(entry), zone) {
+            (Some(name), Some(zone)) => *name == *zone,
+            _ => false,
+        },
+        Entry::Other => false,
+    }
+}
+
+/// The zone of the first entry that is an update.
+fn first_zone(alloc: Global, entries: &[Vec<u8>]) -> Result<Option<LowerName>, Fault> {
+    for bytes in entries {
+        let entry = entry_of(alloc, bytes, 0, 0)?;
+        if let Some(name) = zone_of(&entry) {
+            return Ok(Some(name.clone()?));
+        }
+    }
+    Ok(None)
+}
+
+/// Prints that an entry may not stand there.
+fn print_wrong<R: Print>(rt: &R, file: &str, number: usize, place: usize) -> Result<(), Fault> {
+    let told = println!(rt; "{file}: entry {number} at {place}: fault: no update of the zone");
+    told.map_err(|_| Fault::Write)
+}
+
+/// Prints a line for each entry that may not stand there, and gives their number.
+pub fn check_entries<R: Print + Alloc<A = Global>>(
+    rt: &R,
+    file: &str,
+    entries: &[Vec<u8>],
+) -> Result<usize, Fault> {
+    let zone = first_zone(rt.alloc(), entries)?;
+    let generation = generation(entries);
+    let mut wrong: usize = 0;
+    let mut number: usize = 1;
+    let mut place: usize = 0;
+    for bytes in entries {
+        let entry = entry_of(rt.alloc(), bytes, number, generation)?;
+        if !may_stand(&entry, &zone) {
+            wrong = wrong.saturating_add(1);
+            print_wrong(rt, file, number, place)?;
+        }
+        place = behind(place, bytes.len());
+        number = number.saturating_add(1);
+    }
+    Ok(wrong)
+}
+
+/// Prints how many entries a file has, and how it ends behind them.
+pub fn print_ending<R: Print>(
+    rt: &R,
+    file: &str,
+    entries: usize,
+    end: usize,
+    ending: Ending,
+) -> io::Result<()> {
+    print!(rt; "{file}: entries: {entries}, in {end} bytes")?;
+    match ending {
+        Ending::Whole => println!(rt; ""),
+        Ending::Behind(n) => println!(rt;
+            "; warning: {n} bytes behind the gate, which count for nothing"
+        ),
+        Ending::Open(n) => println!(rt;
+            "; fault: the gate is open before {n} bytes that are no entry"
+        ),
+        Ending::Missing => println!(rt; "; fault: no gate behind them"),
+    }
+}
+
+/// The status of what was found: 0 where that is nothing, 1 where it is a warning, 5 where it is a fault.
+pub fn status_of(wrong: usize, ending: Ending) -> u8 {
+    match ending {
+        Ending::Open(_) | Ending::Missing => 5,
+        _ if wrong > 0 => 5,
+        Ending::Behind(_) => 1,
+        Ending::Whole => 0,
+    }
+}

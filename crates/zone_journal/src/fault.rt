@@ -1,0 +1,90 @@
+//! Why the program ends before it has told what it was asked for.
+
+use durable_updates::RedoError;
+use hickory_server::store::file::ZoneError;
+use std::alloc::{AllocError, AllocFailed};
+use std::io;
+use thiserror::Error;
+
+/// Why the program ends before it has told what it was asked for.
+#[derive(Clone, Copy, Debug, PartialEq, Eq, Error)]
+pub enum Fault {
+    /// An argument is no text.
+    #[error("an argument is not UTF-8")]
+    Arguments,
+    /// The name of the apex is none.
+    #[error("not the name of a zone")]
+    Origin,
+    /// Memory was refused.
+    #[error("no memory")]
+    Memory,
+    /// The output takes nothing.
+    #[error("the output cannot be written")]
+    Write,
+    /// There is no file of this name.
+    #[error("there is no such file")]
+    Absent,
+    /// A file is not read, for another reason.
+    #[error("the file cannot be read")]
+    Unread,
+    /// A zone file is no text.
+    #[error("the file is not UTF-8")]
+    NotUtf8,
+    /// A zone file has no zone.
+    #[error("{0}")]
+    Zone(ZoneError),
+    /// An entry is no update of the zone.
+    #[error("{0}")]
+    Entries(RedoError),
+}
+
+impl Fault {
+    /// The status that tells it.
+    pub fn status(self) -> u8 {
+        match self {
+            Fault::Arguments | Fault::Origin => 2,
+            Fault::Memory => 3,
+            Fault::Write => 4,
+            _ => 5,
+        }
+    }
+}
+
+impl From<AllocError> for Fault {
+    fn from(_e: AllocError) -> Fault {
+        Fault::Memory
+    }
+}
+
+impl<T: Drop> From<AllocFailed<T>> for Fault {
+    fn from(_e: AllocFailed<T>) -> Fault {
+        Fault::Memory
+    }
+}
+
+impl From<RedoError> for Fault {
+    fn from(e: RedoError) -> Fault {
+        match e {
+            RedoError::Memory => Fault::Memory,
+            RedoError::Damaged => Fault::Entries(e),
+        }
+    }
+}
+
+impl From<ZoneError> for Fault {
+    fn from(e: ZoneError) -> Fault {
+        match e {
+            ZoneError::Memory => Fault::Memory,
+            other => Fault::Zone(other),
+        }
+    }
+}
+
+/// The fault of a file that the system does not give.
+pub fn fault_of_file(e: &io::Error) -> Fault {
+    match e.kind() {
+        io::ErrorKind::NotFound | io::ErrorKind::NotADirectory => Fault::Absent,
+        io::ErrorKind::OutOfMemory => Fault::Memory,
+        _ => Fault::Unread,
+    }
+}

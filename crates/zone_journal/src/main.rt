@@ -1,0 +1,253 @@
+//! What stands in a journal of updates.
+//!
+//! `zone_journal list FILE` prints its entries with the records of their updates, `zone_journal check FILE` whether it is whole, and
+//! `zone_journal zone ORIGIN FILE --zone-file ZONE` the records of the zone at its end. `zone_journal --version` prints its name and
+//! version, and `zone_journal --help` how it is started. No file is written, and none is locked.
+//!
+//! The status is 0, 1 where bytes behind the entries count for nothing, 2 for wrong arguments, 3 without memory, 4 where the output fails,
+//! and 5 where the journal has a fault or a file is not taken, which is told on the standard error.
+#![tactic(auto)]
+
+mod checks;
+mod entries;
+mod fault;
+mod zone;
+
+use crate::checks::{check_entries, print_ending, status_of};
+use crate::entries::{behind, entry_of, print_entry};
+use crate::fault::{Fault, fault_of_file};
+use crate::zone::{print_zone, with_entries, zone_of_file};
+use clap::error::ErrorKind;
+use clap::{Arg, ArgMatches, Command, Error};
+use hickory_wire::{Name, NameError};
+use std::alloc::{AllocError, Global};
+use std::process::ExitCode;
+use std::rt::{Env, Files};
+use std::{env, fs, io};
+use update_journal::{ending_at, generation, read_entries};
+
+/// The version of this program.
+const VERSION: &str = "0.1.0";
+
+/// The argument that names the journal.
+fn journal_argument<'a>(alloc: Global) -> Arg<'a> {
+    Arg::new(alloc, "FILE").required(true).help("the journal")
+}
+
+/// The command that prints the zone.
+fn zone_command<'a>(alloc: Global) -> Result<Command<'a>, AllocError> {
+    let origin = Arg::new(alloc, "ORIGIN").required(true).help(
+        "the name of the zone's apex, with or without a dot at its end",
+    );
+    let zone_file = Arg::new(alloc, "zone-file")
+        .long("zone-file")
+        .value_name("ZONE")
+        .required(true)
+        .help("the zone file of before the first entry");
+    Command::new(alloc, "zone")
+        .about("Prints the records of the zone at its end")
+        .arg(origin)?
+        .arg(journal_argument(alloc))?
+        .arg(zone_file)
+}
+
+/// The arguments that the program takes.
+fn command<'a>(alloc: Global) -> Result<Command<'a>, AllocError> {
+    let list = Command::new(alloc, "list")
+        .about("Prints its entries")
+        .arg(journal_argument(alloc))?;
+    let check = Command::new(alloc, "check")
+        .about("Tells whether it is whole")
+        .arg(journal_argument(alloc))?;
+    Command::new(alloc, "zone_journal")
+        .version(VERSION)
+        .about("Tells what stands in a journal of updates")
+        .subcommand_required(true)
+        .subcommand(list)?
+        .subcommand(check)?
+        .subcommand(zone_command(alloc)?)
+}
+
+/// The name of the apex, with or without a dot at its end; the root is a dot alone.
+fn apex_of(alloc: Global, text: &str) -> Result<Name, Fault> {
+    if text == "." {
+        return Ok(Name::root());
+    }
+    match Name::from_ascii(alloc, text) {
+        Ok(mut name) => {
+            name.set_fqdn(true);
+            Ok(name)
+        }
+        Err(NameError::Text) => Err(Fault::Origin),
+        Err(_) => Err(Fault::Memory),
+    }
+}
+
+/// Tells why the program ends on the standard error, and gives the status. That it cannot be told changes nothing.
+fn tell<R: Eprint>(rt: &R, fault: Fault) -> u8 {
+    let _ = eprintln!(rt; "zone_journal: {fault}");
+    fault.status()
+}
+
+/// Tells why a file is not taken on the standard error, and gives the status. Want of memory is of no file.
+fn tell_of_file<R: Eprint>(rt: &R, file: &str, fault: Fault) -> u8 {
+    if fault.status() != 5 {
+        return tell(rt, fault);
+    }
+    let _ = eprintln!(rt; "zone_journal: {file}: {fault}");
+    fault.status()
+}
+
+/// The bytes of a file.
+fn bytes_of<R: Files + Alloc<A = Global>>(rt: &R, file: &str) -> Result<Vec<u8>, Fault> {
+    match fs::read(rt, file) {
+        Ok(bytes) => Ok(bytes),
+        Err(e) => Err(fault_of_file(&e)),
+    }
+}
+
+/// Prints the entries.
+fn print_entries<R: Print + Alloc<A = Global>>(rt: &R, entries: &[Vec<u8>]) -> Result<(), Fault> {
+    let generation = generation(entries);
+    let mut number: usize = 1;
+    let mut place: usize = 0;
+    for bytes in entries {
+        let entry = entry_of(rt.alloc(), bytes, number, generation)?;
+        if print_entry(rt, number, place, bytes.len(), &entry).is_err() {
+            return Err(Fault::Write);
+        }
+        number = number.saturating_add(1);
+        place = behind(place, bytes.len());
+    }
+    Ok(())
+}
+
+/// Lists a journal.
+fn list<R: Files + Print + Alloc<A = Global>>(rt: &R, file: &str) -> Result<u8, Fault> {
+    let bytes = bytes_of(rt, file)?;
+    let found = read_entries(rt.alloc(), bytes.as_slice())?;
+    print_entries(rt, found.entries.as_slice())?;
+    Ok(0)
+}
+
+/// Checks a journal.
+fn check<R: Files + Print + Alloc<A = Global>>(rt: &R, file: &str) -> Result<u8, Fault> {
+    let bytes = bytes_of(rt, file)?;
+    let found = read_entries(rt.alloc(), bytes.as_slice())?;
+    let wrong = check_entries(rt, file, found.entries.as_slice())?;
+    let ending = ending_at(bytes.as_slice(), found.end);
+    match print_ending(rt, file, found.entries.len(), found.end, ending) {
+        Ok(()) => Ok(status_of(wrong, ending)),
+        Err(_) => Err(Fault::Write),
+    }
+}
+
+/// Prints the zone at the end of a journal.
+fn print_end<R: Files + Print + Eprint + Alloc<A = Global>>(
+    rt: &R,
+    origin: &Name,
+    file: &str,
+    zone_file: &str,
+) -> u8 {
+    let zone = match zone_of_file(rt, origin, zone_file) {
+        Ok(zone) => zone,
+        Err(fault) => return tell_of_file(rt, zone_file, fault),
+    };
+    let bytes = match bytes_of(rt, file) {
+        Ok(bytes) => bytes,
+        Err(fault) => return tell_of_file(rt, file, fault),
+    };
+    let Ok(found) = read_entries(rt.alloc(), bytes.as_slice()) else {
+        return tell(rt, Fault::Memory);
+    };
+    match with_entries(rt.alloc(), zone, found.entries.as_slice()) {
+        Ok(zone) => match print_zone(rt, &zone) {
+            Ok(()) => 0,
+            Err(_) => tell(rt, Fault::Write),
+        },
+        Err(fault) => tell_of_file(rt, file, fault),
+    }
+}
+
+/// Prints the zone that the words of its command ask for, and gives the status.
+fn run_zone<R: Files + Print + Eprint + Alloc<A = Global>>(
+    rt: &R,
+    file: &str,
+    matches: &ArgMatches<'_>,
+) -> u8 {
+    let (Some(text), Some(zone_file)) = (matches.get_str("ORIGIN"), matches.get_str("zone-file"))
+    else {
+        return tell(rt, Fault::Arguments);
+    };
+    match apex_of(rt.alloc(), text) {
+        Ok(origin) => print_end(rt, &origin, file, zone_file),
+        Err(fault) => tell(rt, fault),
+    }
+}
+
+/// Runs the program with these words, and gives its status.
+fn run_matches<R: Files + Print + Eprint + Alloc<A = Global>>(
+    rt: &R,
+    matches: &ArgMatches<'_>,
+) -> u8 {
+    let Some((name, matches)) = matches.subcommand() else {
+        return tell(rt, Fault::Arguments);
+    };
+    let Some(file) = matches.get_str("FILE") else {
+        return tell(rt, Fault::Arguments);
+    };
+    if name == "zone" {
+        return run_zone(rt, file, matches);
+    }
+    let told = if name == "list" {
+        list(rt, file)
+    } else {
+        check(rt, file)
+    };
+    match told {
+        Ok(status) => status,
+        Err(fault) => tell_of_file(rt, file, fault),
+    }
+}
+
+/// Prints what is said of the arguments, which may be the help that they ask for, and gives the status.
+fn print_of_arguments<R: Print + Eprint>(rt: &R, error: &Error) -> u8 {
+    if matches!(error.kind(), ErrorKind::OutOfMemory) {
+        return tell(rt, Fault::Memory);
+    }
+    match error.print(rt) {
+        Ok(()) if error.exit_code() == 0 => 0,
+        Ok(()) => 2,
+        Err(_) => tell(rt, Fault::Write),
+    }
+}
+
+/// The words behind which the program stands, its own name first.
+fn given_words<R: Env + Alloc<A = Global>>(rt: &R) -> Result<Vec<String>, Fault> {
+    match env::args(rt) {
+        Ok(words) => Ok(words.collect(rt.alloc())?),
+        Err(e) => match e.kind() {
+            io::ErrorKind::OutOfMemory => Err(Fault::Memory),
+            _ => Err(Fault::Arguments),
+        },
+    }
+}
+
+/// Runs the program, and gives its status.
+fn run<R: Files + Env + Print + Eprint + Alloc<A = Global>>(rt: &R) -> u8 {
+    let words = match given_words(rt) {
+        Ok(words) => words,
+        Err(fault) => return tell(rt, fault),
+    };
+    let Ok(command) = command(rt.alloc()) else {
+        return tell(rt, Fault::Memory);
+    };
+    match command.try_get_matches_from(words.as_slice()) {
+        Ok(matches) => run_matches(rt, &matches),
+        Err(error) => print_of_arguments(rt, &error),
+    }
+}
+
+fn main(rt: HostRuntime) -> ExitCode {
+    ExitCode::from(run(&rt))
+}

@@ -1,0 +1,63 @@
+//! The zone at the end of a journal.
+
+use crate::fault::{Fault, fault_of_file};
+use durable_updates::redo;
+use hickory_base::zone_store::{AxfrPolicy, RecordSet, ZoneType};
+use hickory_server::server::NoKeys;
+use hickory_server::store::file::read_zone;
+use hickory_store::sqlite::SqliteZoneHandler;
+use hickory_wire::Name;
+use std::alloc::Global;
+use std::rt::Files;
+use std::{fs, io, str};
+
+/// A zone that nobody may change by a request, for the entries of a journal.
+type Zone = SqliteZoneHandler<NoKeys>;
+
+/// The zone of a zone file.
+pub fn zone_of_file<R: Files + Alloc<A = Global>>(
+    rt: &R,
+    origin: &Name,
+    file: &str,
+) -> Result<Zone, Fault> {
+    let bytes = match fs::read(rt, file) {
+        Ok(bytes) => bytes,
+        Err(e) => return Err(fault_of_file(&e)),
+    };
+    let Ok(text) = str::from_utf8(bytes.as_slice()) else {
+        return Err(Fault::NotUtf8);
+    };
+    let zone = read_zone(
+        rt.alloc(),
+        text,
+        origin,
+        ZoneType::Primary,
+        AxfrPolicy::Deny,
+    )?;
+    Ok(SqliteZoneHandler::new(zone, AxfrPolicy::Deny, false, NoKeys))
+}
+
+/// Does the entries of a journal to a zone.
+pub fn with_entries(alloc: Global, zone: Zone, entries: &[Vec<u8>]) -> Result<Zone, Fault> {
+    let mut zone = zone;
+    match redo(&mut zone, alloc, entries) {
+        Ok(()) => Ok(zone),
+        Err(e) => Err(Fault::from(e)),
+    }
+}
+
+/// Prints the records of a set, each in a line.
+fn print_set<R: Print>(rt: &R, set: &RecordSet) -> io::Result<()> {
+    for record in set.records() {
+        println!(rt; "{record}")?;
+    }
+    Ok(())
+}
+
+/// Prints the records of a zone, each in a line, in the order of their names and types.
+pub fn print_zone<R: Print>(rt: &R, zone: &Zone) -> io::Result<()> {
+    for set in zone.in_memory().records().values() {
+        print_set(rt, set)?;
+    }
+    Ok(())
+}
