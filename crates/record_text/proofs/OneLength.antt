@@ -19,7 +19,7 @@ use Rattle.record_text.specs.Groups.{IsGroup, SpellsHexGroups}
 use Rattle.record_text.specs.Groups.IsGroup.{octet, bits16}
 use Rattle.record_text.specs.Groups.SpellsHexGroups.{first, more as one_group}
 use Rattle.record_text.specs.RecordText.{AreFields, AreStrings, AreTypes, IsData, IsField, IsRest, IsRow, SpellsType, bytes_of}
-use Rattle.record_text.specs.RecordText.IsField.{number8, number16, number32, time, name, string, text, ipv4, ipv6, type, moment, no_salt, salt, hash, eui48, eui64, locator64}
+use Rattle.record_text.specs.RecordText.IsField.{number8, number16, number32, named8, unnamed8, named16, unnamed16, time, name, string, text, ipv4, ipv6, type, moment, no_salt, salt, hash, eui48, eui64, locator64}
 use Rattle.record_text.specs.RecordText.AreFields.{none as no_fields, more as one_field}
 use Rattle.record_text.specs.RecordText.AreStrings.{none as no_words, more as one_string}
 use Rattle.record_text.specs.RecordText.AreTypes.{none as no_names, more as one_type}
@@ -66,6 +66,14 @@ module _ (bytes_once : BytesSpelledOnce) (strings_once : StringsSpelledOnce) (na
   field_len origin field w a b (number8 p i s) (number8 q j t) = refl
   field_len origin field w a b (number16 p i s) (number16 q j t) = refl
   field_len origin field w a b (number32 p i s) (number32 q j t) = refl
+  field_len origin field w a b (named8 p i) (named8 q j) = refl
+  field_len origin field w a b (named8 p i) (unnamed8 q j t) = refl
+  field_len origin field w a b (unnamed8 p i s) (named8 q j) = refl
+  field_len origin field w a b (unnamed8 p i s) (unnamed8 q j t) = refl
+  field_len origin field w a b (named16 p i) (named16 q j) = refl
+  field_len origin field w a b (named16 p i) (unnamed16 q j t) = refl
+  field_len origin field w a b (unnamed16 p i s) (named16 q j) = refl
+  field_len origin field w a b (unnamed16 p i s) (unnamed16 q j t) = refl
   field_len origin field w a b (time p i s) (time q j t) = refl
   field_len origin field w a b (name {labels = ls} p i s) (name {labels = ms} q j t) = ap (λ (l : List (List ℕ)). length (name_octets l)) (names_once origin w.bytes.now ls ms i j)
   field_len origin field w a b (string i) (string j) = ap length (strings_once w a b i j)

@@ -11,8 +11,8 @@ use Rattle.record_text.specs.declared.data.field.Rest.{Rest}
 use Rattle.record_text.specs.declared.data.hex_groups.Group.TheVariants as group
 use Rattle.record_text.specs.Groups.{SpellsGroups, SpellsHexGroups}
 use Rattle.record_text.specs.Moments.{SpellsMoment}
-use Rattle.record_text.specs.RecordText.{AreFields, ArePlain, AreStrings, AreTypes, BeginGeneric, IsData, IsField, IsGenericData, IsRest, IsRow, SpellsData, SpellsType, bytes_of}
-use Rattle.record_text.specs.RecordText.IsField.{number8, number16, number32, time, name, string, text, ipv4, ipv6, type, moment, no_salt, salt, hash, eui48, eui64, locator64}
+use Rattle.record_text.specs.RecordText.{AreFields, ArePlain, AreStrings, AreTypes, BeginGeneric, IsData, IsField, IsGenericData, IsNamed, IsRest, IsRow, SpellsData, SpellsType, bytes_of}
+use Rattle.record_text.specs.RecordText.IsField.{number8, number16, number32, named8, unnamed8, named16, unnamed16, time, name, string, text, ipv4, ipv6, type, moment, no_salt, salt, hash, eui48, eui64, locator64}
 use Rattle.record_text.specs.RecordText.AreFields.{none as no_fields, more as one_field}
 use Rattle.record_text.specs.RecordText.AreStrings.{none as no_words, more as one_string}
 use Rattle.record_text.specs.RecordText.AreTypes.{none as no_names, more as one_type}
@@ -36,6 +36,10 @@ pub same_field : (origin : Option DomainName) (field : Field) (a b : Word) (octe
 same_field origin field a b octets s (number8 {n = n} plain is small) = number8 (sym s.quoted ∙ plain) (subst (λ (t : List ℕ). IsNumber t n) s.bytes is) small
 same_field origin field a b octets s (number16 {n = n} plain is small) = number16 (sym s.quoted ∙ plain) (subst (λ (t : List ℕ). IsNumber t n) s.bytes is) small
 same_field origin field a b octets s (number32 {n = n} plain is small) = number32 (sym s.quoted ∙ plain) (subst (λ (t : List ℕ). IsNumber t n) s.bytes is) small
+same_field origin field a b octets s (named8 {names = names} {n = n} plain is) = named8 (sym s.quoted ∙ plain) (subst (λ (t : List ℕ). IsNamed names t n) s.bytes is)
+same_field origin field a b octets s (unnamed8 {n = n} plain is small) = unnamed8 (sym s.quoted ∙ plain) (subst (λ (t : List ℕ). IsNumber t n) s.bytes is) small
+same_field origin field a b octets s (named16 {names = names} {n = n} plain is) = named16 (sym s.quoted ∙ plain) (subst (λ (t : List ℕ). IsNamed names t n) s.bytes is)
+same_field origin field a b octets s (unnamed16 {n = n} plain is small) = unnamed16 (sym s.quoted ∙ plain) (subst (λ (t : List ℕ). IsNumber t n) s.bytes is) small
 same_field origin field a b octets s (time {n = n} plain is small) = time (sym s.quoted ∙ plain) (subst (λ (t : List ℕ). SpellsTime t n) s.bytes is) small
 same_field origin field a b octets s (name {labels = labels} plain is short) = name (sym s.quoted ∙ plain) (subst (λ (t : List ℕ). SpellsName origin t labels) s.bytes is) short
 same_field origin field a b octets s (string is) = string (same_string a b octets s is)

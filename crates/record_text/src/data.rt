@@ -5,6 +5,7 @@ mod fields;
 mod forms;
 mod hashes;
 mod hex_groups;
+mod mnemonics;
 mod moment;
 pub(crate) mod rest;
 pub(crate) mod table;
