@@ -17,9 +17,10 @@ use Rattle.record_text.specs.RecordText.AreFields.{none as no_fields, more as on
 use Rattle.record_text.specs.RecordText.AreStrings.{none as no_words, more as one_string}
 use Rattle.record_text.specs.RecordText.AreTypes.{none as no_names, more as one_type}
 use Rattle.record_text.specs.RecordText.IsData.{in_form as of_row}
-use Rattle.record_text.specs.RecordText.IsRest.{nothing, strings, hex, base64, types}
+use Rattle.record_text.specs.RecordText.IsRest.{nothing, strings, hex, base64, types, service}
 use Rattle.record_text.specs.RecordText.SpellsData.{in_form, generic}
 use Rattle.record_text.specs.TypeTable.{TypeRow}
+use Rattle.service_text.specs.ServiceText.{ParametersOfWords}
 use Rattle.text_words.specs.declared.words.Word.{Word}
 use Rattle.text_words.specs.Spelling.{IsNumber, IsString, Spells, SpellsName, SpellsTime, any_byte}
 use Rattle.text_words.specs.Words.{AreSameWords, SameWord}
@@ -130,29 +131,31 @@ not_nil [] others h some e = some refl
 not_nil (w ∷ words) [] h some e = absurd h
 not_nil (w ∷ words) (o ∷ others) h some e = absurd (cc)
 
-same_rest : {rest : Rest} {words : List Word} {octets : List ℕ} → IsRest rest words octets → (others : List Word) → AreSameWords words others → IsRest rest others octets
-same_rest {rest = rest} nothing others h = subst (λ (ws : List Word). IsRest rest ws []) (none_left others h) nothing
-same_rest {words = words} (strings some are) others h = strings (not_nil words others h some) (same_strings are others h)
-same_rest {words = words} (hex {octets = octets} some plain is) others h = hex (not_nil words others h some) (same_plain words others h plain) (subst (λ (t : List ℕ). decode_of t ≡ Ok octets) (same_bytes words others h) is)
-same_rest {words = words} (base64 some plain bytes is) others h = base64 (not_nil words others h some) (same_plain words others h plain) bytes (sym (same_bytes words others h) ∙ is)
-same_rest (types is) others h = types (record { types = is.types; spelled = same_types is.spelled others h; written = is.written })
+module _ (service_same : ParametersOfWords) where
+  same_rest : {rest : Rest} {words : List Word} {octets : List ℕ} → IsRest rest words octets → (others : List Word) → AreSameWords words others → IsRest rest others octets
+  same_rest {rest = rest} nothing others h = subst (λ (ws : List Word). IsRest rest ws []) (none_left others h) nothing
+  same_rest {words = words} (strings some are) others h = strings (not_nil words others h some) (same_strings are others h)
+  same_rest {words = words} (hex {octets = octets} some plain is) others h = hex (not_nil words others h some) (same_plain words others h plain) (subst (λ (t : List ℕ). decode_of t ≡ Ok octets) (same_bytes words others h) is)
+  same_rest {words = words} (base64 some plain bytes is) others h = base64 (not_nil words others h some) (same_plain words others h plain) bytes (sym (same_bytes words others h) ∙ is)
+  same_rest (types is) others h = types (record { types = is.types; spelled = same_types is.spelled others h; written = is.written })
+  same_rest (service {words = words} is) others h = service (service_same words others _ is h)
 
-same_row : (origin : Option DomainName) (row : TypeRow) (words : List Word) (octets : List ℕ) → IsRow origin row words octets → (others : List Word) → AreSameWords words others → IsRow origin row others octets
-same_row origin row words octets is others h =
-    let parts : Cut is.front is.behind others = cut is.front is.behind others (subst (λ (ws : List Word). AreSameWords ws others) is.in_order h) in
-    record {
-      front = parts.first;
-      behind = parts.last;
-      front_octets = is.front_octets;
-      behind_octets = is.behind_octets;
-      in_order = parts.whole;
-      together = is.together;
-      fields = same_fields is.fields parts.first parts.firsts;
-      rest = same_rest is.rest parts.last parts.lasts;
-    }
+  same_row : (origin : Option DomainName) (row : TypeRow) (words : List Word) (octets : List ℕ) → IsRow origin row words octets → (others : List Word) → AreSameWords words others → IsRow origin row others octets
+  same_row origin row words octets is others h =
+      let parts : Cut is.front is.behind others = cut is.front is.behind others (subst (λ (ws : List Word). AreSameWords ws others) is.in_order h) in
+      record {
+        front = parts.first;
+        behind = parts.last;
+        front_octets = is.front_octets;
+        behind_octets = is.behind_octets;
+        in_order = parts.whole;
+        together = is.together;
+        fields = same_fields is.fields parts.first parts.firsts;
+        rest = same_rest is.rest parts.last parts.lasts;
+      }
 
-pub same_data : (origin : Option DomainName) (number : ℕ) (words : List Word) (octets : List ℕ) → IsData origin number words octets → (others : List Word) → AreSameWords words others → IsData origin number others octets
-same_data origin number words octets (of_row {row = row} found is) others h = of_row found (same_row origin row words octets is others h)
+  pub same_data : (origin : Option DomainName) (number : ℕ) (words : List Word) (octets : List ℕ) → IsData origin number words octets → (others : List Word) → AreSameWords words others → IsData origin number others octets
+  same_data origin number words octets (of_row {row = row} found is) others h = of_row found (same_row origin row words octets is others h)
 
 begins : (words others : List Word) → AreSameWords words others → BeginGeneric others → BeginGeneric words
 begins words [] h begin = absurd begin
@@ -174,9 +177,9 @@ same_generic number size other digits others rdata s h is = record {
   in_full = is.in_full;
 }
 
-pub same_spelled : (origin : Option DomainName) (number : ℕ) (words : List Word) (rdata : RData) → SpellsData origin number words rdata → (others : List Word) → AreSameWords words others → SpellsData origin number others rdata
-same_spelled origin number words rdata (in_form other is short) others h = in_form (λ begin. other (begins words others h begin)) (same_data origin number words _ is others h) short
-same_spelled origin number words rdata (generic {mark = mark} {size = size} {digits = digits} plain is written) [] h = absurd h
-same_spelled origin number words rdata (generic {mark = mark} {size = size} {digits = digits} plain is written) (o ∷ []) h = absurd h.1
-same_spelled origin number words rdata (generic {mark = mark} {size = size} {digits = digits} plain is written) (o ∷ p ∷ others) h =
+pub same_spelled : ParametersOfWords → (origin : Option DomainName) (number : ℕ) (words : List Word) (rdata : RData) → SpellsData origin number words rdata → (others : List Word) → AreSameWords words others → SpellsData origin number others rdata
+same_spelled same_parameters origin number words rdata (in_form other is short) others h = in_form (λ begin. other (begins words others h begin)) (same_data same_parameters origin number words _ is others h) short
+same_spelled same_parameters origin number words rdata (generic {mark = mark} {size = size} {digits = digits} plain is written) [] h = absurd h
+same_spelled same_parameters origin number words rdata (generic {mark = mark} {size = size} {digits = digits} plain is written) (o ∷ []) h = absurd h.1
+same_spelled same_parameters origin number words rdata (generic {mark = mark} {size = size} {digits = digits} plain is written) (o ∷ p ∷ others) h =
     generic (sym h.0.quoted ∙ plain) (sym h.0.bytes ∙ is) (same_generic number size p digits others rdata h.1.0 h.1.1 written)

@@ -25,6 +25,7 @@ use Rattle.record_text.specs.Mnemonics.{NamedNumber, mnemonics}
 use Rattle.record_text.specs.declared.data.field.Rest.{Rest}
 use Rattle.record_text.specs.declared.data.field.Rest.TheVariants as rest
 use Rattle.record_text.specs.declared.data.field.Row.{Row}
+use Rattle.service_text.specs.ServiceText.{AreServiceParameters}
 use Rattle.text_words.specs.declared.words.TextKind.{TextKind}
 use Rattle.text_words.specs.declared.words.Word.{Word}
 use Rattle.record_text.specs.Moments.{SpellsMoment}
@@ -131,13 +132,14 @@ abbrev pub ArePlain : List Word → Type 0
 ArePlain words = All (λ word. word.quoted ≡ false) words
 
 -- What the words behind the fields stand for: none is left; character strings; hexadecimal digits; the encoding of octets in
--- base 64; or a set of types.
+-- base 64; a set of types; or the parameters of a service.
 pub data IsRest : Rest → List Word → List ℕ → Type 0 where
   nothing : IsRest rest.Nothing [] []
   strings : {words : List Word} {octets : List ℕ} → words ≢ [] → AreStrings words octets → IsRest rest.Strings words octets
   hex : {words : List Word} {octets : List ℕ} → words ≢ [] → ArePlain words → decode_of (bytes_of words) ≡ Ok octets → IsRest rest.Hex words octets
   base64 : {words : List Word} {octets : List ℕ} → words ≢ [] → ArePlain words → IsBytes octets → bytes_of words ≡ encode_of standard octets → IsRest rest.Base64 words octets
   types : {words : List Word} {octets : List ℕ} → IsTypeSet words octets → IsRest rest.Types words octets
+  service : {words : List Word} {octets : List ℕ} → AreServiceParameters words octets → IsRest rest.ServiceParameters words octets
 
 -- words for the data of a row: its fields, and what stands behind them
 pub record IsRow (origin : Option DomainName) (row : TypeRow) (words : List Word) (octets : List ℕ) : Type 0 where

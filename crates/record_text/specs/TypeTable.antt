@@ -4,7 +4,7 @@ use Rattle.record_text.specs.declared.data.field.Field.{Field}
 use Rattle.record_text.specs.declared.data.field.Field.TheVariants.{Number8, Number16, Number32, Named8, Named16, Time, Name, String, Text, Ipv4, Ipv6, RecordType, Moment, Salt, Hash, Eui48, Eui64, Locator64}
 use Rattle.record_text.specs.declared.data.field.Names.TheVariants.{Algorithms, Certificates, Digests}
 use Rattle.record_text.specs.declared.data.field.Rest.{Rest}
-use Rattle.record_text.specs.declared.data.field.Rest.TheVariants.{Nothing, Strings, Hex, Base64, Types, Generic}
+use Rattle.record_text.specs.declared.data.field.Rest.TheVariants.{Nothing, Strings, Hex, Base64, Types, ServiceParameters, Generic}
 
 -- A type: its number, its mnemonic, the fields that its data begin with, each of one word, and what all words behind them stand for.
 pub record TypeRow : Type 0 where
@@ -68,6 +68,8 @@ rows =
     ∷ row 61 (codes "OPENPGPKEY") [] Base64  -- RFC 7929 section 2.3
     ∷ row 62 (codes "CSYNC") (Number32 ∷ Number16 ∷ []) Types  -- RFC 7477 section 2.1
     ∷ row 63 (codes "ZONEMD") (Number32 ∷ Number8 ∷ Number8 ∷ []) Hex  -- RFC 8976 section 2.3
+    ∷ row 64 (codes "SVCB") (Number16 ∷ Name ∷ []) ServiceParameters  -- RFC 9460 section 2.1
+    ∷ row 65 (codes "HTTPS") (Number16 ∷ Name ∷ []) ServiceParameters  -- RFC 9460 section 9
     ∷ row 99 (codes "SPF") [] Strings  -- RFC 4408 section 3.1.1
     ∷ row 104 (codes "NID") (Number16 ∷ Locator64 ∷ []) Nothing  -- RFC 6742 section 2.1
     ∷ row 105 (codes "L32") (Number16 ∷ Ipv4 ∷ []) Nothing  -- RFC 6742 section 2.2

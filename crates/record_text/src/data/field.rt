@@ -65,6 +65,8 @@ pub(crate) enum Rest {
     Base64,
     /// A set of types (RFC 4034 section 4.1.2).
     Types,
+    /// The parameters of a service (RFC 9460 section 2.1).
+    ServiceParameters,
     /// Bytes in the form that is one for all types, which is the only one of the type (RFC 3597 section 5).
     Generic,
 }

@@ -10,7 +10,7 @@ use hickory_wire::RecordType;
 use text_words::{TextError, TextFault, Word, number_of_digits};
 
 /// The types by their numbers (RFC 1035 section 3.2.2, IANA's registry).
-static ROWS: [Row; 67] = [
+static ROWS: [Row; 69] = [
     Row {
         number: 1,
         mnemonic: "A",
@@ -372,6 +372,18 @@ static ROWS: [Row; 67] = [
         mnemonic: "ZONEMD",
         fields: &[Field::Number32, Field::Number8, Field::Number8],
         rest: Rest::Hex,
+    },
+    Row {
+        number: 64,
+        mnemonic: "SVCB",
+        fields: &[Field::Number16, Field::Name],
+        rest: Rest::ServiceParameters,
+    },
+    Row {
+        number: 65,
+        mnemonic: "HTTPS",
+        fields: &[Field::Number16, Field::Name],
+        rest: Rest::ServiceParameters,
     },
     Row {
         number: 99,
