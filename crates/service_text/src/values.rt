@@ -35,8 +35,11 @@ fn spelled(alloc: Global, word: &Word<'_>, text: &[u8]) -> Result<Vec<u8>, TextE
         quoted: false,
     };
     let mut bytes = Vec::new(alloc);
-    put_spelled(&part, &mut bytes)?;
-    Ok(bytes)
+    match put_spelled(&part, &mut bytes) {
+        Ok(()) => Ok(bytes),
+        Err(TextError::Memory) => Err(TextError::Memory),
+        Err(_) => Err(word.fault(TextFault::BadEscape)),
+    }
 }
 
 /// A value that lists no keys.
