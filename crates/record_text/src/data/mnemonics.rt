@@ -195,7 +195,9 @@ fn number_called(table: &[Mnemonic], letters: &[u8]) -> Option<u8>
     ensures named { IfSome result (λ number. Any (λ m. (m.number ≡ number) × SameLetters m.letters.now letters.now) table.now) }
     ensures none { IfNone result (HasNone (λ number. Any (λ m. (m.number ≡ number) × SameLetters m.letters.now letters.now) table.now)) }
 {
-    let found = table.iter().find(|m| m.letters.as_bytes().eq_ignore_ascii_case(letters))?;
+    let found = table
+        .iter()
+        .find(|m| m.letters.as_bytes().eq_ignore_ascii_case(letters))?;
     Some(found.number)
 }
 
@@ -208,11 +210,7 @@ fn number_named(names: Names, letters: &[u8]) -> Option<u8>
 }
 
 /// Puts a number of 8 bits behind other bytes, or that of a mnemonic.
-pub(crate) fn put_named8(
-    names: Names,
-    word: &Word<'_>,
-    data: &mut Vec<u8>,
-) -> Result<(), TextError>
+pub(crate) fn put_named8(names: Names, word: &Word<'_>, data: &mut Vec<u8>) -> Result<(), TextError>
     ensures put { OnOk result ((origin : Option DomainName) → Puts (IsField origin (field.Named8 names) word.now) «data».old.items «data».new.items) }
     ensures refused { IfErr result (λ e. e ≢ Memory → (origin : Option DomainName) → HasNone (IsField origin (field.Named8 names) word.now)) }
 {

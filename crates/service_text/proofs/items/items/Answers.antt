@@ -1,4 +1,4 @@
-use Rattle.std.proofs.Common.{◌<◌, ◌+◌, ◌-◌, ℕ, false, List, [], length, take, drop, arith}
+use Rattle.std.proofs.Common.{◌<◌, ◌+◌, ◌-◌, ℕ, false, List, length, take, drop, arith}
 use Rattle.std.proofs.lemmas.Result.{err_from_is_err_and}
 use Rattle.service_text.specs.ServiceText.{list_items}
 use Rattle.service_text.proofs.ItemSteps.{item_last, item_none, item_refused, item_step, some_item}

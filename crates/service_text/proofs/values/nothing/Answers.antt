@@ -1,4 +1,4 @@
-use Rattle.std.proofs.Common.{◌≡◌, ◌≤◌, ◌<◌, ℕ, List, [], ◌∷◌, length, sym, subst, refl, arith}
+use Rattle.std.proofs.Common.{◌≤◌, ◌<◌, ℕ, List, [], ◌∷◌, length, arith}
 use Rattle.service_text.specs.declared.kinds.ValueKind.TheVariants as value
 use Rattle.service_text.specs.ServiceText.{HasNone, IsValue}
 use Rattle.service_text.specs.ServiceText.IsValue.{nothing}

@@ -1,11 +1,8 @@
-use Rattle.std.proofs.Common.{◌≡◌, ◌<◌, ◌^◌, ℕ, false, List, [], length, arith}
+use Rattle.std.proofs.Common.{◌<◌, ◌^◌, ℕ, List}
 use Rattle.std.proofs.lemmas.Result.{err_from_is_err_and}
-use Rattle.base64.specs.Engines.{standard}
-use Rattle.base64.specs.GeneralPurpose.{IsBytes, encode_of}
-use Rattle.text_words.specs.Spelling.{IsNumber, Spells, any_byte}
-use Rattle.service_text.specs.declared.kinds.ItemKind.TheVariants as item
+use Rattle.text_words.specs.Spelling.{IsNumber}
 use Rattle.service_text.specs.declared.kinds.ValueKind.TheVariants as value
-use Rattle.service_text.specs.ServiceText.{AreItems, HasNone, IsValue, list_items}
+use Rattle.service_text.specs.ServiceText.{HasNone, IsValue}
 use Rattle.service_text.specs.ServiceText.IsValue.{number16}
 use Rattle.service_text.proofs.values.number16.Goals as goal
 
