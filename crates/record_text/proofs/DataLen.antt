@@ -13,6 +13,7 @@ use Rattle.wire_messages.specs.serialize.writing.RecordSize.{data_len, full_size
 use Rattle.record_text.specs.RecordText.{HasNone, IsData}
 use Rattle.record_text.proofs.OneLength.{Base64Once, data_length}
 use Rattle.record_text.proofs.TypesOnce.{types_once}
+use Rattle.service_text.specs.ServiceText.{ParametersOnce}
 use Rattle.text_words.specs.declared.words.Word.{Word}
 use Rattle.text_words.specs.Spelling.{BytesSpelledOnce, NamesSpelledOnce, StringsSpelledOnce}
 
@@ -39,8 +40,8 @@ base64_once a b one two same =
     cc
 
 -- Words that are data of more bytes than their length can tell are no shorter data.
-pub too_long : FullSizes → BytesSpelledOnce → StringsSpelledOnce → NamesSpelledOnce → (origin : Option DomainName) (number : ℕ) (words : List Word) (rdata : RData) → IsData origin number words (data_octets rdata) → 65535 < data_len rdata
+pub too_long : FullSizes → BytesSpelledOnce → StringsSpelledOnce → NamesSpelledOnce → ParametersOnce → (origin : Option DomainName) (number : ℕ) (words : List Word) (rdata : RData) → IsData origin number words (data_octets rdata) → 65535 < data_len rdata
     → HasNone (λ (other : RData). IsData origin number words (data_octets other) × (data_len other ≤ 65535))
-too_long sizes bytes strings names origin number words rdata is long other (is', short) =
-    let same : length (data_octets rdata) ≡ length (data_octets other) = data_length bytes strings names types_once base64_once origin number words (data_octets rdata) (data_octets other) is is' in
+too_long sizes bytes strings names service origin number words rdata is long other (is', short) =
+    let same : length (data_octets rdata) ≡ length (data_octets other) = data_length bytes strings names types_once service base64_once origin number words (data_octets rdata) (data_octets other) is is' in
     omega (arith, same, full_len sizes rdata, full_len sizes other, long, short)

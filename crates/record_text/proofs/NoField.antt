@@ -5,13 +5,15 @@ use Rattle.std.specs.Net.Grammar.{IsIpv4Text, IsIpv6Text}
 use Rattle.std.specs.declared.net.ipv4_addr.Ipv4Addr.{Ipv4Addr}
 use Rattle.std.specs.declared.net.ipv6_addr.Ipv6Addr.{Ipv6Addr}
 use Rattle.hex.specs.Hex.{decode_of}
+use Rattle.std.specs.Int.{w16, to_be_bytes}
 use Rattle.wire_names.specs.rr.domain.DomainName.{DomainName, name_len}
 use Rattle.record_text.specs.declared.data.field.Field.TheVariants as field
+use Rattle.record_text.specs.declared.data.field.Names.{Names}
 use Rattle.record_text.specs.declared.data.hex_groups.Group.TheVariants as group
 use Rattle.record_text.specs.Groups.{SpellsGroups, SpellsHexGroups}
 use Rattle.record_text.specs.Moments.{SpellsMoment}
-use Rattle.record_text.specs.RecordText.{HasNone, IsField, SpellsType}
-use Rattle.record_text.specs.RecordText.IsField.{number8, number16, number32, time, name, string, text, ipv4, ipv6, type, moment, no_salt, salt, hash, eui48, eui64, locator64}
+use Rattle.record_text.specs.RecordText.{HasNone, IsField, IsNamed, SpellsType}
+use Rattle.record_text.specs.RecordText.IsField.{number8, number16, number32, named8, unnamed8, named16, unnamed16, time, name, string, text, ipv4, ipv6, type, moment, no_salt, salt, hash, eui48, eui64, locator64}
 use Rattle.text_words.specs.declared.words.Word.{Word}
 use Rattle.text_words.specs.Spelling.{IsNumber, IsString, Spells, SpellsName, SpellsTime, any_byte}
 
@@ -23,6 +25,22 @@ no_number16 w none origin octets (number16 {n = n} plain is small) = none n (pla
 
 pub no_number32 : (w : Word) → ((n : ℕ) → w.quoted ≡ false → IsNumber w.bytes.now n → n < 2 ^ 32 → ⊥) → (origin : Option DomainName) → HasNone (IsField origin field.Number32 w)
 no_number32 w none origin octets (number32 {n = n} plain is small) = none n plain is small
+
+pub no_named8 : (names : Names) (w : Word) → HasNone (IsNamed names w.bytes.now) → ((origin : Option DomainName) → HasNone (IsField origin field.Number8 w)) → (origin : Option DomainName) → HasNone (IsField origin (field.Named8 names) w)
+no_named8 names w none other origin octets (named8 {n = n} plain is) = none n is
+no_named8 names w none other origin octets (unnamed8 {n = n} plain is small) = other origin (n ∷ []) (number8 plain is small)
+
+pub plain_named8 : (names : Names) (w : Word) (origin : Option DomainName) (octets : List ℕ) → IsField origin (field.Named8 names) w octets → w.quoted ≡ false
+plain_named8 names w origin octets (named8 plain is) = plain
+plain_named8 names w origin octets (unnamed8 plain is small) = plain
+
+pub no_named16 : (names : Names) (w : Word) → HasNone (IsNamed names w.bytes.now) → ((origin : Option DomainName) → HasNone (IsField origin field.Number16 w)) → (origin : Option DomainName) → HasNone (IsField origin (field.Named16 names) w)
+no_named16 names w none other origin octets (named16 {n = n} plain is) = none n is
+no_named16 names w none other origin octets (unnamed16 {n = n} plain is small) = other origin (to_be_bytes w16 n) (number16 plain is small)
+
+pub plain_named16 : (names : Names) (w : Word) (origin : Option DomainName) (octets : List ℕ) → IsField origin (field.Named16 names) w octets → w.quoted ≡ false
+plain_named16 names w origin octets (named16 plain is) = plain
+plain_named16 names w origin octets (unnamed16 plain is small) = plain
 
 pub no_time : (w : Word) → ((n : ℕ) → w.quoted ≡ false → SpellsTime w.bytes.now n → n < 2 ^ 32 → ⊥) → (origin : Option DomainName) → HasNone (IsField origin field.Time w)
 no_time w none origin octets (time {n = n} plain is small) = none n plain is small

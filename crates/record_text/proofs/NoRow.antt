@@ -10,6 +10,7 @@ use Rattle.wire_names.specs.rr.domain.DomainName.{DomainName}
 use Rattle.record_text.specs.declared.data.field.Field.{Field}
 use Rattle.record_text.specs.declared.data.field.Rest.{Rest}
 use Rattle.record_text.specs.declared.data.field.Rest.TheVariants as kind
+use Rattle.service_text.specs.ServiceText.{AreServiceParameters}
 use Rattle.text_words.specs.declared.words.Word.{Word}
 use Rattle.text_words.specs.Spelling.{IsString}
 use Rattle.record_text.specs.RecordText.{AreFields, AreFieldsBefore, ArePlain, AreStrings, AreTypes, HasNone, IsData, IsField, IsRest, IsRow, IsTypeSet, SpellsType, bytes_of}
@@ -17,7 +18,7 @@ use Rattle.record_text.specs.RecordText.AreFields.{none as no_fields, more as on
 use Rattle.record_text.specs.RecordText.AreStrings.{none as no_words, more as one_string}
 use Rattle.record_text.specs.RecordText.AreTypes.{none as no_names, more as one_type}
 use Rattle.record_text.specs.RecordText.IsData.{in_form}
-use Rattle.record_text.specs.RecordText.IsRest.{nothing, strings, hex, base64, types}
+use Rattle.record_text.specs.RecordText.IsRest.{nothing, strings, hex, base64, types, service}
 use Rattle.record_text.specs.TypeTable.{TypeRow, row_of}
 
 pub fields_len : {origin : Option DomainName} {fields : List Field} {words : List Word} {octets : List ℕ} → AreFields origin fields words octets → length words ≡ length fields
@@ -117,13 +118,17 @@ no_base64 words none octets (base64 some plain bytes is) = none octets (plain, b
 pub no_types : (words : List Word) → HasNone (IsTypeSet words) → HasNone (IsRest kind.Types words)
 no_types words none octets (types is) = none octets is
 
--- words stand behind the fields, but where nothing or types do
-pub some_words : {rest : Rest} {words : List Word} {octets : List ℕ} → IsRest rest words octets → rest ≢ kind.Nothing → rest ≢ kind.Types → words ≢ []
-some_words nothing other than = absurd (other refl)
-some_words (strings some are) other than = some
-some_words (hex some plain is) other than = some
-some_words (base64 some plain bytes is) other than = some
-some_words (types is) other than = absurd (than refl)
+pub no_service : (words : List Word) → HasNone (AreServiceParameters words) → HasNone (IsRest kind.ServiceParameters words)
+no_service words none octets (service is) = none octets is
+
+-- words stand behind the fields, but where nothing, types or parameters do
+pub some_words : {rest : Rest} {words : List Word} {octets : List ℕ} → IsRest rest words octets → rest ≢ kind.Nothing → rest ≢ kind.Types → rest ≢ kind.ServiceParameters → words ≢ []
+some_words nothing other than nor = absurd (other refl)
+some_words (strings some are) other than nor = some
+some_words (hex some plain is) other than nor = some
+some_words (base64 some plain bytes is) other than nor = some
+some_words (types is) other than nor = absurd (than refl)
+some_words (service is) other than nor = absurd (nor refl)
 
 -- no words stand there in a form of the type, where it has none
 pub not_generic : {rest : Rest} {words : List Word} {octets : List ℕ} → IsRest rest words octets → rest ≢ kind.Generic
@@ -132,6 +137,7 @@ not_generic (strings some are) e = absurd (cc)
 not_generic (hex some plain is) e = absurd (cc)
 not_generic (base64 some plain bytes is) e = absurd (cc)
 not_generic (types is) e = absurd (cc)
+not_generic (service is) e = absurd (cc)
 
 -- words of which one stands for nothing of its field
 pub no_field : (origin : Option DomainName) (number : ℕ) (row : TypeRow) (words : List Word) (i : ℕ) (e : Field) (d : Word) → row_of number ≡ Some row → i < length row.fields → HasNone (IsField origin (get_or row.fields i e) (get_or words i d))

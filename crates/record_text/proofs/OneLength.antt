@@ -19,16 +19,17 @@ use Rattle.record_text.specs.Groups.{IsGroup, SpellsHexGroups}
 use Rattle.record_text.specs.Groups.IsGroup.{octet, bits16}
 use Rattle.record_text.specs.Groups.SpellsHexGroups.{first, more as one_group}
 use Rattle.record_text.specs.RecordText.{AreFields, AreStrings, AreTypes, IsData, IsField, IsRest, IsRow, SpellsType, bytes_of}
-use Rattle.record_text.specs.RecordText.IsField.{number8, number16, number32, time, name, string, text, ipv4, ipv6, type, moment, no_salt, salt, hash, eui48, eui64, locator64}
+use Rattle.record_text.specs.RecordText.IsField.{number8, number16, number32, named8, unnamed8, named16, unnamed16, time, name, string, text, ipv4, ipv6, type, moment, no_salt, salt, hash, eui48, eui64, locator64}
 use Rattle.record_text.specs.RecordText.AreFields.{none as no_fields, more as one_field}
 use Rattle.record_text.specs.RecordText.AreStrings.{none as no_words, more as one_string}
 use Rattle.record_text.specs.RecordText.AreTypes.{none as no_names, more as one_type}
 use Rattle.record_text.specs.RecordText.IsData.{in_form}
-use Rattle.record_text.specs.RecordText.IsRest.{nothing, strings, hex, base64, types}
+use Rattle.record_text.specs.RecordText.IsRest.{nothing, strings, hex, base64, types, service}
 use Rattle.record_text.specs.TypeBitmaps.{windows}
 use Rattle.record_text.specs.TypeTable.{TypeRow}
 use Rattle.record_text.proofs.Digits.{group_octets}
 use Rattle.record_text.proofs.NoRow.{fields_len}
+use Rattle.service_text.specs.ServiceText.{ParametersOnce}
 use Rattle.text_words.specs.declared.words.Word.{Word}
 use Rattle.text_words.specs.Spelling.{BytesSpelledOnce, IsString, NamesSpelledOnce, StringsSpelledOnce}
 
@@ -61,11 +62,19 @@ TypesOnce = (word : List ℕ) (n m : ℕ) → SpellsType word n → SpellsType w
 abbrev pub Base64Once : Type 0
 Base64Once = (a b : List ℕ) → IsBytes a → IsBytes b → encode_of standard a ≡ encode_of standard b → a ≡ b
 
-module _ (bytes_once : BytesSpelledOnce) (strings_once : StringsSpelledOnce) (names_once : NamesSpelledOnce) (types_once : TypesOnce) where
+module _ (bytes_once : BytesSpelledOnce) (strings_once : StringsSpelledOnce) (names_once : NamesSpelledOnce) (types_once : TypesOnce) (service_once : ParametersOnce) where
   field_len : (origin : Option DomainName) (field : Field) (w : Word) (a b : List ℕ) → IsField origin field w a → IsField origin field w b → length a ≡ length b
   field_len origin field w a b (number8 p i s) (number8 q j t) = refl
   field_len origin field w a b (number16 p i s) (number16 q j t) = refl
   field_len origin field w a b (number32 p i s) (number32 q j t) = refl
+  field_len origin field w a b (named8 p i) (named8 q j) = refl
+  field_len origin field w a b (named8 p i) (unnamed8 q j t) = refl
+  field_len origin field w a b (unnamed8 p i s) (named8 q j) = refl
+  field_len origin field w a b (unnamed8 p i s) (unnamed8 q j t) = refl
+  field_len origin field w a b (named16 p i) (named16 q j) = refl
+  field_len origin field w a b (named16 p i) (unnamed16 q j t) = refl
+  field_len origin field w a b (unnamed16 p i s) (named16 q j) = refl
+  field_len origin field w a b (unnamed16 p i s) (unnamed16 q j t) = refl
   field_len origin field w a b (time p i s) (time q j t) = refl
   field_len origin field w a b (name {labels = ls} p i s) (name {labels = ms} q j t) = ap (λ (l : List (List ℕ)). length (name_octets l)) (names_once origin w.bytes.now ls ms i j)
   field_len origin field w a b (string i) (string j) = ap length (strings_once w a b i j)
@@ -125,6 +134,7 @@ module _ (bytes_once : BytesSpelledOnce) (strings_once : StringsSpelledOnce) (na
   rest_len base64_once rest words a b (hex some plain is) (hex some' plain' is') = ap length (decoded_once (decode_of (bytes_of words)) a b is is')
   rest_len base64_once rest words a b (base64 some plain bytes is) (base64 some' plain' bytes' is') = ap length (base64_once a b bytes bytes' (sym is ∙ is'))
   rest_len base64_once rest words a b (types is) (types is') = ap length (is.written ∙ ap (λ (ts : List ℕ). windows ts 256) (types_one is.spelled is'.spelled refl) ∙ sym is'.written)
+  rest_len base64_once rest words a b (service is) (service is') = ap length (service_once words a b is is')
 
   row_len : (base64_once : Base64Once) (origin : Option DomainName) (row : TypeRow) (words : List Word) (a b : List ℕ) → IsRow origin row words a → IsRow origin row words b → length a ≡ length b
   row_len base64_once origin row words a b one two =

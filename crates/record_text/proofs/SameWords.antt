@@ -11,15 +11,16 @@ use Rattle.record_text.specs.declared.data.field.Rest.{Rest}
 use Rattle.record_text.specs.declared.data.hex_groups.Group.TheVariants as group
 use Rattle.record_text.specs.Groups.{SpellsGroups, SpellsHexGroups}
 use Rattle.record_text.specs.Moments.{SpellsMoment}
-use Rattle.record_text.specs.RecordText.{AreFields, ArePlain, AreStrings, AreTypes, BeginGeneric, IsData, IsField, IsGenericData, IsRest, IsRow, SpellsData, SpellsType, bytes_of}
-use Rattle.record_text.specs.RecordText.IsField.{number8, number16, number32, time, name, string, text, ipv4, ipv6, type, moment, no_salt, salt, hash, eui48, eui64, locator64}
+use Rattle.record_text.specs.RecordText.{AreFields, ArePlain, AreStrings, AreTypes, BeginGeneric, IsData, IsField, IsGenericData, IsNamed, IsRest, IsRow, SpellsData, SpellsType, bytes_of}
+use Rattle.record_text.specs.RecordText.IsField.{number8, number16, number32, named8, unnamed8, named16, unnamed16, time, name, string, text, ipv4, ipv6, type, moment, no_salt, salt, hash, eui48, eui64, locator64}
 use Rattle.record_text.specs.RecordText.AreFields.{none as no_fields, more as one_field}
 use Rattle.record_text.specs.RecordText.AreStrings.{none as no_words, more as one_string}
 use Rattle.record_text.specs.RecordText.AreTypes.{none as no_names, more as one_type}
 use Rattle.record_text.specs.RecordText.IsData.{in_form as of_row}
-use Rattle.record_text.specs.RecordText.IsRest.{nothing, strings, hex, base64, types}
+use Rattle.record_text.specs.RecordText.IsRest.{nothing, strings, hex, base64, types, service}
 use Rattle.record_text.specs.RecordText.SpellsData.{in_form, generic}
 use Rattle.record_text.specs.TypeTable.{TypeRow}
+use Rattle.service_text.specs.ServiceText.{ParametersOfWords}
 use Rattle.text_words.specs.declared.words.Word.{Word}
 use Rattle.text_words.specs.Spelling.{IsNumber, IsString, Spells, SpellsName, SpellsTime, any_byte}
 use Rattle.text_words.specs.Words.{AreSameWords, SameWord}
@@ -36,6 +37,10 @@ pub same_field : (origin : Option DomainName) (field : Field) (a b : Word) (octe
 same_field origin field a b octets s (number8 {n = n} plain is small) = number8 (sym s.quoted ∙ plain) (subst (λ (t : List ℕ). IsNumber t n) s.bytes is) small
 same_field origin field a b octets s (number16 {n = n} plain is small) = number16 (sym s.quoted ∙ plain) (subst (λ (t : List ℕ). IsNumber t n) s.bytes is) small
 same_field origin field a b octets s (number32 {n = n} plain is small) = number32 (sym s.quoted ∙ plain) (subst (λ (t : List ℕ). IsNumber t n) s.bytes is) small
+same_field origin field a b octets s (named8 {names = names} {n = n} plain is) = named8 (sym s.quoted ∙ plain) (subst (λ (t : List ℕ). IsNamed names t n) s.bytes is)
+same_field origin field a b octets s (unnamed8 {n = n} plain is small) = unnamed8 (sym s.quoted ∙ plain) (subst (λ (t : List ℕ). IsNumber t n) s.bytes is) small
+same_field origin field a b octets s (named16 {names = names} {n = n} plain is) = named16 (sym s.quoted ∙ plain) (subst (λ (t : List ℕ). IsNamed names t n) s.bytes is)
+same_field origin field a b octets s (unnamed16 {n = n} plain is small) = unnamed16 (sym s.quoted ∙ plain) (subst (λ (t : List ℕ). IsNumber t n) s.bytes is) small
 same_field origin field a b octets s (time {n = n} plain is small) = time (sym s.quoted ∙ plain) (subst (λ (t : List ℕ). SpellsTime t n) s.bytes is) small
 same_field origin field a b octets s (name {labels = labels} plain is short) = name (sym s.quoted ∙ plain) (subst (λ (t : List ℕ). SpellsName origin t labels) s.bytes is) short
 same_field origin field a b octets s (string is) = string (same_string a b octets s is)
@@ -126,29 +131,31 @@ not_nil [] others h some e = some refl
 not_nil (w ∷ words) [] h some e = absurd h
 not_nil (w ∷ words) (o ∷ others) h some e = absurd (cc)
 
-same_rest : {rest : Rest} {words : List Word} {octets : List ℕ} → IsRest rest words octets → (others : List Word) → AreSameWords words others → IsRest rest others octets
-same_rest {rest = rest} nothing others h = subst (λ (ws : List Word). IsRest rest ws []) (none_left others h) nothing
-same_rest {words = words} (strings some are) others h = strings (not_nil words others h some) (same_strings are others h)
-same_rest {words = words} (hex {octets = octets} some plain is) others h = hex (not_nil words others h some) (same_plain words others h plain) (subst (λ (t : List ℕ). decode_of t ≡ Ok octets) (same_bytes words others h) is)
-same_rest {words = words} (base64 some plain bytes is) others h = base64 (not_nil words others h some) (same_plain words others h plain) bytes (sym (same_bytes words others h) ∙ is)
-same_rest (types is) others h = types (record { types = is.types; spelled = same_types is.spelled others h; written = is.written })
+module _ (service_same : ParametersOfWords) where
+  same_rest : {rest : Rest} {words : List Word} {octets : List ℕ} → IsRest rest words octets → (others : List Word) → AreSameWords words others → IsRest rest others octets
+  same_rest {rest = rest} nothing others h = subst (λ (ws : List Word). IsRest rest ws []) (none_left others h) nothing
+  same_rest {words = words} (strings some are) others h = strings (not_nil words others h some) (same_strings are others h)
+  same_rest {words = words} (hex {octets = octets} some plain is) others h = hex (not_nil words others h some) (same_plain words others h plain) (subst (λ (t : List ℕ). decode_of t ≡ Ok octets) (same_bytes words others h) is)
+  same_rest {words = words} (base64 some plain bytes is) others h = base64 (not_nil words others h some) (same_plain words others h plain) bytes (sym (same_bytes words others h) ∙ is)
+  same_rest (types is) others h = types (record { types = is.types; spelled = same_types is.spelled others h; written = is.written })
+  same_rest (service {words = words} is) others h = service (service_same words others _ is h)
 
-same_row : (origin : Option DomainName) (row : TypeRow) (words : List Word) (octets : List ℕ) → IsRow origin row words octets → (others : List Word) → AreSameWords words others → IsRow origin row others octets
-same_row origin row words octets is others h =
-    let parts : Cut is.front is.behind others = cut is.front is.behind others (subst (λ (ws : List Word). AreSameWords ws others) is.in_order h) in
-    record {
-      front = parts.first;
-      behind = parts.last;
-      front_octets = is.front_octets;
-      behind_octets = is.behind_octets;
-      in_order = parts.whole;
-      together = is.together;
-      fields = same_fields is.fields parts.first parts.firsts;
-      rest = same_rest is.rest parts.last parts.lasts;
-    }
+  same_row : (origin : Option DomainName) (row : TypeRow) (words : List Word) (octets : List ℕ) → IsRow origin row words octets → (others : List Word) → AreSameWords words others → IsRow origin row others octets
+  same_row origin row words octets is others h =
+      let parts : Cut is.front is.behind others = cut is.front is.behind others (subst (λ (ws : List Word). AreSameWords ws others) is.in_order h) in
+      record {
+        front = parts.first;
+        behind = parts.last;
+        front_octets = is.front_octets;
+        behind_octets = is.behind_octets;
+        in_order = parts.whole;
+        together = is.together;
+        fields = same_fields is.fields parts.first parts.firsts;
+        rest = same_rest is.rest parts.last parts.lasts;
+      }
 
-pub same_data : (origin : Option DomainName) (number : ℕ) (words : List Word) (octets : List ℕ) → IsData origin number words octets → (others : List Word) → AreSameWords words others → IsData origin number others octets
-same_data origin number words octets (of_row {row = row} found is) others h = of_row found (same_row origin row words octets is others h)
+  pub same_data : (origin : Option DomainName) (number : ℕ) (words : List Word) (octets : List ℕ) → IsData origin number words octets → (others : List Word) → AreSameWords words others → IsData origin number others octets
+  same_data origin number words octets (of_row {row = row} found is) others h = of_row found (same_row origin row words octets is others h)
 
 begins : (words others : List Word) → AreSameWords words others → BeginGeneric others → BeginGeneric words
 begins words [] h begin = absurd begin
@@ -170,9 +177,9 @@ same_generic number size other digits others rdata s h is = record {
   in_full = is.in_full;
 }
 
-pub same_spelled : (origin : Option DomainName) (number : ℕ) (words : List Word) (rdata : RData) → SpellsData origin number words rdata → (others : List Word) → AreSameWords words others → SpellsData origin number others rdata
-same_spelled origin number words rdata (in_form other is short) others h = in_form (λ begin. other (begins words others h begin)) (same_data origin number words _ is others h) short
-same_spelled origin number words rdata (generic {mark = mark} {size = size} {digits = digits} plain is written) [] h = absurd h
-same_spelled origin number words rdata (generic {mark = mark} {size = size} {digits = digits} plain is written) (o ∷ []) h = absurd h.1
-same_spelled origin number words rdata (generic {mark = mark} {size = size} {digits = digits} plain is written) (o ∷ p ∷ others) h =
+pub same_spelled : ParametersOfWords → (origin : Option DomainName) (number : ℕ) (words : List Word) (rdata : RData) → SpellsData origin number words rdata → (others : List Word) → AreSameWords words others → SpellsData origin number others rdata
+same_spelled same_parameters origin number words rdata (in_form other is short) others h = in_form (λ begin. other (begins words others h begin)) (same_data same_parameters origin number words _ is others h) short
+same_spelled same_parameters origin number words rdata (generic {mark = mark} {size = size} {digits = digits} plain is written) [] h = absurd h
+same_spelled same_parameters origin number words rdata (generic {mark = mark} {size = size} {digits = digits} plain is written) (o ∷ []) h = absurd h.1
+same_spelled same_parameters origin number words rdata (generic {mark = mark} {size = size} {digits = digits} plain is written) (o ∷ p ∷ others) h =
     generic (sym h.0.quoted ∙ plain) (sym h.0.bytes ∙ is) (same_generic number size p digits others rdata h.1.0 h.1.1 written)

@@ -1,4 +1,5 @@
 pub mod Groups
+pub mod Mnemonics
 pub mod Moments
 pub mod RecordText
 pub mod TypeBitmaps

@@ -19,9 +19,13 @@ use Rattle.wire_messages.specs.serialize.writing.FullForm.{data_octets, name_oct
 use Rattle.wire_messages.specs.serialize.writing.RecordSize.{data_len}
 use Rattle.record_text.specs.declared.data.field.Field.{Field}
 use Rattle.record_text.specs.declared.data.field.Field.TheVariants as field
+use Rattle.record_text.specs.declared.data.field.Names.{Names}
+use Rattle.record_text.specs.declared.data.mnemonics.Mnemonic.{Mnemonic}
+use Rattle.record_text.specs.Mnemonics.{NamedNumber, mnemonics}
 use Rattle.record_text.specs.declared.data.field.Rest.{Rest}
 use Rattle.record_text.specs.declared.data.field.Rest.TheVariants as rest
 use Rattle.record_text.specs.declared.data.field.Row.{Row}
+use Rattle.service_text.specs.ServiceText.{AreServiceParameters}
 use Rattle.text_words.specs.declared.words.TextKind.{TextKind}
 use Rattle.text_words.specs.declared.words.Word.{Word}
 use Rattle.record_text.specs.Moments.{SpellsMoment}
@@ -48,6 +52,14 @@ SameLetters a b = map to_ascii_lowercase a ≡ map to_ascii_lowercase b
 abbrev pub SpellsMnemonic : List ℕ → ℕ → Type 0
 SpellsMnemonic text number = Any (λ row. (row.number ≡ number) × SameLetters row.mnemonic text) rows
 
+-- a mnemonic of a number as the code has it
+abbrev pub mnemonic_view : Mnemonic → NamedNumber
+mnemonic_view m = record { number = m.number; letters = m.letters.now }
+
+-- a mnemonic of a number, in any letter case
+abbrev pub IsNamed : Names → List ℕ → ℕ → Type 0
+IsNamed names text number = Any (λ m. (m.number ≡ number) × SameLetters m.letters text) (mnemonics names)
+
 -- TYPE, in any letter case, and a number of 16 bits (RFC 3597 section 5)
 pub record IsTypeNumber (text : List ℕ) (number : ℕ) : Type 0 where
   pub front : List ℕ
@@ -67,6 +79,10 @@ pub data IsField (origin : Option DomainName) : Field → Word → List ℕ → 
   number8 : {w : Word} {n : ℕ} → w.quoted ≡ false → IsNumber w.bytes.now n → n < 2 ^ 8 → IsField origin field.Number8 w (n ∷ [])
   number16 : {w : Word} {n : ℕ} → w.quoted ≡ false → IsNumber w.bytes.now n → n < 2 ^ 16 → IsField origin field.Number16 w (to_be_bytes w16 n)
   number32 : {w : Word} {n : ℕ} → w.quoted ≡ false → IsNumber w.bytes.now n → n < 2 ^ 32 → IsField origin field.Number32 w (to_be_bytes w32 n)
+  named8 : {names : Names} {w : Word} {n : ℕ} → w.quoted ≡ false → IsNamed names w.bytes.now n → IsField origin (field.Named8 names) w (n ∷ [])
+  unnamed8 : {names : Names} {w : Word} {n : ℕ} → w.quoted ≡ false → IsNumber w.bytes.now n → n < 2 ^ 8 → IsField origin (field.Named8 names) w (n ∷ [])
+  named16 : {names : Names} {w : Word} {n : ℕ} → w.quoted ≡ false → IsNamed names w.bytes.now n → IsField origin (field.Named16 names) w (to_be_bytes w16 n)
+  unnamed16 : {names : Names} {w : Word} {n : ℕ} → w.quoted ≡ false → IsNumber w.bytes.now n → n < 2 ^ 16 → IsField origin (field.Named16 names) w (to_be_bytes w16 n)
   time : {w : Word} {n : ℕ} → w.quoted ≡ false → SpellsTime w.bytes.now n → n < 2 ^ 32 → IsField origin field.Time w (to_be_bytes w32 n)
   name : {w : Word} {labels : List (List ℕ)} → w.quoted ≡ false → SpellsName origin w.bytes.now labels → name_len labels ≤ 255 → IsField origin field.Name w (name_octets labels)
   string : {w : Word} {octets : List ℕ} → IsString w octets → IsField origin field.String w octets
@@ -116,13 +132,14 @@ abbrev pub ArePlain : List Word → Type 0
 ArePlain words = All (λ word. word.quoted ≡ false) words
 
 -- What the words behind the fields stand for: none is left; character strings; hexadecimal digits; the encoding of octets in
--- base 64; or a set of types.
+-- base 64; a set of types; or the parameters of a service.
 pub data IsRest : Rest → List Word → List ℕ → Type 0 where
   nothing : IsRest rest.Nothing [] []
   strings : {words : List Word} {octets : List ℕ} → words ≢ [] → AreStrings words octets → IsRest rest.Strings words octets
   hex : {words : List Word} {octets : List ℕ} → words ≢ [] → ArePlain words → decode_of (bytes_of words) ≡ Ok octets → IsRest rest.Hex words octets
   base64 : {words : List Word} {octets : List ℕ} → words ≢ [] → ArePlain words → IsBytes octets → bytes_of words ≡ encode_of standard octets → IsRest rest.Base64 words octets
   types : {words : List Word} {octets : List ℕ} → IsTypeSet words octets → IsRest rest.Types words octets
+  service : {words : List Word} {octets : List ℕ} → AreServiceParameters words octets → IsRest rest.ServiceParameters words octets
 
 -- words for the data of a row: its fields, and what stands behind them
 pub record IsRow (origin : Option DomainName) (row : TypeRow) (words : List Word) (octets : List ℕ) : Type 0 where

@@ -5,6 +5,7 @@ mod fields;
 mod forms;
 mod hashes;
 mod hex_groups;
+mod mnemonics;
 mod moment;
 pub(crate) mod rest;
 pub(crate) mod table;
@@ -23,6 +24,7 @@ use crate::data::forms::data_in_form;
 use crate::generic::read_generic;
 use hickory_wire::record_laws::full_forms;
 use hickory_wire::{DNSClass, Name, Proof, RData, Record, RecordType};
+use service_text::service_laws::parameters_once;
 use std::alloc::Global;
 use text_words::word_laws::{words_spell_once, words_stand_once};
 use text_words::{TextError, TextFault, Word, Words, fault_at};
@@ -66,8 +68,9 @@ fn data_within(
     ensures spelled { IfOk result (λ rdata. IsData (option_copied origin.entry) record_type words.now (data_octets rdata)) }
     ensures refused { IfErr result (λ e. e ≢ Memory → HasNone (λ rdata. IsData (option_copied origin.entry) record_type words.now (data_octets rdata) × (data_len rdata ≤ 65535))) }
 {
-    // What a word spells, it spells in one way, and data have as many bytes as they take in full.
+    // What words spell, they spell in one way, and data have as many bytes as they take in full.
     words_spell_once();
+    parameters_once();
     full_forms();
     let place = words.first().map_or(end, |word| word.start);
     let rdata = data_in_form(alloc, record_type, words, end, origin)?;
@@ -128,8 +131,9 @@ pub(crate) fn data_of(
     ensures spelled { IfOk result (HasData None record_type words.old.kind words.old.text words.old.place words.old.depth) }
     ensures refused { IfErr result (λ e. e ≢ Memory → HasNone (HasData None record_type words.old.kind words.old.text words.old.place words.old.depth)) }
 {
-    // Words stand in a text in one way.
+    // Words stand in a text in one way, and the same ones are the same parameters.
     words_stand_once();
+    parameters_once();
     let fields = words.rest(alloc)?;
     data_of_words(alloc, record_type, fields.as_slice(), words.place(), None)
 }

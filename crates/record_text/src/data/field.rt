@@ -1,5 +1,16 @@
 //! What the data of a type are made of: fields of one word each, and what takes all words behind them.
 
+/// Numbers that have mnemonics.
+#[derive(Clone, Copy, Debug, PartialEq, Eq)]
+pub(crate) enum Names {
+    /// Algorithms of DNSSEC (RFC 4034 appendix A.1).
+    Algorithms,
+    /// Types of certificates (RFC 4398 section 2.1).
+    Certificates,
+    /// Algorithms of digests (RFC 4034 appendix A.2).
+    Digests,
+}
+
 /// A field that one word of the text stands for.
 #[derive(Clone, Copy, Debug, PartialEq, Eq)]
 pub(crate) enum Field {
@@ -9,6 +20,10 @@ pub(crate) enum Field {
     Number16,
     /// A number of 32 bits.
     Number32,
+    /// A number of 8 bits, or its mnemonic.
+    Named8(Names),
+    /// A number of 16 bits, or its mnemonic.
+    Named16(Names),
     /// A time of 32 bits in seconds, or in numbers with units.
     Time,
     /// A name, in full.
@@ -50,6 +65,8 @@ pub(crate) enum Rest {
     Base64,
     /// A set of types (RFC 4034 section 4.1.2).
     Types,
+    /// The parameters of a service (RFC 9460 section 2.1).
+    ServiceParameters,
     /// Bytes in the form that is one for all types, which is the only one of the type (RFC 3597 section 5).
     Generic,
 }

@@ -14,6 +14,7 @@ ghost use Rattle.text_words.specs.Spelling.{IsNumber};
 use crate::data::field::Field;
 use crate::data::hashes::{put_hash, put_salt};
 use crate::data::hex_groups::{put_eui48, put_eui64, put_locator64};
+use crate::data::mnemonics::{put_named8, put_named16};
 use crate::data::moment::moment;
 use crate::data::table::type_of;
 use hickory_wire::Name;
@@ -77,7 +78,8 @@ pub(crate) fn number16(word: &Word<'_>) -> Result<u16, TextError>
     }
 }
 
-fn put_number8(word: &Word<'_>, data: &mut Vec<u8>) -> Result<(), TextError>
+/// Puts a number of 8 bits behind other bytes.
+pub(crate) fn put_number8(word: &Word<'_>, data: &mut Vec<u8>) -> Result<(), TextError>
     ensures put { OnOk result ((origin : Option DomainName) → Puts (IsField origin field.Number8 word.now) «data».old.items «data».new.items) }
     ensures refused { IfErr result (λ e. e ≢ Memory → (origin : Option DomainName) → HasNone (IsField origin field.Number8 word.now)) }
 {
@@ -86,7 +88,8 @@ fn put_number8(word: &Word<'_>, data: &mut Vec<u8>) -> Result<(), TextError>
     Ok(())
 }
 
-fn put_number16(word: &Word<'_>, data: &mut Vec<u8>) -> Result<(), TextError>
+/// Puts a number of 16 bits behind other bytes.
+pub(crate) fn put_number16(word: &Word<'_>, data: &mut Vec<u8>) -> Result<(), TextError>
     ensures put { OnOk result ((origin : Option DomainName) → Puts (IsField origin field.Number16 word.now) «data».old.items «data».new.items) }
     ensures refused { IfErr result (λ e. e ≢ Memory → (origin : Option DomainName) → HasNone (IsField origin field.Number16 word.now)) }
 {
@@ -179,6 +182,8 @@ pub(crate) fn put_field(
         Field::Number8 => put_number8(word, data),
         Field::Number16 => put_number16(word, data),
         Field::Number32 => put_number32(word, data),
+        Field::Named8(names) => put_named8(names, word, data),
+        Field::Named16(names) => put_named16(names, word, data),
         Field::Time => put_time(word, data),
         Field::Name => put_name(alloc, word, origin, data),
         Field::String => put_string(word, data),

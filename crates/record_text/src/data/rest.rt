@@ -13,6 +13,7 @@ use crate::data::types::put_types;
 use base64::DecodeAllocError;
 use base64::engine::general_purpose::STANDARD;
 use hex::FromHexError;
+use service_text::put_parameters;
 use std::alloc::Global;
 use text_words::{TextError, TextFault, Word, fault_at, put_string};
 
@@ -107,6 +108,7 @@ pub(crate) fn put_rest(
         (Rest::Nothing, Some(word)) => Err(word.fault(TextFault::TooMuchText)),
         (Rest::Generic, Some(word)) => Err(word.fault(TextFault::NoTextForm)),
         (Rest::Types, _) => put_types(alloc, words, data),
+        (Rest::ServiceParameters, _) => put_parameters(alloc, words, data),
         (Rest::Generic, None) => Err(fault_at(end, TextFault::MissingField)),
         (Rest::Strings, None) => Err(fault_at(end, TextFault::MissingField)),
         (Rest::Hex, None) => Err(fault_at(end, TextFault::MissingField)),

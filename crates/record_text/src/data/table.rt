@@ -5,12 +5,12 @@ ghost use Rattle.std.specs.Option.{option_copied, option_map};
 ghost use Rattle.record_text.specs.RecordText.{HasNone, IsTypeNumber, SameLetters, SpellsMnemonic, SpellsType, row_view};
 ghost use Rattle.record_text.specs.TypeTable.{row_of, rows};
 
-use crate::data::field::{Field, Rest, Row};
+use crate::data::field::{Field, Names, Rest, Row};
 use hickory_wire::RecordType;
 use text_words::{TextError, TextFault, Word, number_of_digits};
 
 /// The types by their numbers (RFC 1035 section 3.2.2, IANA's registry).
-static ROWS: [Row; 67] = [
+static ROWS: [Row; 69] = [
     Row {
         number: 1,
         mnemonic: "A",
@@ -150,7 +150,7 @@ static ROWS: [Row; 67] = [
         mnemonic: "SIG",
         fields: &[
             Field::RecordType,
-            Field::Number8,
+            Field::Named8(Names::Algorithms),
             Field::Number8,
             Field::Time,
             Field::Moment,
@@ -163,7 +163,11 @@ static ROWS: [Row; 67] = [
     Row {
         number: 25,
         mnemonic: "KEY",
-        fields: &[Field::Number16, Field::Number8, Field::Number8],
+        fields: &[
+            Field::Number16,
+            Field::Number8,
+            Field::Named8(Names::Algorithms),
+        ],
         rest: Rest::Base64,
     },
     Row {
@@ -217,7 +221,11 @@ static ROWS: [Row; 67] = [
     Row {
         number: 37,
         mnemonic: "CERT",
-        fields: &[Field::Number16, Field::Number16, Field::Number8],
+        fields: &[
+            Field::Named16(Names::Certificates),
+            Field::Number16,
+            Field::Named8(Names::Algorithms),
+        ],
         rest: Rest::Base64,
     },
     Row {
@@ -235,7 +243,11 @@ static ROWS: [Row; 67] = [
     Row {
         number: 43,
         mnemonic: "DS",
-        fields: &[Field::Number16, Field::Number8, Field::Number8],
+        fields: &[
+            Field::Number16,
+            Field::Named8(Names::Algorithms),
+            Field::Named8(Names::Digests),
+        ],
         rest: Rest::Hex,
     },
     Row {
@@ -249,7 +261,7 @@ static ROWS: [Row; 67] = [
         mnemonic: "RRSIG",
         fields: &[
             Field::RecordType,
-            Field::Number8,
+            Field::Named8(Names::Algorithms),
             Field::Number8,
             Field::Time,
             Field::Moment,
@@ -268,7 +280,11 @@ static ROWS: [Row; 67] = [
     Row {
         number: 48,
         mnemonic: "DNSKEY",
-        fields: &[Field::Number16, Field::Number8, Field::Number8],
+        fields: &[
+            Field::Number16,
+            Field::Number8,
+            Field::Named8(Names::Algorithms),
+        ],
         rest: Rest::Base64,
     },
     Row {
@@ -322,13 +338,21 @@ static ROWS: [Row; 67] = [
     Row {
         number: 59,
         mnemonic: "CDS",
-        fields: &[Field::Number16, Field::Number8, Field::Number8],
+        fields: &[
+            Field::Number16,
+            Field::Named8(Names::Algorithms),
+            Field::Named8(Names::Digests),
+        ],
         rest: Rest::Hex,
     },
     Row {
         number: 60,
         mnemonic: "CDNSKEY",
-        fields: &[Field::Number16, Field::Number8, Field::Number8],
+        fields: &[
+            Field::Number16,
+            Field::Number8,
+            Field::Named8(Names::Algorithms),
+        ],
         rest: Rest::Base64,
     },
     Row {
@@ -348,6 +372,18 @@ static ROWS: [Row; 67] = [
         mnemonic: "ZONEMD",
         fields: &[Field::Number32, Field::Number8, Field::Number8],
         rest: Rest::Hex,
+    },
+    Row {
+        number: 64,
+        mnemonic: "SVCB",
+        fields: &[Field::Number16, Field::Name],
+        rest: Rest::ServiceParameters,
+    },
+    Row {
+        number: 65,
+        mnemonic: "HTTPS",
+        fields: &[Field::Number16, Field::Name],
+        rest: Rest::ServiceParameters,
     },
     Row {
         number: 99,
@@ -448,13 +484,21 @@ static ROWS: [Row; 67] = [
     Row {
         number: 32768,
         mnemonic: "TA",
-        fields: &[Field::Number16, Field::Number8, Field::Number8],
+        fields: &[
+            Field::Number16,
+            Field::Named8(Names::Algorithms),
+            Field::Named8(Names::Digests),
+        ],
         rest: Rest::Hex,
     },
     Row {
         number: 32769,
         mnemonic: "DLV",
-        fields: &[Field::Number16, Field::Number8, Field::Number8],
+        fields: &[
+            Field::Number16,
+            Field::Named8(Names::Algorithms),
+            Field::Named8(Names::Digests),
+        ],
         rest: Rest::Hex,
     },
 ];

@@ -10,5 +10,5 @@ returns-in_err-rdata-clause-refused c =
 
 pub returns-in-None-clause-refused : goal.returns-in-None-clause-refused
 returns-in-None-clause-refused c =
-    λ other. too_long c.full_forms.ensures.size c.words_spell_once.ensures.bytes c.words_spell_once.ensures.strings c.words_spell_once.ensures.names (option_copied c.args.origin) c.args.record_type c.args.words.now c.in_ok-rdata.rdata
+    λ other. too_long c.full_forms.ensures.size c.words_spell_once.ensures.bytes c.words_spell_once.ensures.strings c.words_spell_once.ensures.names c.parameters_once.ensures.once (option_copied c.args.origin) c.args.record_type c.args.words.now c.in_ok-rdata.rdata
     c.in_ok-rdata.ensures.spelled c.in-None.ensures.too_long

@@ -35,6 +35,12 @@ returns-in-Number16-clause-put c = rw c.in-Number16.is (at c.put_number16.result
 pub returns-in-Number32-clause-put : goal.returns-in-Number32-clause-put
 returns-in-Number32-clause-put c = rw c.in-Number32.is (at c.put_number32.result field.Number32 c.args.word.now c.args.data.now.items c.put_number32.new.data.items (option_copied c.args.origin) c.put_number32.ensures.put)
 
+pub returns-in-Named8-clause-put : goal.returns-in-Named8-clause-put
+returns-in-Named8-clause-put c = rw c.in-Named8.is (at c.put_named8.result (field.Named8 c.in-Named8.names) c.args.word.now c.args.data.now.items c.put_named8.new.data.items (option_copied c.args.origin) c.put_named8.ensures.put)
+
+pub returns-in-Named16-clause-put : goal.returns-in-Named16-clause-put
+returns-in-Named16-clause-put c = rw c.in-Named16.is (at c.put_named16.result (field.Named16 c.in-Named16.names) c.args.word.now c.args.data.now.items c.put_named16.new.data.items (option_copied c.args.origin) c.put_named16.ensures.put)
+
 pub returns-in-Time-clause-put : goal.returns-in-Time-clause-put
 returns-in-Time-clause-put c = rw c.in-Time.is (at c.put_time.result field.Time c.args.word.now c.args.data.now.items c.put_time.new.data.items (option_copied c.args.origin) c.put_time.ensures.put)
 
@@ -93,6 +99,12 @@ returns-in-Number16-clause-refused c = rw c.in-Number16.is (refused_at c.put_num
 
 pub returns-in-Number32-clause-refused : goal.returns-in-Number32-clause-refused
 returns-in-Number32-clause-refused c = rw c.in-Number32.is (refused_at c.put_number32.result field.Number32 c.args.word.now (option_copied c.args.origin) c.put_number32.ensures.refused)
+
+pub returns-in-Named8-clause-refused : goal.returns-in-Named8-clause-refused
+returns-in-Named8-clause-refused c = rw c.in-Named8.is (refused_at c.put_named8.result (field.Named8 c.in-Named8.names) c.args.word.now (option_copied c.args.origin) c.put_named8.ensures.refused)
+
+pub returns-in-Named16-clause-refused : goal.returns-in-Named16-clause-refused
+returns-in-Named16-clause-refused c = rw c.in-Named16.is (refused_at c.put_named16.result (field.Named16 c.in-Named16.names) c.args.word.now (option_copied c.args.origin) c.put_named16.ensures.refused)
 
 pub returns-in-Time-clause-refused : goal.returns-in-Time-clause-refused
 returns-in-Time-clause-refused c = rw c.in-Time.is (refused_at c.put_time.result field.Time c.args.word.now (option_copied c.args.origin) c.put_time.ensures.refused)

@@ -5,13 +5,14 @@ use Rattle.base64.specs.Engines.{standard}
 use Rattle.base64.specs.GeneralPurpose.{IsBytes, encode_of}
 use Rattle.hex.specs.Hex.{decode_of}
 use Rattle.record_text.specs.declared.data.field.Rest.TheVariants as kind
+use Rattle.service_text.specs.ServiceText.{AreServiceParameters}
 use Rattle.text_words.specs.declared.error.TextError.{TextError}
 use Rattle.text_words.specs.declared.error.TextError.TheVariants.{Memory}
 use Rattle.text_words.specs.declared.words.Word.{Word}
 use Rattle.text_words.specs.Spelling.{Puts}
 use Rattle.record_text.specs.RecordText.{ArePlain, AreStrings, HasNone, IsRest, IsTypeSet, bytes_of}
-use Rattle.record_text.specs.RecordText.IsRest.{nothing, strings, hex, base64, types}
-use Rattle.record_text.proofs.NoRow.{no_base64, no_hex, no_nothing, no_strings, no_types, not_generic, some_words}
+use Rattle.record_text.specs.RecordText.IsRest.{nothing, strings, hex, base64, types, service}
+use Rattle.record_text.proofs.NoRow.{no_base64, no_hex, no_nothing, no_service, no_strings, no_types, not_generic, some_words}
 use Rattle.record_text.proofs.data.rest.put_rest.Goals as goal
 
 is_nil : (words : List Word) → None ≡ slice_get words 0 → words ≡ []
@@ -38,6 +39,13 @@ as_types : (r : Result (Unit {0}) TextError) (words : List Word) (old new : List
 as_types (Ok done) words old new h = (h.0, h.1, types h.2)
 as_types (Err e) words old new h = h
 
+as_service : (r : Result (Unit {0}) TextError) (words : List Word) (old new : List ℕ) → OnOk r (Puts (AreServiceParameters words) old new) → OnOk r (Puts (IsRest kind.ServiceParameters words) old new)
+as_service (Ok done) words old new h = (h.0, h.1, service h.2)
+as_service (Err e) words old new h = h
+
+pub returns-in-ServiceParameters-default-clause-put : goal.returns-in-ServiceParameters-default-clause-put
+returns-in-ServiceParameters-default-clause-put c = rw c.in-ServiceParameters-default.is-0 (as_service c.put_parameters.result c.args.words.now c.args.data.now.items c.put_parameters.new.data.items c.put_parameters.ensures.put)
+
 pub returns-in-Types-default-clause-put : goal.returns-in-Types-default-clause-put
 returns-in-Types-default-clause-put c = rw c.in-Types-default.is-0 (as_types c.put_types.result c.args.words.now c.args.data.now.items c.put_types.new.data.items c.put_types.ensures.put)
 
@@ -57,6 +65,10 @@ returns-in-Base64-Some-clause-put c = rw c.in-Base64-Some.is-0 (as_base64 c.put_
 refused : (r : Result (Unit {0}) TextError) (Is Rest : List ℕ → Type 0) → (HasNone Is → HasNone Rest) → IfErr r (λ e. e ≢ Memory → HasNone Is) → IfErr r (λ e. e ≢ Memory → HasNone Rest)
 refused (Ok done) Is Rest so h = h
 refused (Err e) Is Rest so h = λ other. so (h other)
+
+pub returns-in-ServiceParameters-default-clause-refused : goal.returns-in-ServiceParameters-default-clause-refused
+returns-in-ServiceParameters-default-clause-refused c =
+    rw c.in-ServiceParameters-default.is-0 (refused c.put_parameters.result (AreServiceParameters c.args.words.now) (IsRest kind.ServiceParameters c.args.words.now) (no_service c.args.words.now) c.put_parameters.ensures.refused)
 
 pub returns-in-Types-default-clause-refused : goal.returns-in-Types-default-clause-refused
 returns-in-Types-default-clause-refused c = rw c.in-Types-default.is-0 (refused c.put_types.result (IsTypeSet c.args.words.now) (IsRest kind.Types c.args.words.now) (no_types c.args.words.now) c.put_types.ensures.refused)
@@ -81,10 +93,10 @@ pub returns-in-Generic-None-clause-refused : goal.returns-in-Generic-None-clause
 returns-in-Generic-None-clause-refused c = λ other octets is. not_generic is c.in-Generic-None.is-0
 
 pub returns-in-Strings-None-clause-refused : goal.returns-in-Strings-None-clause-refused
-returns-in-Strings-None-clause-refused c = λ other. rw c.in-Strings-None.is-0 (λ octets is. some_words is (λ e. absurd (cc)) (λ e. absurd (cc)) (is_nil c.args.words.now c.in-Strings-None.ensures.value))
+returns-in-Strings-None-clause-refused c = λ other. rw c.in-Strings-None.is-0 (λ octets is. some_words is (λ e. absurd (cc)) (λ e. absurd (cc)) (λ e. absurd (cc)) (is_nil c.args.words.now c.in-Strings-None.ensures.value))
 
 pub returns-in-Hex-None-clause-refused : goal.returns-in-Hex-None-clause-refused
-returns-in-Hex-None-clause-refused c = λ other. rw c.in-Hex-None.is-0 (λ octets is. some_words is (λ e. absurd (cc)) (λ e. absurd (cc)) (is_nil c.args.words.now c.in-Hex-None.ensures.value))
+returns-in-Hex-None-clause-refused c = λ other. rw c.in-Hex-None.is-0 (λ octets is. some_words is (λ e. absurd (cc)) (λ e. absurd (cc)) (λ e. absurd (cc)) (is_nil c.args.words.now c.in-Hex-None.ensures.value))
 
 pub returns-in-Base64-None-clause-refused : goal.returns-in-Base64-None-clause-refused
-returns-in-Base64-None-clause-refused c = λ other. rw c.in-Base64-None.is-0 (λ octets is. some_words is (λ e. absurd (cc)) (λ e. absurd (cc)) (is_nil c.args.words.now c.in-Base64-None.ensures.value))
+returns-in-Base64-None-clause-refused c = λ other. rw c.in-Base64-None.is-0 (λ octets is. some_words is (λ e. absurd (cc)) (λ e. absurd (cc)) (λ e. absurd (cc)) (is_nil c.args.words.now c.in-Base64-None.ensures.value))

@@ -1,0 +1,69 @@
+-- The mnemonics of numbers in the data of records.
+use Rattle.std.specs.Prelude.{ℕ, List, [], ◌∷◌, codes}
+use Rattle.record_text.specs.declared.data.field.Names.{Names}
+use Rattle.record_text.specs.declared.data.field.Names.TheVariants as names
+
+-- a number, and a mnemonic that it has
+pub record NamedNumber : Type 0 where
+  pub number : ℕ
+  pub letters : List ℕ
+
+abbrev pub mnemonic : ℕ → List ℕ → NamedNumber
+mnemonic number letters = record { number = number; letters = letters }
+
+-- algorithms of DNSSEC (RFC 4034 appendix A.1, IANA's registry), and the names NSEC3DSA, NSEC3RSASHA1 and ECCGOST that BIND gives to three of them
+abbrev pub algorithms : List NamedNumber
+algorithms =
+    mnemonic 1 (codes "RSAMD5")
+    ∷ mnemonic 2 (codes "DH")
+    ∷ mnemonic 3 (codes "DSA")
+    ∷ mnemonic 4 (codes "ECC")
+    ∷ mnemonic 5 (codes "RSASHA1")
+    ∷ mnemonic 6 (codes "DSA-NSEC3-SHA1")
+    ∷ mnemonic 6 (codes "NSEC3DSA")
+    ∷ mnemonic 7 (codes "RSASHA1-NSEC3-SHA1")
+    ∷ mnemonic 7 (codes "NSEC3RSASHA1")
+    ∷ mnemonic 8 (codes "RSASHA256")
+    ∷ mnemonic 10 (codes "RSASHA512")
+    ∷ mnemonic 12 (codes "ECC-GOST")
+    ∷ mnemonic 12 (codes "ECCGOST")
+    ∷ mnemonic 13 (codes "ECDSAP256SHA256")
+    ∷ mnemonic 14 (codes "ECDSAP384SHA384")
+    ∷ mnemonic 15 (codes "ED25519")
+    ∷ mnemonic 16 (codes "ED448")
+    ∷ mnemonic 252 (codes "INDIRECT")
+    ∷ mnemonic 253 (codes "PRIVATEDNS")
+    ∷ mnemonic 254 (codes "PRIVATEOID")
+    ∷ []
+
+-- types of certificates (RFC 4398 section 2.1)
+abbrev pub certificates : List NamedNumber
+certificates =
+    mnemonic 1 (codes "PKIX")
+    ∷ mnemonic 2 (codes "SPKI")
+    ∷ mnemonic 3 (codes "PGP")
+    ∷ mnemonic 4 (codes "IPKIX")
+    ∷ mnemonic 5 (codes "ISPKI")
+    ∷ mnemonic 6 (codes "IPGP")
+    ∷ mnemonic 7 (codes "ACPKIX")
+    ∷ mnemonic 8 (codes "IACPKIX")
+    ∷ mnemonic 253 (codes "URI")
+    ∷ mnemonic 254 (codes "OID")
+    ∷ []
+
+-- algorithms of digests (RFC 4034 appendix A.2, IANA's registry), with and without the hyphen
+abbrev pub digests : List NamedNumber
+digests =
+    mnemonic 1 (codes "SHA-1")
+    ∷ mnemonic 1 (codes "SHA1")
+    ∷ mnemonic 2 (codes "SHA-256")
+    ∷ mnemonic 2 (codes "SHA256")
+    ∷ mnemonic 3 (codes "GOST")
+    ∷ mnemonic 4 (codes "SHA-384")
+    ∷ mnemonic 4 (codes "SHA384")
+    ∷ []
+
+abbrev pub mnemonics : Names → List NamedNumber
+mnemonics names.Algorithms = algorithms
+mnemonics names.Certificates = certificates
+mnemonics names.Digests = digests

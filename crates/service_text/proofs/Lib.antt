@@ -1,0 +1,4 @@
+pub mod Ascending
+pub mod ItemSteps
+pub mod Once
+pub mod WordSteps
