@@ -1,5 +1,9 @@
 pub mod BehindOwner
 pub mod FirstFaults
 pub mod FrontOnce
+pub mod GenerateOnce
+pub mod Generating
 pub mod Minimum
+pub mod NumberBelow
+pub mod Numbering
 pub mod WordKinds

@@ -1,8 +1,12 @@
 //! Zone files (RFC 1035 section 5.1).
 
 mod entry;
+mod expand;
 mod fault;
 pub(crate) mod fault_word;
+mod generate;
+mod number_form;
+mod number_range;
 
 ghost use Rattle.std.specs.Prelude.{◌≡◌, ◌≤◌, ◌<◌, length, All, IfErr, IfOk};
 ghost use Rattle.zone_text.specs.ZoneFaults.{IsEntryFault, IsFileFault, IsFirstFault};
@@ -62,12 +66,13 @@ fn read_entries(alloc: Global, text: &[u8], origin: &Name) -> Result<Items<Recor
     let mut before = Before {
         origin: origin.clone()?,
         default_ttl: None,
+        owned: 0,
         records: Items::new(alloc),
     };
     let mut place = first_entry(text);
     'entries: while place < text.len() {
         let (entry, end) = entry_at(alloc, text, place, &before)?;
-        before.take(entry)?;
+        before.take(alloc, entry)?;
         place = end + 1;
     }
     Ok(before.records)
