@@ -126,14 +126,14 @@ pub not_told : (start end : ℕ) (e : TextError) (given moved : EntryError) → 
 not_told start end (text.At column what) given moved is m other = λ e. cc
 not_told start end text.Memory given moved is m other = λ e. not_moved start end given moved m other is
 
--- the words of a text that is all of an entry
-module _ (w : WordsLeft) (bytes : List ℕ) (a : w.text ≡ bytes) (b : w.place ≡ 0) (k : w.kind ≡ ZoneFile) (d : w.depth ≡ 0) where
-  pub no_words_here : HasNoWords w.kind w.text w.place w.depth → HasNoWords ZoneFile bytes 0 0
-  no_words_here none = subst (λ (t : List ℕ). HasNoWords ZoneFile t 0 0) a (subst (λ (p : ℕ). HasNoWords ZoneFile w.text p 0) b (subst (λ (x : TextKind). HasNoWords x w.text w.place 0) k (subst (λ (n : ℕ). HasNoWords w.kind w.text w.place n) d none)))
+-- the words of an entry, and that it has none
+module _ (w : WordsLeft) (bytes : List ℕ) (at : ℕ) (a : w.text ≡ bytes) (b : w.place ≡ at) (k : w.kind ≡ ZoneFile) (d : w.depth ≡ 0) where
+  pub no_words_here : HasNoWords w.kind w.text w.place w.depth → HasNoWords ZoneFile bytes at 0
+  no_words_here none = subst (λ (t : List ℕ). HasNoWords ZoneFile t at 0) a (subst (λ (p : ℕ). HasNoWords ZoneFile w.text p 0) b (subst (λ (x : TextKind). HasNoWords x w.text w.place 0) k (subst (λ (n : ℕ). HasNoWords w.kind w.text w.place n) d none)))
 
-  pub words_here : (words : List Word) (end : ℕ) → AreWordsTo w.kind w.text w.place w.depth words end → AreWordsTo ZoneFile bytes 0 0 words end
+  pub words_here : (words : List Word) (end : ℕ) → AreWordsTo w.kind w.text w.place w.depth words end → AreWordsTo ZoneFile bytes at 0 words end
   words_here words end h =
-      subst (λ (t : List ℕ). AreWordsTo ZoneFile t 0 0 words end) a (subst (λ (p : ℕ). AreWordsTo ZoneFile w.text p 0 words end) b
+      subst (λ (t : List ℕ). AreWordsTo ZoneFile t at 0 words end) a (subst (λ (p : ℕ). AreWordsTo ZoneFile w.text p 0 words end) b
       (subst (λ (x : TextKind). AreWordsTo x w.text w.place 0 words end) k (subst (λ (n : ℕ). AreWordsTo w.kind w.text w.place n words end) d h)))
 
 pub short_end : StandOnce → (bytes : List ℕ) (words others : List Word) (end : ℕ) → AreWordsTo ZoneFile bytes 0 0 words end → end < length bytes → HasWordsOf bytes others → ⊥
