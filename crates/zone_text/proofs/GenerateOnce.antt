@@ -82,8 +82,20 @@ module _ (before : Before) (behind : List Word) (range lhs : Word) (fields : Lis
   pub generated : (own : Option ℕ) (type : ℕ) (more : List Word) (rhs : Word) (numbers : NumberRange) (r : Result (List (Record RData)) EntryError) → IsFrontOf fields own type more → more ≡ rhs ∷ [] → IsZoneType type → IsRangeWord range numbers
       → IfOk r (λ records. (count : ℕ) × Reaches numbers count × Each before lhs own type rhs numbers count records) → IfOk r (IsGenerated before behind)
   generated own type more rhs numbers (Ok records) front last stored ranged h = record {
-    range_word = range; lhs = lhs; rhs = rhs; fields = fields; in_order = parts; range = numbers; ranged = ranged; own = own; type = type;
-    front = subst (IsFrontOf fields own type) last front; stored = stored; count = h.0; reached = h.1; each = h.2;
+    range_word = range;
+    lhs = lhs;
+    rhs = rhs;
+    fields = fields;
+    in_order = parts;
+    range = numbers;
+    ranged = ranged;
+    own = own;
+    type = type;
+    front = subst (IsFrontOf fields own type) last front;
+    stored = stored;
+    count = h.0;
+    reached = h.1;
+    each = h.2;
   }
   generated own type more rhs numbers (Err e) front last stored ranged h = h
 

@@ -35,8 +35,8 @@ first origin text place before faults none = tt
 first origin text place before faults (entry taken within is) = first origin text _ _ faults taken
 first origin text place before faults (refused {place = at} {before = b} {faults = others} {fault = fault} taken within is next) =
     first_pushed origin text others fault (first origin text at b others taken) (λ e. of_fault fault is (front origin text at b others taken e)) where
-  of_fault : (fault : ZoneFileError) → IsFaultOf text at b fault → IsFront origin text at b → IsFirstFault origin text fault
-  of_fault fault (fault_at on none_there placed shown) before = first_at before within on none_there placed shown
+      of_fault : (fault : ZoneFileError) → IsFaultOf text at b fault → IsFront origin text at b → IsFirstFault origin text fault
+      of_fault fault (fault_at on none_there placed shown) before = first_at before within on none_there placed shown
 
 -- what is told of an entry's fault
 pub told_of : (text : List ℕ) (place : ℕ) (before : Before) (e : EntryError) (what : ZoneFileError) → e ≢ Memory → IsEntryFault text place before e → IsToldOf text e what → IsFaultOf text place before what

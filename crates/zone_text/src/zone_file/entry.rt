@@ -158,7 +158,9 @@ fn ttl_and_behind<'a, 'w>(
 }
 
 /// TTL and class, in either order and either left out: the TTL, if there is one, and the fields behind them.
-pub(crate) fn ttl_and_class<'a, 'w>(words: &'w [Word<'a>]) -> Result<(Option<u32>, &'w [Word<'a>]), EntryError>
+pub(crate) fn ttl_and_class<'a, 'w>(
+    words: &'w [Word<'a>],
+) -> Result<(Option<u32>, &'w [Word<'a>]), EntryError>
     ensures timed { IfOk result (λ found. (front : List WordOf) × (words.now ≡ front ++ found.1.now) × AreTtlAndClass front found.0) }
     ensures most { IfOk result (λ found. (own : Option ℕ) (number : ℕ) → (behind : List WordOf) → IsFrontOf words.now own number behind → (own ≡ found.0) × BeginsWith (IsTypeWord number) found.1.now behind) }
     ensures refused { IfErr result (λ e. e ≢ Memory → (own : Option ℕ) (number : ℕ) → HasNone (IsFrontOf words.now own number)) }
@@ -271,7 +273,14 @@ pub(crate) fn typed_record(
     ensures typed { IfOk result (IsTyped before.now front.now.ttl front.now.record_type data.now) }
     ensures refused { IfErr result (λ e. e ≢ Memory → HasNone (IsTyped before.now front.now.ttl front.now.record_type data.now)) }
 {
-    let rdata = zone_data(alloc, front.place, front.record_type, data, end, &before.origin)?;
+    let rdata = zone_data(
+        alloc,
+        front.place,
+        front.record_type,
+        data,
+        end,
+        &before.origin,
+    )?;
     let last = before.records.as_slice().last().map(|record| record.ttl);
     let minimum = zone_minimum(&rdata);
     let Some(ttl) = ttl_in_force(front.ttl, before.default_ttl, last, minimum) else {
@@ -355,7 +364,10 @@ fn named_record(
 }
 
 /// The field behind that of a directive, which is the last one.
-pub(crate) fn only_field<'a, 'w>(behind: &'w [Word<'a>], end: usize) -> Result<&'w Word<'a>, EntryError>
+pub(crate) fn only_field<'a, 'w>(
+    behind: &'w [Word<'a>],
+    end: usize,
+) -> Result<&'w Word<'a>, EntryError>
     ensures only { IfOk result (λ word. behind.now ≡ word.now ∷ []) }
     ensures refused { OnErr result ((word : WordOf) → behind.now ≡ word ∷ [] → ⊥) }
 {

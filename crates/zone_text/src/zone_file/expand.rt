@@ -14,7 +14,12 @@ use std::format;
 use text_words::Word;
 
 /// Puts the number in the form that stands behind `${`, and tells what stands behind the `}`. `None` where that is no form, or the number is none of 31 bits.
-fn put_formed<'a>(alloc: Global, number: u32, text: &'a [u8], bytes: &mut Vec<u8>) -> Result<Option<&'a [u8]>, AllocError>
+fn put_formed<'a>(
+    alloc: Global,
+    number: u32,
+    text: &'a [u8],
+    bytes: &mut Vec<u8>,
+) -> Result<Option<&'a [u8]>, AllocError>
     requires { number < 2 ^ 31 }
     ensures put { IfOk result (λ found. MatchOption found (formed number (form_of (part_before 125 text.now)) (part_behind 125 text.now) ≡ None) (λ behind. (own : List ℕ) × (formed number (form_of (part_before 125 text.now)) (part_behind 125 text.now) ≡ Some (own, behind.now)) × (bytes.new.items ≡ bytes.old.items ++ own) × (length behind.now < length text.now))) }
 {
@@ -33,7 +38,12 @@ fn put_formed<'a>(alloc: Global, number: u32, text: &'a [u8], bytes: &mut Vec<u8
 }
 
 /// Puts what a dollar sign stands for that stands before a text, and tells what stands behind.
-fn put_dollar<'a>(alloc: Global, number: u32, text: &'a [u8], bytes: &mut Vec<u8>) -> Result<Option<&'a [u8]>, AllocError>
+fn put_dollar<'a>(
+    alloc: Global,
+    number: u32,
+    text: &'a [u8],
+    bytes: &mut Vec<u8>,
+) -> Result<Option<&'a [u8]>, AllocError>
     requires { number < 2 ^ 31 }
     ensures put { IfOk result (λ found. MatchOption found (dollar number text.now ≡ None) (λ behind. (own : List ℕ) × (dollar number text.now ≡ Some (own, behind.now)) × (bytes.new.items ≡ bytes.old.items ++ own) × (length behind.now < length text.now + 1))) }
 {
@@ -51,7 +61,11 @@ fn put_dollar<'a>(alloc: Global, number: u32, text: &'a [u8], bytes: &mut Vec<u8
 }
 
 /// Puts a backslash that stands before a text and the byte behind it, and tells what stands behind.
-fn put_escaped<'a>(quoted: bool, text: &'a [u8], bytes: &mut Vec<u8>) -> Result<&'a [u8], AllocError>
+fn put_escaped<'a>(
+    quoted: bool,
+    text: &'a [u8],
+    bytes: &mut Vec<u8>,
+) -> Result<&'a [u8], AllocError>
     ensures put { IfOk result (λ behind. (own : List ℕ) × (escaped quoted text.now ≡ Some (own, behind.now)) × (bytes.new.items ≡ bytes.old.items ++ own) × (length behind.now < length text.now + 1)) }
 {
     match text {

@@ -18,7 +18,12 @@ use text_words::word_laws::words_stand_once;
 use text_words::{TextFault, Word, Words, absolute_name, fault_at};
 
 /// The owner name that a field stands for with a number for its dollar signs.
-fn numbered_owner(alloc: Global, lhs: &Word<'_>, number: u32, before: &Before) -> Result<Name, EntryError>
+fn numbered_owner(
+    alloc: Global,
+    lhs: &Word<'_>,
+    number: u32,
+    before: &Before,
+) -> Result<Name, EntryError>
     requires { number < 2 ^ 31 }
     ensures owner { IfOk result (IsNumberedOwner before.now.origin lhs.now number) }
     ensures refused { IfErr result (λ e. e ≢ Memory → HasNone (IsNumberedOwner before.now.origin lhs.now number)) }
@@ -34,7 +39,11 @@ fn numbered_owner(alloc: Global, lhs: &Word<'_>, number: u32, before: &Before) -
 }
 
 /// The fields of a text that is all of an entry. A fault is told at this field.
-fn words_of<'a>(alloc: Global, text: &'a [u8], field: &Word<'_>) -> Result<Vec<Word<'a>>, EntryError>
+fn words_of<'a>(
+    alloc: Global,
+    text: &'a [u8],
+    field: &Word<'_>,
+) -> Result<Vec<Word<'a>>, EntryError>
     ensures words { IfOk result (λ words. HasWordsOf text.now words.items) }
     ensures refused { IfErr result (λ e. e ≢ Memory → (words : List WordOf) → HasWordsOf text.now words → ⊥) }
 {

@@ -158,6 +158,20 @@ fn nibbles_len(alloc: Global, width: u32, number: u32) -> Result<usize, AllocErr
     Ok((width as usize).max((2 * digits.len()).saturating_sub(1)))
 }
 
+/// Puts nibbles behind other bytes, as many as the number has or the width asks for.
+fn put_wide_nibbles(
+    alloc: Global,
+    upper: bool,
+    width: u32,
+    number: u32,
+    bytes: &mut Vec<u8>,
+) -> Result<(), AllocError>
+    ensures { OnOk result (bytes.new.items ≡ bytes.old.items ++ nibbles upper (nibbles_len width number) number) }
+{
+    let len = nibbles_len(alloc, width, number)?;
+    put_nibbles(upper, len, number, bytes)
+}
+
 impl NumberForm {
     /// A number with the offset, where it has 31 bits and is not below 0.
     pub(crate) fn moved(self, number: u32) -> Option<u32>
@@ -174,17 +188,38 @@ impl NumberForm {
     }
 
     /// Puts a number behind other bytes, in this base and of at least this width.
-    pub(crate) fn put(self, alloc: Global, number: u32, bytes: &mut Vec<u8>) -> Result<(), AllocError>
+    pub(crate) fn put(
+        self,
+        alloc: Global,
+        number: u32,
+        bytes: &mut Vec<u8>,
+    ) -> Result<(), AllocError>
         ensures { OnOk result (bytes.new.items ≡ bytes.old.items ++ number_text self.base self.width number) }
     {
         let width = self.width;
         match self.base {
-            NumberBase::Decimal => put_padded(format!(in alloc; "{number}")?.as_bytes(), width, bytes),
-            NumberBase::Octal => put_padded(format!(in alloc; "{number:o}")?.as_bytes(), width, bytes),
-            NumberBase::Hex => put_padded(format!(in alloc; "{number:x}")?.as_bytes(), width, bytes),
-            NumberBase::UpperHex => put_padded(format!(in alloc; "{number:X}")?.as_bytes(), width, bytes),
-            NumberBase::Nibbles => put_nibbles(false, nibbles_len(alloc, width, number)?, number, bytes),
-            NumberBase::UpperNibbles => put_nibbles(true, nibbles_len(alloc, width, number)?, number, bytes),
+            NumberBase::Decimal => put_padded(
+                format!(in alloc; "{number}")?.as_bytes(),
+                width,
+                bytes,
+            ),
+            NumberBase::Octal => put_padded(
+                format!(in alloc; "{number:o}")?.as_bytes(),
+                width,
+                bytes,
+            ),
+            NumberBase::Hex => put_padded(
+                format!(in alloc; "{number:x}")?.as_bytes(),
+                width,
+                bytes,
+            ),
+            NumberBase::UpperHex => put_padded(
+                format!(in alloc; "{number:X}")?.as_bytes(),
+                width,
+                bytes,
+            ),
+            NumberBase::Nibbles => put_wide_nibbles(alloc, false, width, number, bytes),
+            NumberBase::UpperNibbles => put_wide_nibbles(alloc, true, width, number, bytes),
         }
     }
 }
