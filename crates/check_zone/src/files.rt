@@ -2,7 +2,7 @@
 
 use std::alloc::Global;
 use std::rt::Files;
-use std::{fs, io, str};
+use std::{fs, io};
 use thiserror::Error;
 use wire_messages::rr::record::Record;
 use wire_names::rr::domain::name::Name;
@@ -24,9 +24,6 @@ pub enum FileFault {
     /// The system does not say why, or says something else.
     #[error("the file cannot be read")]
     Other,
-    /// It is no text.
-    #[error("the file is not UTF-8")]
-    NotUtf8,
     /// An entry of it is wrong.
     #[error("{0}")]
     Entry(ZoneFileError),
@@ -60,14 +57,19 @@ fn fault_of(e: &io::Error) -> FileFault {
 }
 
 /// The records that the bytes of a zone file have.
-fn records_of(alloc: Global, origin: &Name, bytes: &[u8]) -> Result<Items<Record>, FileFault> {
-    let Ok(text) = str::from_utf8(bytes) else {
-        return Err(FileFault::NotUtf8);
-    };
-    match read_zone_file(alloc, text, origin) {
+pub fn records_of(alloc: Global, origin: &Name, bytes: &[u8]) -> Result<Items<Record>, FileFault> {
+    match read_zone_file(alloc, bytes, origin) {
         Ok(records) => Ok(records),
         Err(ZoneFileError::Memory) => Err(FileFault::Memory),
         Err(error) => Err(FileFault::Entry(error)),
+    }
+}
+
+/// The bytes of a file.
+pub fn read_bytes<R: Files + Alloc<A = Global>>(rt: &R, file: &str) -> Result<Vec<u8>, FileFault> {
+    match fs::read(rt, file) {
+        Ok(bytes) => Ok(bytes),
+        Err(e) => Err(fault_of(&e)),
     }
 }
 
@@ -77,8 +79,6 @@ pub fn read_records<R: Files + Alloc<A = Global>>(
     origin: &Name,
     file: &str,
 ) -> Result<Items<Record>, FileFault> {
-    match fs::read(rt, file) {
-        Ok(bytes) => records_of(rt.alloc(), origin, bytes.as_slice()),
-        Err(e) => Err(fault_of(&e)),
-    }
+    let bytes = read_bytes(rt, file)?;
+    records_of(rt.alloc(), origin, bytes.as_slice())
 }

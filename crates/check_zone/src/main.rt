@@ -10,7 +10,7 @@ mod files;
 mod lines;
 
 use crate::fault::Fault;
-use crate::files::{FileFault, read_records};
+use crate::files::{FileFault, read_bytes, read_records, records_of};
 use crate::lines::{status_of, tell_findings};
 use clap::error::ErrorKind;
 use clap::{Arg, ArgMatches, Command, Error};
@@ -21,6 +21,7 @@ use std::{env, io};
 use wire_names::error::NameError;
 use wire_names::rr::domain::name::Name;
 use zone_check::{apex_serial, check};
+use zone_text::zone_file_faults;
 
 /// The version of this program.
 const VERSION: &str = "0.1.0";
@@ -86,6 +87,22 @@ fn tell<R: Eprint>(rt: &R, fault: Fault) -> u8 {
     fault.status()
 }
 
+/// Tells the faults of the entries of a zone file on the standard error, up to ten, and gives the status.
+fn tell_of_entries<R: Eprint + Alloc<A = Global>>(
+    rt: &R,
+    origin: &Name,
+    file: &str,
+    bytes: &[u8],
+) -> u8 {
+    let Ok(faults) = zone_file_faults(rt.alloc(), bytes, origin) else {
+        return tell_of_file(rt, file, FileFault::Memory);
+    };
+    for fault in faults.as_slice() {
+        let _ = tell_of_file(rt, file, FileFault::Entry(*fault));
+    }
+    5
+}
+
 /// Prints what is found of a zone file, and gives the status.
 fn print_findings<R: Files + Print + Eprint + Alloc<A = Global>>(
     rt: &R,
@@ -93,8 +110,13 @@ fn print_findings<R: Files + Print + Eprint + Alloc<A = Global>>(
     file: &str,
     previous: Option<u32>,
 ) -> u8 {
-    let records = match read_records(rt, origin, file) {
+    let bytes = match read_bytes(rt, file) {
+        Ok(bytes) => bytes,
+        Err(fault) => return tell_of_file(rt, file, fault),
+    };
+    let records = match records_of(rt.alloc(), origin, bytes.as_slice()) {
         Ok(records) => records,
+        Err(FileFault::Entry(_)) => return tell_of_entries(rt, origin, file, bytes.as_slice()),
         Err(fault) => return tell_of_file(rt, file, fault),
     };
     let Ok(findings) = check(rt.alloc(), origin, records.as_slice(), previous) else {

@@ -1,5 +1,5 @@
 -- What is told of the words behind an owner name.
-use Rattle.std.proofs.Common.{◌≡◌, ◌∙◌, ℕ, List, ◌∷◌, Option, Some, None, length, sym, ap, subst, arith}
+use Rattle.std.proofs.Common.{◌≡◌, ◌∙◌, ℕ, List, ◌∷◌, ◌++◌, Option, Some, None, length, sym, ap, subst, arith}
 use Rattle.wire_messages.specs.declared.rr.rdata.RData.{RData}
 use Rattle.wire_messages.specs.declared.rr.record.Record.{Record}
 use Rattle.wire_messages.specs.rr.RecordData.{type_of}
@@ -7,7 +7,7 @@ use Rattle.text_words.specs.declared.words.Word.{Word}
 use Rattle.record_text.specs.RecordText.{HasNone, SpellsData}
 use Rattle.record_text.proofs.TypesOnce.{types_once}
 use Rattle.zone_text.specs.declared.zone_file.entry.Before.{Before}
-use Rattle.zone_text.specs.ZoneFiles.{BeginsWith, IsBehindOwner, IsFrontOf, IsTypeWord, IsZoneType, MayBeData, last_ttl, ttl_in_force, zone_minimum}
+use Rattle.zone_text.specs.ZoneFiles.{AreTtlAndClass, BeginsWith, IsBehindOwner, IsFrontOf, IsTyped, IsTypeWord, MayBeData, last_ttl, ttl_in_force, zone_minimum}
 use Rattle.zone_text.proofs.Minimum.{no_ttl}
 
 -- All that words may say of TTL, class and type is this TTL, with a type first of these words.
@@ -17,41 +17,43 @@ AllSay words own fields = (other : Option ℕ) (number : ℕ) → (behind : List
 heads : (a b : Word) (r s : List Word) → (a ∷ r) ≡ (b ∷ s) → (a ≡ b) × (r ≡ s)
 heads a b r s e = (cc, cc)
 
-module _ (before : Before) (words : List Word) where
-  pub no_front_behind : ((own : Option ℕ) (number : ℕ) → HasNone (IsFrontOf words own number)) → HasNone (IsBehindOwner before words)
-  no_front_behind none r is = none is.own (type_of r.rdata) is.behind is.front
+module _ (words : List Word) (own : Option ℕ) (fields : List Word) (say : AllSay words own fields) where
+  pub no_field : length fields ≡ 0 → (other : Option ℕ) (number : ℕ) (behind : List Word) → IsFrontOf words other number behind → ⊥
+  no_field none other number behind front = let at = (say other number behind front).1 in omega (arith, none, ap length at.1)
 
-  pub no_field : (own : Option ℕ) (fields : List Word) → AllSay words own fields → length fields ≡ 0 → HasNone (IsBehindOwner before words)
-  no_field own fields say none r is = let at = (say is.own (type_of r.rdata) is.behind is.front).1 in omega (arith, none, ap length at.1)
+  module _ (word : Word) (data_words : List Word) (parts : fields ≡ (word ∷ data_words)) where
+    -- the first of these words is the type, and the others stand behind it
+    pub type_here : (other : Option ℕ) (number : ℕ) (behind : List Word) → IsFrontOf words other number behind → IsTypeWord number word
+    type_here other number behind front =
+        let at = (say other number behind front).1 in
+        subst (IsTypeWord number) (sym (heads word at.0 data_words behind (sym parts ∙ at.1)).0) at.2
 
-  module _ (own : Option ℕ) (fields data_words : List Word) (word : Word) (say : AllSay words own fields) (parts : fields ≡ (word ∷ data_words)) where
-    -- the first of these words is the type, and the others are the data
-    type_here : (r : Record RData) → (is : IsBehindOwner before words r) → IsTypeWord (type_of r.rdata) word
-    type_here r is =
-        let at = (say is.own (type_of r.rdata) is.behind is.front).1 in
-        subst (IsTypeWord (type_of r.rdata)) (sym (heads word at.0 data_words is.behind (sym parts ∙ at.1)).0) at.2
+    pub once : (type : ℕ) → IsTypeWord type word → (other : Option ℕ) (number : ℕ) (behind : List Word) → IsFrontOf words other number behind → (other ≡ own) × (number ≡ type) × (behind ≡ data_words)
+    once type typed other number behind front =
+        let at = say other number behind front in
+        (at.0, types_once word.bytes.now number type (type_here other number behind front).spelled typed.spelled, sym (heads word at.1.0 data_words behind (sym parts ∙ at.1.1)).1)
 
-    data_here : (r : Record RData) → (is : IsBehindOwner before words r) → is.behind ≡ data_words
-    data_here r is =
-        let at = (say is.own (type_of r.rdata) is.behind is.front).1 in
-        sym (heads word at.0 data_words is.behind (sym parts ∙ at.1)).1
+-- TTL and class, then a type, and the words behind it
+pub front_is : (words fields data_words : List Word) (own : Option ℕ) (type : ℕ) (word : Word) → (front : List Word) × (words ≡ front ++ fields) × AreTtlAndClass front own → fields ≡ (word ∷ data_words) → IsTypeWord type word → IsFrontOf words own type data_words
+front_is words fields data_words own type word timed parts typed = record { front = timed.0; rest = fields; in_order = timed.1; timed = timed.2; typed = (word, parts, typed) }
 
-    pub no_zone_type : ((number : ℕ) → IsTypeWord number word → IsZoneType number → ⊥) → HasNone (IsBehindOwner before words)
-    no_zone_type none r is = none (type_of r.rdata) (type_here r is) is.kept.stored
+-- what stands behind an owner name is of the type and the words that the front tells
+abbrev pub IsOnce : List Word → Option ℕ → ℕ → List Word → Type 0
+IsOnce words own type fields = (other : Option ℕ) (number : ℕ) (behind : List Word) → IsFrontOf words other number behind → (other ≡ own) × (number ≡ type) × (behind ≡ fields)
 
-    module _ (number : ℕ) (typed : IsTypeWord number word) where
-      same_type : (r : Record RData) → (is : IsBehindOwner before words r) → type_of r.rdata ≡ number
-      same_type r is = types_once word.bytes.now (type_of r.rdata) number (type_here r is).spelled typed.spelled
+pub moved : (before : Before) (own other : Option ℕ) (type number : ℕ) (fields behind : List Word) (r : Record RData) → (other ≡ own) × (number ≡ type) × (behind ≡ fields) → IsTyped before other number behind r → IsTyped before own type fields r
+moved before own other type number fields behind r same is =
+    subst (λ (ws : List Word). IsTyped before own type ws r) same.2 (subst (λ (n : ℕ). IsTyped before own n behind r) same.1 (subst (λ (o : Option ℕ). IsTyped before o number behind r) same.0 is))
 
-      pub no_data : ((rdata : RData) → SpellsData (Some before.origin) number data_words rdata → MayBeData number data_words → ⊥) → HasNone (IsBehindOwner before words)
-      no_data none r is =
-          let same : type_of r.rdata ≡ number = same_type r is in
-          let here : is.behind ≡ data_words = data_here r is in
-          none r.rdata (subst (λ (n : ℕ). SpellsData (Some before.origin) n data_words r.rdata) same (subst (λ (ws : List Word). SpellsData (Some before.origin) (type_of r.rdata) ws r.rdata) here is.spelled))
-          (subst (λ (n : ℕ). MayBeData n data_words) same (subst (λ (ws : List Word). MayBeData (type_of r.rdata) ws) here is.some))
+pub typed_of : (before : Before) (words : List Word) (own : Option ℕ) (type : ℕ) (fields : List Word) (r : Record RData) → IsOnce words own type fields → IsBehindOwner before words r → IsTyped before own type fields r
+typed_of before words own type fields r only is = moved before own is.own type is.number fields is.behind r (only is.own is.number is.behind is.front) is.is
 
-      pub no_ttl_behind : (rdata : RData) (default last : Option ℕ) → type_of rdata ≡ number → default ≡ before.default_ttl → last ≡ last_ttl before.records → ttl_in_force own default last (zone_minimum rdata) ≡ None → HasNone (IsBehindOwner before words)
-      no_ttl_behind rdata default last form is_default is_last none r is =
-          let own_is : is.own ≡ own = (say is.own (type_of r.rdata) is.behind is.front).0 in
-          let some : ttl_in_force own default last (zone_minimum r.rdata) ≡ Some r.ttl = rw (sym own_is, is_default, is_last) is.in_force in
-          no_ttl rdata r.rdata own default last r.ttl (form ∙ sym (same_type r is)) none some
+-- no record has data of a type, where none are spelled, and none a TTL, where none is in force
+pub no_data : (before : Before) (own : Option ℕ) (number : ℕ) (fields : List Word) → ((rdata : RData) → SpellsData (Some before.origin) number fields rdata → MayBeData number fields → ⊥) → HasNone (IsTyped before own number fields)
+no_data before own number fields none r is = none r.rdata is.spelled is.some
+
+pub no_ttl_here : (before : Before) (own : Option ℕ) (number : ℕ) (fields : List Word) (rdata : RData) (default last : Option ℕ) → type_of rdata ≡ number → default ≡ before.default_ttl → last ≡ last_ttl before.records → ttl_in_force own default last (zone_minimum rdata) ≡ None
+    → HasNone (IsTyped before own number fields)
+no_ttl_here before own number fields rdata default last form is_default is_last none r is =
+    let some : ttl_in_force own default last (zone_minimum r.rdata) ≡ Some r.ttl = rw (is_default, is_last) is.in_force in
+    no_ttl rdata r.rdata own default last r.ttl (form ∙ sym is.typed) none some

@@ -45,7 +45,11 @@ refused_within : (bytes : List ℕ) (place : ℕ) (before : Before) (at : ℕ) (
 refused_within bytes place before at fault (no_words none inside) = inside
 refused_within bytes place before at fault (no_entry stand on inside h) = omega (arith, on, inside)
 
--- a fault of a text is told at a place of it
+-- a fault of an entry, and of a text, is told at a place of it
+pub entry_within : (bytes : List ℕ) (place : ℕ) (before : Before) (e : EntryError) → IsEntryFault bytes place before e → IsWithin 0 (length bytes) e
+entry_within bytes place before Memory h = tt
+entry_within bytes place before (At at fault) (entry_at on refused) = (omega arith, refused_within bytes place before at fault refused)
+
 pub file_within : (origin : DomainName) (bytes : List ℕ) (e : EntryError) → IsFileFault origin bytes e → IsWithin 0 (length bytes) e
 file_within origin bytes Memory h = tt
 file_within origin bytes (At at fault) (entry {place = place} {before = before} front within (entry_at on refused)) = (omega arith, refused_within bytes place before at fault refused)

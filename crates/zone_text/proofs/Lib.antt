@@ -1,5 +1,11 @@
 pub mod BehindOwner
 pub mod FirstFaults
 pub mod FrontOnce
+pub mod GenerateOnce
+pub mod Generating
+pub mod Kept
 pub mod Minimum
+pub mod MoreFaults
+pub mod NumberBelow
+pub mod Numbering
 pub mod WordKinds

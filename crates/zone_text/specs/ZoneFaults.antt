@@ -1,11 +1,11 @@
 -- The first fault of a text that is no zone file (RFC 1035 section 5.1).
-use Rattle.std.specs.Prelude.{◌≡◌, ◌≢◌, ℕ, ◌+◌, ◌-◌, ◌<◌, ◌≤◌, ◌==◌, Bool, List, length, get_or, take, drop, count_by}
+use Rattle.std.specs.Prelude.{◌≡◌, ◌≢◌, ℕ, ◌+◌, ◌-◌, ◌<◌, ◌≤◌, ◌==◌, Bool, List, [], ◌∷◌, ◌++◌, length, get_or, take, drop, count_by}
 use Rattle.wire_names.specs.rr.domain.DomainName.{DomainName}
 use Rattle.text_words.specs.declared.error.TextError.{TextError}
 use Rattle.text_words.specs.declared.error.TextError.TheVariants as text
 use Rattle.text_words.specs.declared.words.TextKind.TheVariants.{ZoneFile}
 use Rattle.text_words.specs.declared.words.Word.{Word}
-use Rattle.text_words.specs.Words.{AreWordsTo, HasNoWords, is_blank}
+use Rattle.text_words.specs.Words.{AreWordsTo, HasNoWords, IsRestOfLine, is_blank}
 use Rattle.zone_text.specs.declared.error.ZoneFileError.{ZoneFileError}
 use Rattle.zone_text.specs.declared.error.ZoneFileError.TheVariants as told
 use Rattle.zone_text.specs.declared.error.ZoneFileFault.{ZoneFileFault}
@@ -16,7 +16,7 @@ use Rattle.zone_text.specs.declared.zone_file.fault.EntryError.{EntryError}
 use Rattle.zone_text.specs.declared.zone_file.fault.EntryError.TheVariants.{At, Memory}
 use Rattle.zone_text.specs.declared.zone_file.fault_word.FaultWord.{FaultWord}
 use Rattle.record_text.specs.RecordText.{HasNone}
-use Rattle.zone_text.specs.ZoneFiles.{BeginsWith, IsClassIn, IsEntry, IsFront, IsTtl, IsTypeWord}
+use Rattle.zone_text.specs.ZoneFiles.{BeginsWith, IsClassIn, IsEntry, IsEntryFrom, IsFront, IsTtl, IsTypeWord, after, first_entry, start_of}
 
 -- a byte that ends a line
 abbrev pub is_line_feed : ℕ → Bool
@@ -63,6 +63,22 @@ pub data IsFirstFault (origin : DomainName) (text : List ℕ) : ZoneFileError �
   memory : IsFirstFault origin text told.Memory
   at : {place at line column : ℕ} {before : Before} {word : FaultWord} {fault : ZoneFileFault} → IsFront origin text place before → place < length text → place ≤ at → IsRefused text place before at fault
       → IsPlaced text at line column → IsShownAt text at word → IsFirstFault origin text (told.At line column word fault)
+
+-- A fault of the entry that begins at a place, behind what stands before, told by the line and the column of a place of it.
+pub data IsFaultOf (text : List ℕ) (place : ℕ) (before : Before) : ZoneFileError → Type 0 where
+  at : {at line column : ℕ} {word : FaultWord} {fault : ZoneFileFault} → place ≤ at → IsRefused text place before at fault → IsPlaced text at line column → IsShownAt text at word → IsFaultOf text place before (told.At line column word fault)
+
+-- The entry behind one that is refused begins behind its words, or, where no words stand to an end, behind the line that it begins on.
+pub data IsBehindRefused (text : List ℕ) (place : ℕ) : ℕ → Type 0 where
+  by_words : {words : List Word} {end : ℕ} → AreWordsTo ZoneFile text place 0 words end → IsBehindRefused text place (end + 1)
+  by_line : {end : ℕ} → HasNoWords ZoneFile text place 0 → IsRestOfLine text place end → IsBehindRefused text place (end + 1)
+
+-- The entries of a text up to a place, what those leave that are some, and the faults of the others, which leave what they were left.
+pub data AreTaken (origin : DomainName) (text : List ℕ) : ℕ → Before → List ZoneFileError → Type 0 where
+  none : AreTaken origin text (first_entry text) (start_of origin) []
+  entry : {place end : ℕ} {before : Before} {faults : List ZoneFileError} {entry : Entry} → AreTaken origin text place before faults → place < length text → IsEntryFrom text place before entry end → AreTaken origin text (end + 1) (after before entry) faults
+  refused : {place next : ℕ} {before : Before} {faults : List ZoneFileError} {fault : ZoneFileError} → AreTaken origin text place before faults → place < length text → IsFaultOf text place before fault → IsBehindRefused text place next
+      → AreTaken origin text next before (faults ++ fault ∷ [])
 
 -- The same before line and column are told, of one entry and of a text.
 pub data IsEntryFault (text : List ℕ) (place : ℕ) (before : Before) : EntryError → Type 0 where

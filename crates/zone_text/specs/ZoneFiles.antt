@@ -1,5 +1,5 @@
 -- The records of a zone file (RFC 1035 section 5.1).
-use Rattle.std.specs.Prelude.{◌≡◌, ℕ, ◌+◌, ◌-◌, ◌<◌, ◌≤◌, ◌^◌, ◌==◌, ◌⊎◌, ◌++◌, List, [], ◌∷◌, if◌then◌else◌, Bool, true, false, length, get_or, slice_get, codes, Option, Some, None}
+use Rattle.std.specs.Prelude.{◌≡◌, ℕ, ◌+◌, ◌*◌, ◌-◌, ◌<◌, ◌≤◌, ◌^◌, ◌==◌, ◌⊎◌, ◌++◌, List, [], ◌∷◌, if◌then◌else◌, Bool, true, false, length, take, get_or, slice_get, codes, Option, Some, None}
 use Rattle.std.specs.Option.{option_map}
 use Rattle.wire_messages.specs.declared.rr.rdata.RData.{RData}
 use Rattle.wire_messages.specs.declared.rr.rdata.RData.TheVariants as rdata
@@ -12,7 +12,9 @@ use Rattle.text_words.specs.declared.words.TextKind.TheVariants.{ZoneFile}
 use Rattle.text_words.specs.declared.words.Word.{Word}
 use Rattle.zone_text.specs.declared.zone_file.entry.Before.{Before}
 use Rattle.zone_text.specs.declared.zone_file.entry.Entry.{Entry}
-use Rattle.zone_text.specs.declared.zone_file.entry.Entry.TheVariants.{Blank, Origin, DefaultTtl, Record as RecordOf}
+use Rattle.zone_text.specs.declared.zone_file.entry.Entry.TheVariants.{Blank, Origin, DefaultTtl, Record as RecordOf, Generated}
+use Rattle.zone_text.specs.declared.zone_file.number_range.NumberRange.{NumberRange}
+use Rattle.zone_text.specs.Numbered.{IsNumbered, IsRange, Reaches}
 use Rattle.record_text.specs.RecordText.{SameLetters, SpellsData, SpellsType}
 use Rattle.text_words.specs.Spelling.{IsNumber, SpellsName, SpellsTime}
 use Rattle.text_words.specs.Words.{AreWordsTo, is_blank}
@@ -136,36 +138,95 @@ AreNoOctets words = ⊥
 abbrev pub MayBeData : ℕ → List Word → Type 0
 MayBeData number words = has_octets number ≡ true → AreNoOctets words → ⊥
 
--- What stands behind the owner name of a record: TTL and class, the type, and the data. Where no TTL is among them, that is in force which the entries
--- before leave.
-pub record IsBehindOwner (before : Before) (words : List Word) (r : Record RData) : Type 0 where
-  pub own : Option ℕ
-  pub behind : List Word
-  pub front : IsFrontOf words own (type_of r.rdata) behind
+-- What a TTL, if one is written, a type and data behind it make, where this is left by the entries before. Where no TTL is written, that is in force which
+-- they leave.
+pub record IsTyped (before : Before) (own : Option ℕ) (number : ℕ) (fields : List Word) (r : Record RData) : Type 0 where
+  pub typed : type_of r.rdata ≡ number
   pub in_force : ttl_in_force own before.default_ttl (last_ttl before.records) (zone_minimum r.rdata) ≡ Some r.ttl
-  pub spelled : SpellsData (Some before.origin) (type_of r.rdata) behind r.rdata
-  pub some : MayBeData (type_of r.rdata) behind
+  pub spelled : SpellsData (Some before.origin) number fields r.rdata
+  pub some : MayBeData number fields
   pub kept : IsZoneRecord r
 
--- A record: where its line begins with a blank, it has the owner name of the record before; otherwise the first word is the owner name, and no directive.
+-- What stands behind the owner name of a record: TTL and class, the type, and the data.
+pub record IsBehindOwner (before : Before) (words : List Word) (r : Record RData) : Type 0 where
+  pub own : Option ℕ
+  pub number : ℕ
+  pub behind : List Word
+  pub front : IsFrontOf words own number behind
+  pub is : IsTyped before own number behind r
+
+-- A record: where its line begins with a blank, it has the owner name in force; otherwise the first word is the owner name, and no directive.
 pub data IsRecordEntry (before : Before) : Bool → List Word → Record RData → Type 0 where
-  repeated : {words : List Word} {r : Record RData} → last_owner before.records ≡ Some r.name → IsBehindOwner before words r → IsRecordEntry before true words r
+  repeated : {words : List Word} {r : Record RData} → last_owner (take before.owned before.records) ≡ Some r.name → IsBehindOwner before words r → IsRecordEntry before true words r
   named : {owner : Word} {words : List Word} {r : Record RData} → (IsDirective owner → ⊥) → IsName before.origin owner r.name → IsBehindOwner before words r → IsRecordEntry before false (owner ∷ words) r
 
--- The words of an entry, whose line begins with a blank or does not, behind what the entries before leave: a blank line, a directive that is one of two
--- (RFC 1035 section 5.1, RFC 2308 section 4), or a record.
+-- a word in no quotes that is a range
+pub record IsRangeWord (word : Word) (range : NumberRange) : Type 0 where
+  pub unquoted : word.quoted ≡ false
+  pub is : IsRange word.bytes.now range
+
+-- the words of a text that is all of an entry
+abbrev pub HasWordsOf : List ℕ → List Word → Type 0
+HasWordsOf text words = AreWordsTo ZoneFile text 0 0 words (length text)
+
+-- a word in no quotes that is a name, with a number for its dollar signs
+pub record IsNumberedOwner (origin : DomainName) (word : Word) (number : ℕ) (name : DomainName) : Type 0 where
+  pub text : List ℕ
+  pub unquoted : word.quoted ≡ false
+  pub numbered : IsNumbered word.quoted number word.bytes.now text
+  pub spelled : SpellsName (Some origin) text name.labels
+  pub qualified : name.is_fqdn ≡ true
+  pub short : name_len name.labels ≤ 255
+
+-- The record that a $GENERATE directive makes of a number: that of the entry with its owner name, its TTL, if it has one, its type and its data, where the
+-- number stands for the dollar signs in the owner name and in the data, which are words once it does.
+pub record IsNumberedRecord (before : Before) (lhs : Word) (own : Option ℕ) (type : ℕ) (rhs : Word) (number : ℕ) (r : Record RData) : Type 0 where
+  pub owner : IsNumberedOwner before.origin lhs number r.name
+  pub text : List ℕ
+  pub words : List Word
+  pub numbered : IsNumbered rhs.quoted number rhs.bytes.now text
+  pub stand : HasWordsOf text words
+  pub is : IsTyped before own type words r
+
+-- records for the numbers from 0 up to a count
+pub data AreEach (Is : ℕ → Record RData → Type 0) : ℕ → List (Record RData) → Type 0 where
+  none : AreEach Is 0 []
+  more : {count : ℕ} {records : List (Record RData)} {r : Record RData} → AreEach Is count records → Is count r → AreEach Is (count + 1) (records ++ r ∷ [])
+
+-- What stands behind `$GENERATE`: a range, an owner name, TTL and class in either order and either left out, a type, and one word for the data; and the records
+-- of all numbers of the range (BIND 9 Administrator Reference Manual, the $GENERATE directive).
+pub record IsGenerated (before : Before) (words : List Word) (records : List (Record RData)) : Type 0 where
+  pub range_word : Word
+  pub lhs : Word
+  pub rhs : Word
+  pub fields : List Word
+  pub in_order : words ≡ range_word ∷ lhs ∷ fields
+  pub range : NumberRange
+  pub ranged : IsRangeWord range_word range
+  pub own : Option ℕ
+  pub type : ℕ
+  pub front : IsFrontOf fields own type (rhs ∷ [])
+  pub stored : IsZoneType type
+  pub count : ℕ
+  pub reached : Reaches range count
+  pub each : AreEach (λ k. IsNumberedRecord before lhs own type rhs (range.first + k * range.step)) count records
+
+-- The words of an entry, whose line begins with a blank or does not, behind what the entries before leave: a blank line, a directive that is one of three
+-- (RFC 1035 section 5.1, RFC 2308 section 4, and $GENERATE of BIND), or a record.
 pub data IsEntry (before : Before) : Bool → List Word → Entry → Type 0 where
   blank : {begins_blank : Bool} → IsEntry before begins_blank [] Blank
   origin_of : {directive word : Word} {name : DomainName} → IsKeyword (codes "$ORIGIN") directive → IsName before.origin word name → IsEntry before false (directive ∷ word ∷ []) (Origin name)
   default_ttl_of : {directive word : Word} {seconds : ℕ} → IsKeyword (codes "$TTL") directive → IsTtl word seconds → IsEntry before false (directive ∷ word ∷ []) (DefaultTtl seconds)
+  generated_of : {directive : Word} {words : List Word} {records : List (Record RData)} → IsKeyword (codes "$GENERATE") directive → IsGenerated before words records → IsEntry before false (directive ∷ words) (Generated records)
   record_of : {begins_blank : Bool} {words : List Word} {r : Record RData} → IsRecordEntry before begins_blank words r → IsEntry before begins_blank words (RecordOf r)
 
--- what is left to the entry behind
+-- What is left to the entry behind. Behind a $GENERATE directive the owner name in force is that of before.
 abbrev pub after : Before → Entry → Before
 after before Blank = before
 after before (Origin name) = record before { origin = name }
 after before (DefaultTtl seconds) = record before { default_ttl = Some seconds }
-after before (RecordOf r) = record before { records = before.records ++ r ∷ [] }
+after before (RecordOf r) = record before { records = before.records ++ r ∷ []; owned = length before.records + 1 }
+after before (Generated records) = record before { records = before.records ++ records }
 
 -- From a place of a text on an entry stands, to its end.
 pub record IsEntryFrom (text : List ℕ) (place : ℕ) (before : Before) (entry : Entry) (end : ℕ) : Type 0 where
@@ -185,7 +246,7 @@ first_entry text = 0
 
 -- what is left to the first entry
 abbrev pub start_of : DomainName → Before
-start_of origin = record { origin = origin; default_ttl = None; records = [] }
+start_of origin = record { origin = origin; default_ttl = None; owned = 0; records = [] }
 
 -- The entries of a text up to a place, from the first on, and what they leave.
 abbrev pub IsFront : DomainName → List ℕ → ℕ → Before → Type 0

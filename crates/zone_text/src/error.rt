@@ -10,12 +10,19 @@ pub enum ZoneFileFault {
     /// A field, a quote or a parenthesis is wrong, or a field is missing.
     #[error("{0}")]
     Text(TextFault),
-    /// A line begins with `$` and a word that is neither `$ORIGIN` nor `$TTL`.
+    /// A line begins with `$` and a word that is none of `$ORIGIN`, `$TTL` and `$GENERATE`.
     #[error("unknown directive")]
     UnknownDirective,
     /// A line is `$INCLUDE`, which is not taken.
     #[error("$INCLUDE is not taken")]
     IncludeNotTaken,
+    /// The range of a `$GENERATE` directive is none: two numbers of 31 bits with `-` between them, the first not the greater one, and a step behind `/`
+    /// that is not 0, with at most 65,536 numbers.
+    #[error("not a range of numbers")]
+    BadRange,
+    /// In a field of a `$GENERATE` directive, `${` does not begin the form of a number, or the number with its offset is below 0 or has more than 31 bits.
+    #[error("not the form of a number")]
+    BadNumberForm,
     /// The first record has no owner name: its line begins with a blank.
     #[error("no record before has an owner name")]
     NoOwner,

@@ -1,8 +1,13 @@
 //! Zone files (RFC 1035 section 5.1).
 
 mod entry;
+mod expand;
 mod fault;
 pub(crate) mod fault_word;
+pub(crate) mod faults;
+mod generate;
+mod number_form;
+mod number_range;
 
 ghost use Rattle.std.specs.Prelude.{◌≡◌, ◌≤◌, ◌<◌, length, All, IfErr, IfOk};
 ghost use Rattle.zone_text.specs.ZoneFaults.{IsEntryFault, IsFileFault, IsFirstFault};
@@ -16,7 +21,7 @@ use std::alloc::Global;
 use text_words::Words;
 
 /// Where the first entry begins: behind a byte order mark, if there is one (RFC 3629 section 6).
-fn first_entry(text: &[u8]) -> usize
+pub(crate) fn first_entry(text: &[u8]) -> usize
     ensures within { result ≤ length text.now }
     ensures mark { result ≡ first_entry text.now }
 {
@@ -27,7 +32,7 @@ fn first_entry(text: &[u8]) -> usize
 }
 
 /// The entry that begins at a place, and where it ends.
-fn entry_at(
+pub(crate) fn entry_at(
     alloc: Global,
     text: &[u8],
     place: usize,
@@ -62,22 +67,24 @@ fn read_entries(alloc: Global, text: &[u8], origin: &Name) -> Result<Items<Recor
     let mut before = Before {
         origin: origin.clone()?,
         default_ttl: None,
+        owned: 0,
         records: Items::new(alloc),
     };
     let mut place = first_entry(text);
     'entries: while place < text.len() {
         let (entry, end) = entry_at(alloc, text, place, &before)?;
-        before.take(entry)?;
+        before.take(alloc, entry)?;
         place = end + 1;
     }
     Ok(before.records)
 }
 
-/// Reads a zone file (RFC 1035 section 5.1): its records in their order.
+/// Reads a zone file (RFC 1035 section 5.1): its records in their order. It is bytes in any encoding, of which those of ASCII have a meaning.
 ///
 /// An entry is a line; parentheses join lines, a comment goes from `;` to the end of its line, and quotes may hold any of these. It is
-/// blank, or `$ORIGIN` and a name, or `$TTL` and a TTL (RFC 2308 section 4), or a record: owner name, TTL, class, type and data. A line
-/// that begins with a blank has the owner name of the record before. TTL and class stand in either order, and either may be left out; the
+/// blank, or `$ORIGIN` and a name, or `$TTL` and a TTL (RFC 2308 section 4), or `$GENERATE` with a range of at most 65,536 numbers and what stands for the
+/// record of each (BIND 9 Administrator Reference Manual), or a record: owner name, TTL, class, type and data. A line that begins with a blank has the owner
+/// name of the record before, those of `$GENERATE` aside. TTL and class stand in either order, and either may be left out; the
 /// class is IN. A record without a TTL has that of the last `$TTL`, else that of the record before; an SOA record that has neither has its own
 /// minimum. A TTL is a number of seconds, or numbers with a unit behind each, one of `s`, `m`, `h`, `d` and `w` in either letter case. Names, in the
 /// data too, that have no dot at their end are relative to the origin, at first the one that is given, which is taken as fully qualified; `@` is the
@@ -87,16 +94,15 @@ fn read_entries(alloc: Global, text: &[u8], origin: &Name) -> Result<Items<Recor
 /// one. Nothing is asked of the records together: that they make one zone, at the origin or below it, is for those who use them.
 pub fn read_zone_file(
     alloc: Global,
-    text: &str,
+    text: &[u8],
     origin: &Name,
 ) -> Result<Items<Record>, ZoneFileError>
     ensures file { IfOk result (IsZoneFile origin.now text.now) }
     ensures records { IfOk result (λ records. All IsZoneRecord records) }
     ensures fault { IfErr result (IsFirstFault origin.now text.now) }
 {
-    let bytes = text.as_bytes();
-    match read_entries(alloc, bytes, origin) {
+    match read_entries(alloc, text, origin) {
         Ok(records) => Ok(records),
-        Err(e) => Err(e.in_file(bytes)),
+        Err(e) => Err(e.in_file(text)),
     }
 }

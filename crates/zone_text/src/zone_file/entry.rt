@@ -1,21 +1,23 @@
 //! One entry of a zone file (RFC 1035 section 5.1).
 
-ghost use Rattle.std.specs.Prelude.{◌≡◌, ◌≢◌, ◌↔◌, ◌≤◌, ◌++◌, ◌⊎◌, ℕ, [], ◌∷◌, All, List, Option, Some, None, false, true, IfErr, IfNone, IfOk, IfSome, IsTrue, OnErr, OnOk};
+ghost use Rattle.std.specs.Prelude.{◌≡◌, ◌≢◌, ◌↔◌, ◌≤◌, ◌++◌, ◌⊎◌, ℕ, [], ◌∷◌, All, List, Option, Some, None, false, true, take, IfErr, IfNone, IfOk, IfSome, IsTrue, OnErr, OnOk};
 ghost use Rattle.wire_messages.specs.declared.rr.rdata.RData.{RData as RDataOf};
 ghost use Rattle.wire_messages.specs.rr.RecordData.{type_of};
 ghost use Rattle.wire_messages.specs.serialize.writing.RecordSize.{data_len};
 ghost use Rattle.text_words.specs.declared.words.Word.{Word as WordOf};
 ghost use Rattle.record_text.specs.RecordText.{HasNone, SpellsData};
-ghost use Rattle.zone_text.specs.ZoneFiles.{AreNoOctets, AreTtlAndClass, BeginsWith, IsBehindOwner, IsClass1, IsClassIn, IsDirective, IsEntry, IsFrontOf, IsRecordEntry};
+ghost use Rattle.zone_text.specs.ZoneFiles.{AreNoOctets, AreTtlAndClass, BeginsWith, IsBehindOwner, IsClass1, IsClassIn, IsDirective, IsEntry, IsFrontOf, IsRecordEntry, IsTyped};
 ghost use Rattle.zone_text.specs.declared.zone_file.fault.EntryError.TheVariants.{Memory};
 ghost use Rattle.zone_text.specs.ZoneFaults.{BeginsWithNoFront, IsNoEntry, IsNoFront};
 ghost use Rattle.zone_text.specs.ZoneFiles.{IsTtl, IsTypeWord, IsZoneRecord, IsZoneType, MayBeData, MayBeginWithTtl, after, has_octets, last_owner, ttl_in_force, zone_minimum};
 
 use crate::error::ZoneFileFault;
 use crate::zone_file::fault::{EntryError, fault_of};
+use crate::zone_file::generate::read_generate;
 use hickory_wire::{DNSClass, Items, Name, Proof, RData, Record, RecordType};
 use record_text::{class_of, data_of_words, type_of};
 use std::alloc::{AllocError, Global};
+use std::mem;
 use text_words::{TextFault, Word, absolute_name, fault_at, number_of_digits, seconds_of};
 
 /// What the entries before leave to an entry.
@@ -25,6 +27,8 @@ pub(crate) struct Before {
     pub(crate) origin: Name,
     /// The TTL of the last `$TTL`, in seconds.
     pub(crate) default_ttl: Option<u32>,
+    /// How many of the records stand up to the last one whose owner name a line that begins with a blank has.
+    pub(crate) owned: usize,
     /// The records so far.
     pub(crate) records: Items<Record>,
 }
@@ -40,6 +44,19 @@ pub(crate) enum Entry {
     DefaultTtl(u32),
     /// A record.
     Record(Record),
+    /// The records of a `$GENERATE` directive.
+    Generated(Items<Record>),
+}
+
+/// What stands between an owner name and data.
+#[derive(Clone, Copy)]
+pub(crate) struct Front {
+    /// The TTL in seconds, where one stands there.
+    pub(crate) ttl: Option<u32>,
+    /// The type.
+    pub(crate) record_type: RecordType,
+    /// How many bytes of the file stand before the field of the type.
+    pub(crate) place: usize,
 }
 
 /// The TTL of a record in seconds: its own, else that of the last `$TTL` (RFC 2308 section 4), else that of the record before (RFC 1035
@@ -141,7 +158,9 @@ fn ttl_and_behind<'a, 'w>(
 }
 
 /// TTL and class, in either order and either left out: the TTL, if there is one, and the fields behind them.
-fn ttl_and_class<'a, 'w>(words: &'w [Word<'a>]) -> Result<(Option<u32>, &'w [Word<'a>]), EntryError>
+pub(crate) fn ttl_and_class<'a, 'w>(
+    words: &'w [Word<'a>],
+) -> Result<(Option<u32>, &'w [Word<'a>]), EntryError>
     ensures timed { IfOk result (λ found. (front : List WordOf) × (words.now ≡ front ++ found.1.now) × AreTtlAndClass front found.0) }
     ensures most { IfOk result (λ found. (own : Option ℕ) (number : ℕ) → (behind : List WordOf) → IsFrontOf words.now own number behind → (own ≡ found.0) × BeginsWith (IsTypeWord number) found.1.now behind) }
     ensures refused { IfErr result (λ e. e ≢ Memory → (own : Option ℕ) (number : ℕ) → HasNone (IsFrontOf words.now own number)) }
@@ -189,7 +208,7 @@ fn type_fault(word: &Word<'_>, fault: EntryError) -> EntryError {
 }
 
 /// The type of a record of a zone.
-fn zone_type(word: &Word<'_>) -> Result<RecordType, EntryError>
+pub(crate) fn zone_type(word: &Word<'_>) -> Result<RecordType, EntryError>
     ensures typed { IfOk result (λ number. IsTypeWord number word.now) }
     ensures stored { IfOk result IsZoneType }
     ensures refused { IfErr result (λ e. e ≢ Memory → (number : ℕ) → IsTypeWord number word.now → IsZoneType number → ⊥) }
@@ -204,10 +223,10 @@ fn zone_type(word: &Word<'_>) -> Result<RecordType, EntryError>
     Ok(record_type)
 }
 
-/// The data of a record of a zone, of the type of a field before them.
+/// The data of a record of a zone, of the type of a field before them, at this place.
 fn zone_data(
     alloc: Global,
-    word: &Word<'_>,
+    place: usize,
     record_type: RecordType,
     words: &[Word<'_>],
     end: usize,
@@ -221,7 +240,7 @@ fn zone_data(
 {
     let rdata = data_of_words(alloc, record_type, words, end, Some(origin))?;
     if has_octets(record_type) && are_no_octets(words) {
-        return Err(EntryError::from(word.fault(TextFault::WrongData)));
+        return Err(EntryError::from(fault_at(place, TextFault::WrongData)));
     }
     Ok(rdata)
 }
@@ -235,6 +254,45 @@ fn last_owner(first: &Word<'_>, records: &[Record]) -> Result<Name, EntryError>
         Some(record) => Ok(record.name.clone()?),
         None => Err(fault_of(first, ZoneFileFault::NoOwner)),
     }
+}
+
+/// The record of this owner name and of what stands between it and the data, which these fields are. `first` is the field that the entry begins with,
+/// and `end` the place behind all fields.
+pub(crate) fn typed_record(
+    alloc: Global,
+    first: &Word<'_>,
+    name: Name,
+    front: &Front,
+    data: &[Word<'_>],
+    end: usize,
+    before: &Before,
+) -> Result<Record, EntryError>
+    requires qualified { name.is_fqdn ≡ true }
+    requires stored { IsZoneType front.now.record_type }
+    ensures named { IfOk result (λ r. r.name ≡ name) }
+    ensures typed { IfOk result (IsTyped before.now front.now.ttl front.now.record_type data.now) }
+    ensures refused { IfErr result (λ e. e ≢ Memory → HasNone (IsTyped before.now front.now.ttl front.now.record_type data.now)) }
+{
+    let rdata = zone_data(
+        alloc,
+        front.place,
+        front.record_type,
+        data,
+        end,
+        &before.origin,
+    )?;
+    let last = before.records.as_slice().last().map(|record| record.ttl);
+    let minimum = zone_minimum(&rdata);
+    let Some(ttl) = ttl_in_force(front.ttl, before.default_ttl, last, minimum) else {
+        return Err(fault_of(first, ZoneFileFault::NoTtl));
+    };
+    Ok(Record {
+        name,
+        dns_class: DNSClass::IN,
+        ttl,
+        rdata,
+        proof: Proof::Indeterminate,
+    })
 }
 
 /// The record of this owner name that stands behind it: TTL and class, where they are there, type and data. `first` is the field that the entry begins
@@ -252,24 +310,25 @@ fn record_behind(
     ensures behind { IfOk result (IsBehindOwner before.now words.now) }
     ensures refused { IfErr result (λ e. e ≢ Memory → HasNone (IsBehindOwner before.now words.now)) }
 {
-    let (own, fields) = ttl_and_class(words)?;
+    let (ttl, fields) = ttl_and_class(words)?;
     let Some((word, data)) = fields.split_first() else {
         return Err(EntryError::from(fault_at(end, TextFault::MissingField)));
     };
-    let record_type = zone_type(word)?;
-    let rdata = zone_data(alloc, word, record_type, data, end, &before.origin)?;
-    let last = before.records.as_slice().last().map(|record| record.ttl);
-    let minimum = zone_minimum(&rdata);
-    let Some(ttl) = ttl_in_force(own, before.default_ttl, last, minimum) else {
-        return Err(fault_of(first, ZoneFileFault::NoTtl));
-    };
-    Ok(Record {
-        name,
-        dns_class: DNSClass::IN,
+    let front = Front {
         ttl,
-        rdata,
-        proof: Proof::Indeterminate,
-    })
+        record_type: zone_type(word)?,
+        place: word.start,
+    };
+    typed_record(alloc, first, name, &front, data, end, before)
+}
+
+/// The records up to the last one whose owner name a line that begins with a blank has.
+fn owned_records(before: &Before) -> &[Record]
+    ensures { result.now ≡ take before.now.owned before.now.records }
+{
+    let records = before.records.as_slice();
+    let owned = before.owned.min(records.len());
+    &records[..owned]
 }
 
 /// The record of an entry whose line begins with a blank, of which these are the first field and all fields.
@@ -284,7 +343,7 @@ fn repeated_record(
     ensures entry { IfOk result (IsRecordEntry before.now true words.now) }
     ensures refused { IfErr result (λ e. e ≢ Memory → HasNone (IsRecordEntry before.now true words.now)) }
 {
-    let name = last_owner(first, before.records.as_slice())?;
+    let name = last_owner(first, owned_records(before))?;
     record_behind(alloc, first, name, words, end, before)
 }
 
@@ -305,7 +364,10 @@ fn named_record(
 }
 
 /// The field behind that of a directive, which is the last one.
-fn only_field<'a, 'w>(behind: &'w [Word<'a>], end: usize) -> Result<&'w Word<'a>, EntryError>
+pub(crate) fn only_field<'a, 'w>(
+    behind: &'w [Word<'a>],
+    end: usize,
+) -> Result<&'w Word<'a>, EntryError>
     ensures only { IfOk result (λ word. behind.now ≡ word.now ∷ []) }
     ensures refused { OnErr result ((word : WordOf) → behind.now ≡ word ∷ [] → ⊥) }
 {
@@ -337,6 +399,10 @@ fn read_directive(
         let word = only_field(behind, end)?;
         let seconds = seconds_of(word)?;
         return Ok(Entry::DefaultTtl(seconds));
+    }
+    if first.bytes.eq_ignore_ascii_case(b"$GENERATE") {
+        let records = read_generate(alloc, behind, end, before)?;
+        return Ok(Entry::Generated(records));
     }
     if first.bytes.eq_ignore_ascii_case(b"$INCLUDE") {
         return Err(fault_of(first, ZoneFileFault::IncludeNotTaken));
@@ -381,16 +447,31 @@ pub(crate) fn read_entry(
     Ok(Entry::Record(record))
 }
 
+/// Puts records behind others.
+fn append(alloc: Global, records: &mut Items<Record>, more: Items<Record>) -> Result<(), AllocError>
+    ensures { OnOk result (records.new ≡ records.old ++ more) }
+{
+    let mut all = mem::replace(records, Items::new(alloc)).into_vec();
+    let mut more = more.into_vec();
+    all.append(&mut more)?;
+    *records = Items::from_vec(all);
+    Ok(())
+}
+
 impl Before {
     /// What is left to the entry behind this one. Where memory is refused, nothing is said of what is left.
-    pub(crate) fn take(&mut self, entry: Entry) -> Result<(), AllocError>
+    pub(crate) fn take(&mut self, alloc: Global, entry: Entry) -> Result<(), AllocError>
         ensures { OnOk result (self.new ≡ after self.old entry) }
     {
         match entry {
             Entry::Blank => {}
             Entry::Origin(name) => self.origin = name,
             Entry::DefaultTtl(ttl) => self.default_ttl = Some(ttl),
-            Entry::Record(record) => self.records.push(record)?,
+            Entry::Record(record) => {
+                self.records.push(record)?;
+                self.owned = self.records.len();
+            }
+            Entry::Generated(more) => append(alloc, &mut self.records, more)?,
         }
         Ok(())
     }

@@ -1,31 +1,18 @@
-use Rattle.std.proofs.Common.{◌≡◌, ◌+◌, ◌<◌, ℕ, List, [], Bool, None, All, length, sym, subst, arith}
-use Rattle.std.proofs.lemmas.List.Elements.{All-push}
+use Rattle.std.proofs.Common.{◌≡◌, ◌+◌, ◌<◌, ℕ, List, [], None, All, length, sym, subst, arith}
 use Rattle.wire_messages.specs.declared.rr.rdata.RData.{RData}
 use Rattle.wire_messages.specs.declared.rr.record.Record.{Record}
 use Rattle.wire_names.specs.rr.domain.DomainName.{DomainName}
-use Rattle.text_words.specs.declared.words.Word.{Word}
 use Rattle.zone_text.specs.declared.zone_file.entry.Before.{Before}
 use Rattle.zone_text.specs.declared.zone_file.entry.Entry.{Entry}
-use Rattle.zone_text.specs.ZoneFiles.{IsEntry, IsEntryFrom, IsFront, IsRecordEntry, IsZoneRecord, after, first_entry}
+use Rattle.zone_text.specs.ZoneFiles.{IsEntryFrom, IsFront, IsZoneRecord, after, first_entry}
 use Rattle.zone_text.specs.ZoneFiles.AreEntries.{none, more}
-use Rattle.zone_text.specs.ZoneFiles.IsEntry.{blank, origin_of, default_ttl_of, record_of}
-use Rattle.zone_text.specs.ZoneFiles.IsRecordEntry.{repeated, named}
 use Rattle.std.proofs.lemmas.Result.{err_from_is_err_and}
 use Rattle.zone_text.specs.ZoneFaults.IsFileFault.{memory, entry}
+use Rattle.zone_text.proofs.Kept.{kept_after}
 use Rattle.zone_text.proofs.zone_file.read_entries.Goals as goal
 
-no_entries : (text : List ℕ) (origin o : DomainName) (records : List (Record RData)) (place : ℕ) → place ≡ first_entry text → o ≡ origin → records ≡ [] → IsFront origin text place (record { origin = o; default_ttl = None; records = records })
+no_entries : (text : List ℕ) (origin o : DomainName) (records : List (Record RData)) (place : ℕ) → place ≡ first_entry text → o ≡ origin → records ≡ [] → IsFront origin text place (record { origin = o; default_ttl = None; owned = 0; records = records })
 no_entries text origin o records place e f g = rw (e, f, g) none
-
-kept_record : (before : Before) (begins_blank : Bool) (words : List Word) (r : Record RData) → IsRecordEntry before begins_blank words r → IsZoneRecord r
-kept_record before begins_blank words r (repeated owner behind) = behind.kept
-kept_record before begins_blank words r (named plain owner behind) = behind.kept
-
-kept_after : (before : Before) (begins_blank : Bool) (words : List Word) (e : Entry) → All IsZoneRecord before.records → IsEntry before begins_blank words e → All IsZoneRecord (after before e).records
-kept_after before begins_blank words e all blank = all
-kept_after before begins_blank words e all (origin_of k name) = all
-kept_after before begins_blank words e all (default_ttl_of k ttl) = all
-kept_after before begins_blank words e all (record_of {r = r} h) = All-push IsZoneRecord before.records r all (kept_record before begins_blank words r h)
 
 one_more : (origin : DomainName) (text : List ℕ) (place end : ℕ) (before next : Before) (e : Entry) → IsFront origin text place before → place < length text → IsEntryFrom text place before e end → next ≡ after before e → IsFront origin text (end + 1) next
 one_more origin text place end before next e front within is left = rw left (more front within is)

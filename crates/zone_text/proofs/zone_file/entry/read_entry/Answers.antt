@@ -8,7 +8,7 @@ use Rattle.zone_text.specs.declared.zone_file.entry.Before.{Before}
 use Rattle.zone_text.specs.ZoneFaults.{IsNoEntry}
 use Rattle.zone_text.specs.ZoneFiles.{IsDirective, IsKeyword, IsRecordEntry}
 use Rattle.text_words.specs.declared.words.Word.{Word}
-use Rattle.zone_text.specs.ZoneFiles.IsEntry.{blank, origin_of, default_ttl_of, record_of}
+use Rattle.zone_text.specs.ZoneFiles.IsEntry.{blank, origin_of, default_ttl_of, generated_of, record_of}
 use Rattle.zone_text.proofs.zone_file.entry.read_entry.Goals as goal
 
 no_words : (words : List Word) → length words ≡ 0 → words ≡ []
@@ -51,6 +51,8 @@ no_named before words behind first is plain none entry (origin_of {directive = d
     plain (subst IsDirective (heads d first (w ∷ []) behind is) (begins d (codes "$ORIGIN") key refl))
 no_named before words behind first is plain none entry (default_ttl_of {directive = d} {word = w} key ttl) =
     plain (subst IsDirective (heads d first (w ∷ []) behind is) (begins d (codes "$TTL") key refl))
+no_named before words behind first is plain none entry (generated_of {directive = d} {words = ws} key at) =
+    plain (subst IsDirective (heads d first ws behind is) (begins d (codes "$GENERATE") key refl))
 no_named before words behind first is plain none entry (record_of {r = r} h) = none r h
 
 pub returns-in_err-record-clause-refused : goal.returns-in_err-record-clause-refused

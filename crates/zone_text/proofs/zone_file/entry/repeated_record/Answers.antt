@@ -1,4 +1,4 @@
-use Rattle.std.proofs.Common.{◌≡◌, ◌≢◌, List, Result, Ok, Err, Some, None, sym, subst, true}
+use Rattle.std.proofs.Common.{◌≡◌, ◌≢◌, List, Result, Ok, Err, Some, None, take, sym, subst, true}
 use Rattle.std.specs.Prelude.{IfErr, IfOk}
 use Rattle.record_text.specs.RecordText.{HasNone}
 use Rattle.zone_text.specs.declared.zone_file.fault.EntryError.TheVariants.{Memory}
@@ -16,17 +16,17 @@ use Rattle.zone_text.proofs.zone_file.entry.repeated_record.Goals as goal
 none_behind : (before : Before) (words : List Word) → HasNone (IsBehindOwner before words) → HasNone (IsRecordEntry before true words)
 none_behind before words none r (repeated owner behind) = none r behind
 
-no_owner : (before : Before) (words : List Word) → last_owner before.records ≡ None → HasNone (IsRecordEntry before true words)
+no_owner : (before : Before) (words : List Word) → last_owner (take before.owned before.records) ≡ None → HasNone (IsRecordEntry before true words)
 no_owner before words none r (repeated owner behind) = cc
 
-with_owner : (before : Before) (words : List Word) (name : DomainName) (records : List (Record RData)) (r : Result (Record RData) EntryError) → records ≡ before.records → last_owner records ≡ Some name → IfOk r (λ kept. kept.name ≡ name) → IfOk r (IsBehindOwner before words)
+with_owner : (before : Before) (words : List Word) (name : DomainName) (records : List (Record RData)) (r : Result (Record RData) EntryError) → records ≡ take before.owned before.records → last_owner records ≡ Some name → IfOk r (λ kept. kept.name ≡ name) → IfOk r (IsBehindOwner before words)
     → IfOk r (IsRecordEntry before true words)
 with_owner before words name records (Ok r) all last same h =
-    repeated (subst (λ (n : DomainName). last_owner before.records ≡ Some n) (sym same) (subst (λ (rs : List (Record RData)). last_owner rs ≡ Some name) all last)) h
+    repeated (subst (λ (n : DomainName). last_owner (take before.owned before.records) ≡ Some n) (sym same) (subst (λ (rs : List (Record RData)). last_owner rs ≡ Some name) all last)) h
 with_owner before words name records (Err e) all last same h = h
 
 pub returns-clause-entry : goal.returns-clause-entry
-returns-clause-entry c = with_owner c.args.before.now c.args.words.now c.in_ok-name.name c.as_slice.result.now c.record_behind.result c.as_slice.ensures c.in_ok-name.ensures.owner c.record_behind.ensures.named c.record_behind.ensures.behind
+returns-clause-entry c = with_owner c.args.before.now c.args.words.now c.in_ok-name.name c.owned_records.result.now c.record_behind.result c.owned_records.ensures c.in_ok-name.ensures.owner c.record_behind.ensures.named c.record_behind.ensures.behind
 
 refused : (before : Before) (words : List Word) (r : Result (Record RData) EntryError) → IfErr r (λ e. e ≢ Memory → HasNone (IsBehindOwner before words)) → IfErr r (λ e. e ≢ Memory → HasNone (IsRecordEntry before true words))
 refused before words (Ok r) h = h
@@ -38,4 +38,4 @@ returns-clause-refused c = refused c.args.before.now c.args.words.now c.record_b
 pub returns-in_err-name-clause-refused : goal.returns-in_err-name-clause-refused
 returns-in_err-name-clause-refused c =
     let p = err_from_is_err_and c.from_residual.result c.from_residual.ensures.1 in
-    rw (p.1, p.2) (λ other. no_owner c.args.before.now c.args.words.now (subst (λ (rs : List (Record RData)). last_owner rs ≡ None) c.as_slice.ensures (c.in_err-name.ensures.fault other)))
+    rw (p.1, p.2) (λ other. no_owner c.args.before.now c.args.words.now (subst (λ (rs : List (Record RData)). last_owner rs ≡ None) c.owned_records.ensures (c.in_err-name.ensures.fault other)))
