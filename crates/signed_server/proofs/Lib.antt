@@ -1,3 +1,4 @@
 mod Courses
+mod Keyless
 mod Puts
 mod Verified

@@ -1,13 +1,15 @@
 -- What becomes of a message at a server with keys (RFC 8945 section 5.2).
-use Rattle.std.specs.Prelude.{◌≡◌, ◌≤◌, ◌⊎◌, ℕ, List, length}
+use Rattle.std.specs.Prelude.{◌≡◌, ◌≤◌, ◌⊎◌, ℕ, Bool, true, false, List, [], length, Contains}
+use Rattle.std.specs.List.{list_any}
 use Rattle.std.specs.Net.Socket.{socket_ip}
 use Rattle.std.specs.declared.net.SocketAddr.{SocketAddr}
 use Rattle.wire_names.specs.rr.domain.DomainName.{DomainName}
+use Rattle.wire_names.specs.rr.domain.NameOrder.{name_eq}
 use Rattle.wire_names.specs.declared.error.ProtoError.{ProtoError}
 use Rattle.wire_messages.specs.declared.protocol.Protocol.{Protocol}
 use Rattle.wire_reading.specs.serialize.layout.WholeMessage.{MessageAt}
 use Rattle.wire_reading.specs.serialize.reading.MessageReading.{Reads}
-use Rattle.access_control.specs.Access.{IsAllowed}
+use Rattle.access_control.specs.Access.{IsAllowed, Network}
 use Rattle.hickory_base.specs.requests.RequestReading.{IsFaultOf, IsQuestionSection, message_of}
 use Rattle.hickory_base.specs.requests.Requests.{ReceivedRequest}
 use Rattle.hickory_catalog.specs.Server.{Server}
@@ -37,8 +39,9 @@ pub record Arrival : Type 0 where
 abbrev pub arrival : List ℕ → SocketAddr → Protocol → ℕ → Arrival
 arrival bytes source protocol now = record { bytes = bytes; source = source; protocol = protocol; now = now }
 
--- A message is judged where its address may use the server, it is no shorter than a header, and is itself no response.
-pub record IsForJudging (rules : Rules) (bytes : List ℕ) (source : SocketAddr) : Type 0 where
+-- A message is judged where the server has a key, the message's address may use the server, and it is no shorter than a header and itself no response.
+pub record IsForJudging (keys : List Key) (rules : Rules) (bytes : List ℕ) (source : SocketAddr) : Type 0 where
+  pub keyed : ¬ (keys ≡ [])
   pub allowed : IsAllowed rules.access.deny rules.access.allow (socket_ip source)
   pub whole : 12 ≤ length bytes
   pub no_response : ¬ (IsResponse bytes)
@@ -63,31 +66,48 @@ course_of (Signed s BadSig) = Refuse
 course_of (Signed s BadTime) = Refuse
 course_of (Signed s BadTrunc) = Refuse
 
+-- whether the key that a request names is one of these names, letter case aside
+abbrev pub is_by_one_of : List DomainName → Judgement → Bool
+is_by_one_of names (Signed s verdict) = list_any (λ name. name_eq name s.name) names
+is_by_one_of names other = false
+
+-- Rules by which everybody may have transfers, and which are these else.
+pub record AreOpen (rules theirs : Rules) : Type 0 where
+  pub others : theirs ≡ record rules { transfers = theirs.transfers }
+  pub none_denied : (network : Network) → ¬ (Contains theirs.transfers.deny network)
+  pub all_allowed : (network : Network) → ¬ (Contains theirs.transfers.allow network)
+
+-- The rules that a request is held to: these, which are opened where its key may have transfers from anywhere.
+abbrev pub AreRulesFor : Bool → Rules → Rules → Type 0
+AreRulesFor true rules theirs = AreOpen rules theirs
+AreRulesFor false rules theirs = theirs ≡ rules
+
 -- what becomes of a message at a server without keys, and the zones after it
 abbrev pub IsServed : {H : Type 0} → Rules → Server H → Arrival → Answer → List (DomainName × List H) → Type 0
 IsServed rules server came answer zones = BytesServed rules server came.bytes came.source came.protocol came.now answer zones
 
--- What becomes of a message at a server with keys, and the zones after it.
-pub data ServedWithKeys {H : Type 0} (keys : List Key) (rules : Rules) (server : Server H) (came : Arrival) (answer : Answer) (zones : List (DomainName × List H)) : Type 0 where
-  -- It is not judged: it is served as by a server without keys, which gives it no reply.
-  unjudged : ¬ (IsForJudging rules came.bytes came.source) → IsServed rules server came answer zones → ServedWithKeys keys rules server came answer zones
+-- What becomes of a message at a server with keys, and the zones after it. Of the keys those of these names may have transfers from anywhere.
+pub data ServedWithKeys {H : Type 0} (keys : List Key) (names : List DomainName) (rules : Rules) (server : Server H) (came : Arrival) (answer : Answer) (zones : List (DomainName × List H)) : Type 0 where
+  -- It is not judged: it is served as by a server without keys, which gives it no reply where the server has a key.
+  unjudged : ¬ (IsForJudging keys rules came.bytes came.source) → IsServed rules server came answer zones → ServedWithKeys keys names rules server came answer zones
   -- It has no TSIG record: it is served as by a server without keys.
-  plain : {judgement : Judgement} → IsForJudging rules came.bytes came.source → Judged keys came.bytes came.now judgement → course_of judgement ≡ Plain
-      → IsServed rules server came answer zones → ServedWithKeys keys rules server came answer zones
+  plain : {judgement : Judgement} → IsForJudging keys rules came.bytes came.source → Judged keys came.bytes came.now judgement → course_of judgement ≡ Plain
+      → IsServed rules server came answer zones → ServedWithKeys keys names rules server came answer zones
   -- It begins with no message that the zones could be asked for.
-  unreadable : {judgement : Judgement} {e : ProtoError} → IsForJudging rules came.bytes came.source → Judged keys came.bytes came.now judgement → IsFaultOf came.bytes e
-      → answer ≡ Unreadable → zones ≡ server.zones → ServedWithKeys keys rules server came answer zones
-  -- Its signature is good: it is served, and the replies are signed.
-  good : {judgement : Judgement} {request : ReceivedRequest} {served : Answer} → IsForJudging rules came.bytes came.source → Judged keys came.bytes came.now judgement
-      → course_of judgement ≡ Sign → IsRequestOf came request → IsServed rules server came served zones → IsSent keys judgement rules request came.now served answer
-      → ServedWithKeys keys rules server came answer zones
+  unreadable : {judgement : Judgement} {e : ProtoError} → IsForJudging keys rules came.bytes came.source → Judged keys came.bytes came.now judgement → IsFaultOf came.bytes e
+      → answer ≡ Unreadable → zones ≡ server.zones → ServedWithKeys keys names rules server came answer zones
+  -- Its signature is good: it is served, by the rules for its key, and the replies are signed.
+  good : {judgement : Judgement} {request : ReceivedRequest} {served : Answer} {theirs : Rules} → IsForJudging keys rules came.bytes came.source → Judged keys came.bytes came.now judgement
+      → course_of judgement ≡ Sign → IsRequestOf came request → AreRulesFor (is_by_one_of names judgement) rules theirs → IsServed theirs server came served zones → IsSent keys judgement rules request came.now served answer
+      → ServedWithKeys keys names rules server came answer zones
   -- Its signature is bad: no zone is asked.
-  bad : {judgement : Judgement} {request : ReceivedRequest} {leaving : List (List ℕ)} → IsForJudging rules came.bytes came.source → Judged keys came.bytes came.now judgement
+  bad : {judgement : Judgement} {request : ReceivedRequest} {leaving : List (List ℕ)} → IsForJudging keys rules came.bytes came.source → Judged keys came.bytes came.now judgement
       → course_of judgement ≡ Refuse → IsRequestOf came request → IsRefused keys judgement rules request came.now leaving → answer ≡ Replies leaving
-      → zones ≡ server.zones → ServedWithKeys keys rules server came answer zones
+      → zones ≡ server.zones → ServedWithKeys keys names rules server came answer zones
 
 -- The zones after a message for which memory was refused: as before, or as after it where it was served and its replies are missing.
-abbrev pub LeavesWithKeys : {H : Type 0} → Rules → Server H → Arrival → ServeError → List (DomainName × List H) → Type 0
-LeavesWithKeys rules server came e zones = ((e ≡ Memory) × (zones ≡ server.zones))
+abbrev pub LeavesWithKeys : {H : Type 0} → List DomainName → Rules → Server H → Arrival → ServeError → List (DomainName × List H) → Type 0
+LeavesWithKeys names rules server came e zones = ((e ≡ Memory) × (zones ≡ server.zones))
     ⊎ (LeavesBytes rules server came.bytes came.source came.protocol came.now e zones
-    ⊎ ((e ≡ MemoryAfterHandling) × (answer : Answer) × IsServed rules server came answer zones))
+    ⊎ ((e ≡ MemoryAfterHandling) × (judgement : Judgement) × (theirs : Rules) × AreRulesFor (is_by_one_of names judgement) rules theirs
+    × (answer : Answer) × IsServed theirs server came answer zones))

@@ -1,5 +1,5 @@
 -- What holds of the replies of a server with keys.
-use Rattle.std.specs.Prelude.{◌≡◌, ℕ, Bool, false, List, length, [], ◌∷◌, ◌++◌, Option, Some, None, Contains}
+use Rattle.std.specs.Prelude.{◌≡◌, ◌↔◌, ℕ, Bool, false, List, length, [], ◌∷◌, ◌++◌, Option, Some, None, Contains}
 use Rattle.wire_names.specs.serialize.layout.Bytes.{AreBytes}
 use Rattle.wire_messages.specs.declared.rr.record.Record.{Record}
 use Rattle.wire_messages.specs.declared.rr.tsig.TSIG.{TSIG}
@@ -10,6 +10,14 @@ use Rattle.tsig.specs.declared.judgement.Judgement.{Judgement}
 use Rattle.tsig.specs.declared.judgement.Judgement.TheVariants.{Signed}
 use Rattle.tsig.specs.declared.judgement.Verdict.TheVariants.{Good}
 use Rattle.tsig.specs.declared.keys.Key.{Key}
+use Rattle.wire_names.specs.rr.domain.DomainName.{DomainName}
+use Rattle.hickory_base.specs.declared.zone_store.handler.ZoneHandler.{Ghosts}
+use Rattle.hickory_catalog.specs.Server.{server_of}
+use Rattle.hickory_catalog.specs.Signing.{Signer}
+use Rattle.hickory_catalog.specs.declared.catalog.Catalog.{Catalog}
+use Rattle.hickory_server.specs.declared.server.answer.Answer.{Answer}
+use Rattle.hickory_server.specs.declared.server.rules.Rules.{Rules}
+use Rattle.signed_server.specs.ServedWithKeys.{Arrival, IsServed, ServedWithKeys}
 use Rattle.signed_server.specs.SignedAnswers.{AreSigned, signed_behind}
 
 -- A message of bytes without a TSIG record, none of whose names leads into its header.
@@ -45,3 +53,8 @@ has_right_mac other = false
 abbrev pub BadRepliesAreBare : Type 0
 BadRepliesAreBare = (keys : List Key) (judgement : Judgement) (message : List ℕ) (now : ℕ) (reply : SignedReply)
     → has_right_mac judgement ≡ false → signed_behind keys judgement None message now ≡ Some reply → reply.mac ≡ []
+
+-- Without a key every message is served as by the server without keys, whichever keys may have transfers from anywhere.
+abbrev pub KeylessServesAll : {S H : Type 0} → Ghosts H → (S → Signer) → Type 0
+KeylessServesAll {S} {H} handler signature_for = (catalog : Catalog S H) (names : List DomainName) (rules : Rules) (came : Arrival) (answer : Answer) (zones : List (DomainName × List H))
+    → ServedWithKeys [] names rules (server_of handler signature_for catalog) came answer zones ↔ IsServed rules (server_of handler signature_for catalog) came answer zones

@@ -1,7 +1,9 @@
 //! Laws of the replies of a server with keys, each the contract of a function with nothing to do.
 
-ghost use Rattle.signed_server.specs.SignedLaws.{BadRepliesAreBare, EveryMessageLeaves, GoodRepliesVerify};
+ghost use Rattle.signed_server.specs.SignedLaws.{BadRepliesAreBare, EveryMessageLeaves, GoodRepliesVerify, KeylessServesAll};
 
+use hickory_base::zone_store::ZoneHandler;
+use hickory_catalog::signer::ReplySigner;
 use tsig::replies_verify;
 
 /// Every reply to a request that was judged good carries a MAC that verifies under the request's key, over the bytes that leave, the first for the MAC of the
@@ -16,3 +18,8 @@ pub fn signed_replies()
 {
     replies_verify();
 }
+
+/// A server with keys that has none serves every message, signed or not, exactly as the server in it does.
+pub fn served_without_keys<S: ReplySigner, H: ZoneHandler>()
+    ensures { KeylessServesAll H.ZoneHandler S.signature_for }
+{}

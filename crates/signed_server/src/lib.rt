@@ -9,6 +9,6 @@ mod laws;
 mod placeholders;
 mod service;
 
-pub use laws::signed_replies;
+pub use laws::{served_without_keys, signed_replies};
 pub use placeholders::LeftToServer;
 pub use service::SignedServer;

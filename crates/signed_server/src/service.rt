@@ -1,21 +1,27 @@
 //! A server with keys.
 
-ghost use Rattle.std.specs.Prelude.{◌≡◌, ◌≢◌, ◌↔◌, IfErr, IfOk, IsTrue};
+ghost use Rattle.std.specs.Prelude.{◌≡◌, ◌≢◌, ◌↔◌, [], IfErr, IfOk, IsTrue};
+ghost use Rattle.std.specs.List.{list_any};
+ghost use Rattle.wire_names.specs.rr.domain.NameOrder.{name_eq};
 ghost use Rattle.hickory_catalog.specs.Server.{server_of};
 ghost use Rattle.hickory_server.specs.declared.server.answer.Answer.{Answer as Outcome};
+ghost use Rattle.hickory_server.specs.declared.server.rules.Rules.{Rules as Ruled};
 ghost use Rattle.tsig.specs.Judging.{Judged};
-ghost use Rattle.signed_server.specs.ServedWithKeys.{IsForJudging, IsServed, LeavesWithKeys, ServedWithKeys, arrival, course_of};
+ghost use Rattle.signed_server.specs.ServedWithKeys.{AreRulesFor, IsForJudging, IsServed, LeavesWithKeys, ServedWithKeys, arrival, course_of, is_by_one_of};
 ghost use Rattle.signed_server.specs.SignedAnswers.{IsSent};
+ghost use Rattle.hickory_server.specs.ServedBy.{LeavesBytes};
 
 use crate::answers::{refused, sent};
+use hickory_base::access::AccessControl;
 use hickory_base::server::Request;
 use hickory_base::zone_store::ZoneHandler;
 use hickory_catalog::catalog::Catalog;
 use hickory_catalog::signer::ReplySigner;
 use hickory_server::server::serve::ServeError;
 use hickory_server::server::{Answer, Rules, Server};
-use hickory_wire::{ProtoError, Protocol};
+use hickory_wire::{Name, ProtoError, Protocol};
 use std::alloc::{AllocError, Global};
+use std::mem;
 use std::net::{IpAddr, Ipv4Addr, SocketAddr};
 use tsig::{Judgement, Keys, Verdict, judge};
 
@@ -50,18 +56,40 @@ fn course_of(judgement: &Judgement) -> Course
 }
 
 /// Whether a message is judged.
-fn is_for_judging(rules: &Rules, bytes: &[u8], src: SocketAddr) -> bool
-    ensures { IsTrue result ↔ IsForJudging rules.now bytes.now src }
+fn is_for_judging(keys: &Keys, rules: &Rules, bytes: &[u8], src: SocketAddr) -> bool
+    ensures { IsTrue result ↔ IsForJudging keys.now rules.now bytes.now src }
 {
-    rules.access.allow(src.ip()) && bytes.len() >= HEADER_LEN && bytes[2] < 128
+    !keys.is_empty() && rules.access.allow(src.ip()) && bytes.len() >= HEADER_LEN && bytes[2] < 128
 }
 
-/// Serves a message whose signature is good, and signs its replies.
-fn serve_good<S: ReplySigner, H: ZoneHandler>(
+/// Whether two names are one, letter case aside.
+fn is_same_name(one: &Name, other: &Name) -> bool
+    ensures { result ≡ name_eq one.now other.now }
+{
+    one == other
+}
+
+/// Whether a name is one of these, letter case aside.
+fn is_one_of(names: &[Name], name: &Name) -> bool
+    ensures { result ≡ list_any (λ one. name_eq one name.now) names.now }
+{
+    names.iter().any(|one| is_same_name(one, name))
+}
+
+/// Whether the key that a request names is one of these.
+fn is_by_one_of(names: &[Name], judgement: &Judgement) -> bool
+    ensures { result ≡ is_by_one_of names.now judgement.now }
+{
+    match judgement {
+        Judgement::Signed { signature, .. } => is_one_of(names, &signature.get().name),
+        _ => false,
+    }
+}
+
+/// Serves a message, by rules that let it have transfers from anywhere where that is said.
+fn serve_opened<S: ReplySigner, H: ZoneHandler>(
     alloc: Global,
-    keys: &Keys,
-    judgement: &Judgement,
-    request: &Request,
+    is_open: bool,
     server: &mut Server<S, H>,
     bytes: &[u8],
     src: SocketAddr,
@@ -70,12 +98,41 @@ fn serve_good<S: ReplySigner, H: ZoneHandler>(
 ) -> Result<Answer, ServeError>
     ensures rules { server.new.rules ≡ server.old.rules }
     ensures others { server.new.catalog ≡ record server.old.catalog { zones = server.new.catalog.zones } }
-    ensures ok { IfOk result (λ answer. (served : Outcome) ×
-        IsServed server.old.rules (server_of H.ZoneHandler S.signature_for server.old.catalog) (arrival bytes.now src protocol now) served server.new.catalog.zones ×
-        IsSent keys.now judgement.now server.old.rules request.now now served answer) }
-    ensures err { IfErr result (λ e. LeavesWithKeys server.old.rules (server_of H.ZoneHandler S.signature_for server.old.catalog) (arrival bytes.now src protocol now) e server.new.catalog.zones) }
+    ensures ok { IfOk result (λ answer. (theirs : Ruled) × AreRulesFor is_open server.old.rules theirs ×
+        IsServed theirs (server_of H.ZoneHandler S.signature_for server.old.catalog) (arrival bytes.now src protocol now) answer server.new.catalog.zones) }
+    ensures err { IfErr result (λ e. LeavesBytes server.old.rules (server_of H.ZoneHandler S.signature_for server.old.catalog) bytes.now src protocol now e server.new.catalog.zones) }
 {
-    let replies = match server.serve(alloc, bytes, src, protocol, now) {
+    if !is_open {
+        return server.serve(alloc, bytes, src, protocol, now);
+    }
+    let closed = mem::replace(&mut server.rules.transfers, AccessControl::new(alloc));
+    let answer = server.serve(alloc, bytes, src, protocol, now);
+    server.rules.transfers = closed;
+    answer
+}
+
+/// Serves a message whose signature is good, and signs its replies.
+fn serve_good<S: ReplySigner, H: ZoneHandler>(
+    alloc: Global,
+    keys: &Keys,
+    judgement: &Judgement,
+    request: &Request,
+    names: &[Name],
+    server: &mut Server<S, H>,
+    bytes: &[u8],
+    src: SocketAddr,
+    protocol: Protocol,
+    now: u64,
+) -> Result<Answer, ServeError>
+    ensures rules { server.new.rules ≡ server.old.rules }
+    ensures others { server.new.catalog ≡ record server.old.catalog { zones = server.new.catalog.zones } }
+    ensures ok { IfOk result (λ answer. (theirs : Ruled) × (served : Outcome) × AreRulesFor (is_by_one_of names.now judgement.now) server.old.rules theirs ×
+        IsServed theirs (server_of H.ZoneHandler S.signature_for server.old.catalog) (arrival bytes.now src protocol now) served server.new.catalog.zones ×
+        IsSent keys.now judgement.now server.old.rules request.now now served answer) }
+    ensures err { IfErr result (λ e. LeavesWithKeys names.now server.old.rules (server_of H.ZoneHandler S.signature_for server.old.catalog) (arrival bytes.now src protocol now) e server.new.catalog.zones) }
+{
+    let is_open = is_by_one_of(names, judgement);
+    let replies = match serve_opened(alloc, is_open, server, bytes, src, protocol, now) {
         Ok(Answer::Replies(replies)) => replies,
         Ok(other) => return Ok(other),
         Err(e) => return Err(e),
@@ -106,11 +163,13 @@ pub struct SignedServer<S: ReplySigner, H: ZoneHandler> {
     pub server: Server<S, H>,
     /// The keys.
     pub keys: Keys,
+    /// The names of keys whose good signature lets a request have transfers from anywhere, letter case aside.
+    pub transfer_keys: Vec<Name>,
     request: Request,
 }
 
 impl<S: ReplySigner, H: ZoneHandler> SignedServer<S, H> {
-    /// A server with these keys.
+    /// A server with these keys, none of which may have transfers that the rules of the server give to nobody.
     pub fn new(
         alloc: Global,
         server: Server<S, H>,
@@ -118,10 +177,12 @@ impl<S: ReplySigner, H: ZoneHandler> SignedServer<S, H> {
     ) -> Result<SignedServer<S, H>, AllocError>
         ensures server { IfOk result (λ made. made.server ≡ server) }
         ensures keys { IfOk result (λ made. made.keys ≡ keys) }
+        ensures names { IfOk result (λ made. made.transfer_keys.items ≡ []) }
     {
         Ok(SignedServer {
             server,
             keys,
+            transfer_keys: Vec::new(alloc),
             request: empty_request(alloc)?,
         })
     }
@@ -136,14 +197,15 @@ impl<S: ReplySigner, H: ZoneHandler> SignedServer<S, H> {
         protocol: Protocol,
         now: u64,
     ) -> Result<Answer, ServeError>
-        requires judging { IsForJudging self.old.server.rules bytes.now src }
+        requires judging { IsForJudging self.old.keys self.old.server.rules bytes.now src }
         requires judged { Judged self.old.keys bytes.now now judgement.now }
         requires signed { course_of judgement.now ≢ Course.Plain }
         ensures keys { self.new.keys ≡ self.old.keys }
+        ensures names { self.new.transfer_keys ≡ self.old.transfer_keys }
         ensures rules { self.new.server.rules ≡ self.old.server.rules }
         ensures others { self.new.server.catalog ≡ record self.old.server.catalog { zones = self.new.server.catalog.zones } }
-        ensures ok { IfOk result (λ answer. ServedWithKeys self.old.keys self.old.server.rules (server_of H.ZoneHandler S.signature_for self.old.server.catalog) (arrival bytes.now src protocol now) answer self.new.server.catalog.zones) }
-        ensures err { IfErr result (λ e. LeavesWithKeys self.old.server.rules (server_of H.ZoneHandler S.signature_for self.old.server.catalog) (arrival bytes.now src protocol now) e self.new.server.catalog.zones) }
+        ensures ok { IfOk result (λ answer. ServedWithKeys self.old.keys self.old.transfer_keys.items self.old.server.rules (server_of H.ZoneHandler S.signature_for self.old.server.catalog) (arrival bytes.now src protocol now) answer self.new.server.catalog.zones) }
+        ensures err { IfErr result (λ e. LeavesWithKeys self.old.transfer_keys.items self.old.server.rules (server_of H.ZoneHandler S.signature_for self.old.server.catalog) (arrival bytes.now src protocol now) e self.new.server.catalog.zones) }
     {
         match self.request.read_in_place(alloc, bytes, src, protocol) {
             Ok(()) => {}
@@ -151,6 +213,7 @@ impl<S: ReplySigner, H: ZoneHandler> SignedServer<S, H> {
             Err(_) => return Ok(Answer::Unreadable),
         }
         let (keys, request) = (&self.keys, &self.request);
+        let names = self.transfer_keys.as_slice();
         match course_of(judgement) {
             Course::Refuse => {
                 match refused(alloc, keys, judgement, &self.server.rules, request, now) {
@@ -161,7 +224,7 @@ impl<S: ReplySigner, H: ZoneHandler> SignedServer<S, H> {
             _ => {
                 let server = &mut self.server;
                 serve_good(
-                    alloc, keys, judgement, request, server, bytes, src, protocol, now,
+                    alloc, keys, judgement, request, names, server, bytes, src, protocol, now,
                 )
             }
         }
@@ -169,18 +232,20 @@ impl<S: ReplySigner, H: ZoneHandler> SignedServer<S, H> {
 
     /// Serves one message, which came from this address over this transport, at this moment in seconds since 1970: what becomes of it.
     ///
-    /// It is judged by the keys (RFC 8945 section 5.2), unless its address may not use the server, or it has no header, or is itself a response: then,
-    /// and where it has no TSIG record, it is served as [`Server::serve`] serves it. Where its signature is good, it is served so too, TSIG record and
-    /// all, and every reply is signed over the bytes that leave, the first over the MAC of the request, and each further one of a transfer over the MAC
-    /// of the one before it (sections 5.3 and 5.3.1). A reply that has no room for its TSIG record is replaced by the question alone, with TC and no
-    /// error (section 5.3). The room is what the client takes and the rules allow over UDP, and 65,535 bytes over a stream.
+    /// It is judged by the keys (RFC 8945 section 5.2), unless there is none, or its address may not use the server, or it has no header, or is itself a
+    /// response: then, and where it has no TSIG record, it is served as [`Server::serve`] serves it. Where its signature is good, it is served so too,
+    /// TSIG record and all, by rules that let everybody have transfers where the key is one of `transfer_keys`, and every reply is signed over the bytes
+    /// that leave, the first over the MAC of the request, and each further one of a transfer over the MAC of the one before it (sections 5.3 and 5.3.1).
+    /// A reply that has no room for its TSIG record is replaced by the question alone, with TC and no error (section 5.3). The room is what the client
+    /// takes and the rules allow over UDP, and 65,535 bytes over a stream.
     ///
     /// Where the signature is bad, no zone is asked. The reply is NOTAUTH with BADKEY, BADSIG, BADTIME or BADTRUNC in its TSIG record; of these BADTIME,
     /// with the server's time, and BADTRUNC are signed (section 5.2). It is FORMERR, without a TSIG record, where the TSIG record has no form. A message
     /// that cannot be read, as one with a record behind its TSIG record, is unreadable, and has no reply.
     ///
-    /// `Memory` says that the catalog is as before, and `MemoryAfterHandling` that the message was handled and its replies are missing. An unsigned
-    /// message is read once more than by [`Server::serve`]; of a signed one, and of each reply to it, each byte is hashed once.
+    /// `Memory` says that the catalog is as before, and `MemoryAfterHandling` that the message was handled and its replies are missing. Where there are
+    /// keys, an unsigned message is read once more than by [`Server::serve`]. Here each byte of a signed one, and of each reply to it, is hashed once;
+    /// handlers that take updates judge by themselves, and hash the message again.
     pub fn serve(
         &mut self,
         alloc: Global,
@@ -190,12 +255,13 @@ impl<S: ReplySigner, H: ZoneHandler> SignedServer<S, H> {
         now: u64,
     ) -> Result<Answer, ServeError>
         ensures keys { self.new.keys ≡ self.old.keys }
+        ensures names { self.new.transfer_keys ≡ self.old.transfer_keys }
         ensures rules { self.new.server.rules ≡ self.old.server.rules }
         ensures others { self.new.server.catalog ≡ record self.old.server.catalog { zones = self.new.server.catalog.zones } }
-        ensures ok { IfOk result (λ answer. ServedWithKeys self.old.keys self.old.server.rules (server_of H.ZoneHandler S.signature_for self.old.server.catalog) (arrival bytes.now src protocol now) answer self.new.server.catalog.zones) }
-        ensures err { IfErr result (λ e. LeavesWithKeys self.old.server.rules (server_of H.ZoneHandler S.signature_for self.old.server.catalog) (arrival bytes.now src protocol now) e self.new.server.catalog.zones) }
+        ensures ok { IfOk result (λ answer. ServedWithKeys self.old.keys self.old.transfer_keys.items self.old.server.rules (server_of H.ZoneHandler S.signature_for self.old.server.catalog) (arrival bytes.now src protocol now) answer self.new.server.catalog.zones) }
+        ensures err { IfErr result (λ e. LeavesWithKeys self.old.transfer_keys.items self.old.server.rules (server_of H.ZoneHandler S.signature_for self.old.server.catalog) (arrival bytes.now src protocol now) e self.new.server.catalog.zones) }
     {
-        if !is_for_judging(&self.server.rules, bytes, src) {
+        if !is_for_judging(&self.keys, &self.server.rules, bytes, src) {
             return self.server.serve(alloc, bytes, src, protocol, now);
         }
         let Ok(judgement) = judge(alloc, &self.keys, bytes, now) else {

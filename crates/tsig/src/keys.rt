@@ -119,6 +119,13 @@ impl Keys {
         }
     }
 
+    /// Whether there is none.
+    pub fn is_empty(&self) -> bool
+        ensures { IsTrue result ↔ (self.now ≡ []) }
+    {
+        self.keys.is_empty()
+    }
+
     /// Adds a key. Where there is one of its name, that one stays the one that is found.
     pub fn add(&mut self, key: Key) -> Result<(), AllocError>
         ensures ok { OnOk result (self.new ≡ self.old ++ key ∷ []) }

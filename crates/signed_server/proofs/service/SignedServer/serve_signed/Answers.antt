@@ -10,6 +10,7 @@ use Rattle.signed_server.proofs.service.SignedServer.serve_signed.Goals as goal
 pub returns-in-Err : goal.returns-in-Err
 returns-in-Err g c = record {
   keys = refl;
+  names = refl;
   rules = refl;
   others = refl;
   ok = unreadable {judgement = c.args.judgement.now} {e = c.in-Err.field-0} c.requires.judging c.requires.judged (c.in-Err.ensures.fault (search rules)) refl refl;
@@ -30,10 +31,11 @@ returns-in_default g c =
     record { stands = it.stands; reads = it.found; questions = it.questions; raw = it.raw; source_is = it.source.0; protocol_is = it.source.1 } in
     let left : course_of c.args.judgement.now ≡ Sign = sign_is_left (course_of c.args.judgement.now) c.requires.signed (λ is. c.in_default.not-Refuse (c.course_of.ensures ∙ is)) in record {
       keys = refl;
+      names = refl;
       rules = c.serve_good.ensures.rules;
       others = c.serve_good.ensures.others;
       ok = if_ok_map c.serve_good.result _ _ c.serve_good.ensures.ok (λ answer t.
-          let (served, is_served, is_sent) = t in
-          good {judgement = c.args.judgement.now} {served = served} c.requires.judging c.requires.judged left read is_served is_sent);
-      err = c.serve_good.ensures.err;
+          let (theirs, served, are_rules, is_served, is_sent) = t in
+          good {judgement = c.args.judgement.now} {served = served} {theirs = theirs} c.requires.judging c.requires.judged left read (rw c.as_slice-names.ensures.value at are_rules) is_served is_sent);
+      err = rw c.as_slice-names.ensures.value at c.serve_good.ensures.err;
     }

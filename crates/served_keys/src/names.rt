@@ -1,0 +1,51 @@
+//! Keys by the names that an operator writes.
+
+ghost use Rattle.std.specs.Prelude.{IfOk, IsTrue, is_some};
+ghost use Rattle.tsig.specs.Keys.{key_of};
+ghost use Rattle.served_keys.specs.ServedKeys.{IsKeyName};
+
+use std::alloc::Global;
+use thiserror::Error;
+use tsig::Keys;
+use wire_names::error::NameError;
+use wire_names::rr::domain::name::Name;
+
+/// Why a text names no key.
+#[derive(Clone, Copy, Debug, PartialEq, Eq, Error)]
+pub enum KeyNameFault {
+    /// It is no name.
+    #[error("not the name of a key")]
+    Text,
+    /// There is no key of this name.
+    #[error("there is no key of this name")]
+    Unknown,
+    /// Memory was refused.
+    #[error("no memory")]
+    Memory,
+}
+
+/// The name of a text.
+fn name(alloc: Global, text: &str) -> Result<Name, KeyNameFault>
+    ensures { IfOk result (IsKeyName text.now) }
+{
+    match Name::from_ascii(alloc, text) {
+        Ok(mut name) => {
+            name.set_fqdn(true);
+            Ok(name)
+        }
+        Err(NameError::Memory) => Err(KeyNameFault::Memory),
+        Err(NameError::Text) => Err(KeyNameFault::Text),
+    }
+}
+
+/// The name of a key that there is, as a text spells it, with or without a dot at its end.
+pub fn key_named(alloc: Global, keys: &Keys, text: &str) -> Result<Name, KeyNameFault>
+    ensures spelled { IfOk result (IsKeyName text.now) }
+    ensures known { IfOk result (λ name. IsTrue (is_some (key_of keys.now name))) }
+{
+    let name = name(alloc, text)?;
+    if keys.find(&name).is_none() {
+        return Err(KeyNameFault::Unknown);
+    }
+    Ok(name)
+}
