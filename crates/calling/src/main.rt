@@ -240,7 +240,7 @@ fn updatable(alloc: Global, origin: &Name) -> Result<SqliteZoneHandler<NoKeys>, 
 /// The serial after an address was added to the zone of the file.
 fn changed(alloc: Global) -> Result<u32, Fault> {
     let origin = origin(alloc)?;
-    let added = read_zone_file(alloc, b"new 60 A 192.0.2.7", &origin)?;
+    let added = read_zone_file(alloc, "new 60 A 192.0.2.7", &origin)?;
     let mut zone = updatable(alloc, &origin)?;
     match change(alloc, &mut zone, added.as_slice()) {
         Ok(_) => Ok(zone.in_memory().serial()),

@@ -7,7 +7,7 @@ use thiserror::Error;
 use wire_messages::rr::record::Record;
 use wire_names::rr::domain::name::Name;
 use wire_names::values::items::Items;
-use zone_text::{ZoneFileError, read_zone_file};
+use zone_text::{ZoneFileError, read_zone_bytes};
 
 /// Why a zone file is not taken.
 #[derive(Clone, Copy, Debug, PartialEq, Eq, Error)]
@@ -58,7 +58,7 @@ fn fault_of(e: &io::Error) -> FileFault {
 
 /// The records that the bytes of a zone file have.
 pub fn records_of(alloc: Global, origin: &Name, bytes: &[u8]) -> Result<Items<Record>, FileFault> {
-    match read_zone_file(alloc, bytes, origin) {
+    match read_zone_bytes(alloc, bytes, origin) {
         Ok(records) => Ok(records),
         Err(ZoneFileError::Memory) => Err(FileFault::Memory),
         Err(error) => Err(FileFault::Entry(error)),

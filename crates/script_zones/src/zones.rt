@@ -178,7 +178,7 @@ fn file_bytes(read: io::Result<Vec<u8>>) -> Result<Vec<u8>, Fault> {
 
 /// The zone of this origin that the text of a zone file has: primary, and transfers are denied.
 fn zone_of_text(alloc: Global, origin: LowerName, text: &str) -> Result<OpenZone, Fault> {
-    let records = read_zone_file(alloc, text.as_bytes(), origin.as_name())?;
+    let records = read_zone_file(alloc, text, origin.as_name())?;
     let mut zone = OpenZone::new(alloc, origin, ZoneType::Primary, AxfrPolicy::Deny);
     let put = zone.put_file(alloc, records.as_slice());
     drop(records);

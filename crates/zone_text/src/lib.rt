@@ -9,4 +9,4 @@ pub use message_text::{FlagsText, MessageText};
 pub use record_text::{TextError, TextFault, read_data, read_name, read_record};
 pub use zone_file::fault_word::FaultWord;
 pub use zone_file::faults::{MOST_FAULTS, zone_file_faults};
-pub use zone_file::read_zone_file;
+pub use zone_file::{read_zone_bytes, read_zone_file};

@@ -92,7 +92,7 @@ fn read_entries(alloc: Global, text: &[u8], origin: &Name) -> Result<Items<Recor
 ///
 /// The first fault ends it, with its line and column, which are those of a place of the first entry that is refused, and the field; `$INCLUDE` is
 /// one. Nothing is asked of the records together: that they make one zone, at the origin or below it, is for those who use them.
-pub fn read_zone_file(
+pub fn read_zone_bytes(
     alloc: Global,
     text: &[u8],
     origin: &Name,
@@ -105,4 +105,17 @@ pub fn read_zone_file(
         Ok(records) => Ok(records),
         Err(e) => Err(e.in_file(text)),
     }
+}
+
+/// Reads a zone file that is text in UTF-8, as [`read_zone_bytes`] does.
+pub fn read_zone_file(
+    alloc: Global,
+    text: &str,
+    origin: &Name,
+) -> Result<Items<Record>, ZoneFileError>
+    ensures file { IfOk result (IsZoneFile origin.now text.now) }
+    ensures records { IfOk result (λ records. All IsZoneRecord records) }
+    ensures fault { IfErr result (IsFirstFault origin.now text.now) }
+{
+    read_zone_bytes(alloc, text.as_bytes(), origin)
 }

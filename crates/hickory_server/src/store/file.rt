@@ -65,7 +65,7 @@ pub fn read_zone(
     ensures zone { IfOk result (IsZoneOfText apex.now zone_type axfr_policy) }
     ensures fault { IfErr result (IsTextFault apex.now) }
 {
-    let records = match read_zone_file(alloc, text.as_bytes(), apex) {
+    let records = match read_zone_file(alloc, text, apex) {
         Ok(records) => records,
         Err(e) => return Err(text_fault(e)),
     };

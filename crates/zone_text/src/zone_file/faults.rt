@@ -58,7 +58,7 @@ fn told_in_file(e: EntryError, text: &[u8]) -> Result<ZoneFileError, AllocError>
 /// The faults of a zone file, in their order, at most ten; none where it has none.
 ///
 /// Each is told of an entry that is none behind what the entries before it leave that are some; one that is refused leaves what it was left. So the first
-/// is the one that [`read_zone_file`](crate::read_zone_file) tells, and one behind it may be there for it alone, as where a `$ORIGIN` is refused.
+/// is the one that [`read_zone_bytes`](crate::read_zone_bytes) tells, and one behind it may be there for it alone, as where a `$ORIGIN` is refused.
 pub fn zone_file_faults(
     alloc: Global,
     text: &[u8],

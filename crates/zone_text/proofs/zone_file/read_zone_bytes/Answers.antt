@@ -1,6 +1,6 @@
 use Rattle.std.proofs.Common.{refl}
 use Rattle.zone_text.proofs.FirstFaults.{file_within, first_fault}
-use Rattle.zone_text.proofs.zone_file.read_zone_file.Goals as goal
+use Rattle.zone_text.proofs.zone_file.read_zone_bytes.Goals as goal
 
 pub in_file-requires : goal.in_file-requires
 in_file-requires c = file_within c.args.origin.now c.args.text.now c.in-Err.e c.in-Err.ensures.fault
