@@ -11,6 +11,7 @@ use Rattle.text_words.specs.Words.{AreSameWords, AreWordsTo, HasNoWords, StandOn
 use Rattle.text_words.specs.declared.error.TextError.{TextError}
 use Rattle.text_words.specs.declared.error.TextError.TheVariants as text
 use Rattle.record_text.specs.RecordText.{HasNone}
+use Rattle.service_text.specs.ServiceText.{ParametersOfWords}
 use Rattle.record_text.proofs.SameWords.{same_spelled}
 use Rattle.zone_text.specs.declared.zone_file.entry.Before.{Before}
 use Rattle.zone_text.specs.declared.zone_file.fault.EntryError.{EntryError}
@@ -119,11 +120,11 @@ no_octets (a ∷ b ∷ []) (o ∷ p ∷ []) s is = (s.0.quoted ∙ is.0, s.0.byt
 no_octets (a ∷ b ∷ c ∷ words) (o ∷ p ∷ []) s is = absurd s.1.1
 no_octets (a ∷ b ∷ words) (o ∷ p ∷ q ∷ others) s is = absurd is
 
-pub same_typed : (before : Before) (own : Option ℕ) (type : ℕ) (words others : List Word) (r : Record RData) → AreSameWords words others → IsTyped before own type words r → IsTyped before own type others r
-same_typed before own type words others r s is = record {
+pub same_typed : ParametersOfWords → (before : Before) (own : Option ℕ) (type : ℕ) (words others : List Word) (r : Record RData) → AreSameWords words others → IsTyped before own type words r → IsTyped before own type others r
+same_typed same before own type words others r s is = record {
   typed = is.typed;
   in_force = is.in_force;
-  spelled = same_spelled (Some before.origin) type words r.rdata is.spelled others s;
+  spelled = same_spelled same (Some before.origin) type words r.rdata is.spelled others s;
   some = λ has none. is.some has (no_octets words others s none);
   kept = is.kept;
 }

@@ -13,6 +13,7 @@ use crate::zone_file::expand::numbered;
 use crate::zone_file::fault::{EntryError, fault_of};
 use crate::zone_file::number_range::{NumberRange, range_of};
 use hickory_wire::{Items, Name, Record};
+use service_text::service_laws::parameters_once;
 use std::alloc::Global;
 use text_words::word_laws::words_stand_once;
 use text_words::{TextFault, Word, Words, absolute_name, fault_at};
@@ -75,8 +76,9 @@ fn numbered_record(
     ensures record_is { IfOk result (IsNumberedRecord before.now lhs.now front.now.ttl front.now.record_type rhs.now number) }
     ensures refused { IfErr result (λ e. e ≢ Memory → HasNone (IsNumberedRecord before.now lhs.now front.now.ttl front.now.record_type rhs.now number)) }
 {
-    // Words stand in a text in one way.
+    // Words stand in a text in one way, and the same words are the same service parameters.
     words_stand_once();
+    parameters_once();
     let name = numbered_owner(alloc, lhs, number, before)?;
     let text = numbered(alloc, rhs, number)?;
     let data = words_of(alloc, text.as_slice(), rhs)?;

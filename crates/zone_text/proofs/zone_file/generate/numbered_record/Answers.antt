@@ -22,4 +22,4 @@ returns-clause-refused c = λ other r is.
     let same : is.text ≡ c.as_slice.result.now = once c.args.rhs.now.quoted c.args.number c.args.rhs.now.bytes.now is.text c.in_ok-text.text.items is.numbered c.in_ok-text.ensures.numbered ∙ sym c.as_slice.ensures.value in
     let words : HasWordsOf c.as_slice.result.now c.as_slice-2.result.now = subst (HasWordsOf c.as_slice.result.now) (sym c.as_slice-2.ensures.value) c.in_ok-data.ensures.words in
     c.in-Err.ensures.refused (not_moved c.args.rhs.now.start c.args.rhs.now.start c.in-Err.e c.within.result c.within.ensures other) r
-    (same_typed c.args.before.now c.args.front.now.ttl c.args.front.now.record_type is.words c.as_slice-2.result.now r (same_words c.words_stand_once.ensures c.as_slice.result.now is.text is.words c.as_slice-2.result.now same is.stand words) is.is)
+    (same_typed c.parameters_once.ensures.same c.args.before.now c.args.front.now.ttl c.args.front.now.record_type is.words c.as_slice-2.result.now r (same_words c.words_stand_once.ensures c.as_slice.result.now is.text is.words c.as_slice-2.result.now same is.stand words) is.is)
