@@ -7,7 +7,8 @@
 The requests are made and signed here (RFC 8945 sections 4.3 and 5.1). `verify` looks up the request of every reply in the .in beside the file,
 and says of each reply whether it carries a MAC, and whether that is the one of the bytes (sections 5.3 and 5.3.1). A comment above a message
 begins with the word that is wanted of its replies: 'signed', with a MAC that verifies; 'bare', with a TSIG record without a MAC; 'plain', without
-a TSIG record; or 'none', where there is no reply. The last line is 'N passed, M failed'.
+a TSIG record; 'none', where there is no reply; or 'refused', where there is none or one without a MAC and without answers that says FORMERR or NOTAUTH.
+The last line is 'N passed, M failed'.
 """
 import glob
 import hashlib
@@ -88,7 +89,19 @@ def signed(bytes_, algorithm="hmac-sha256", key=None, secret=SECRET, time=NOW, l
 WWW = query("www.example.com", A)
 BIG = "big.example.com"
 
+
+def changed(bytes_):
+    """A signed message with each of its bytes changed, in turn, in its last bit."""
+    behind = len(WWW) + len(name("k256.example"))
+    # (the id is not signed: the MAC is over the one of the record; with another count or type the message has no TSIG record, as any without a signature)
+    others = {0: "signed: the id", 1: "signed: the id", 11: "plain: no additional record is counted", behind: "plain: another type", behind + 1: "plain: another type"}
+    for place in range(len(bytes_)):
+        told = others.get(place, "refused: one bit") + f", byte {place}"
+        yield told, "udp 192.0.2.1", bytes_[:place] + bytes([bytes_[place] ^ 1]) + bytes_[place + 1:]
+
+
 FILES = {
+    "bytes": list(changed(signed(WWW))),
     "queries": [
         ("plain: a query without a signature", "udp 192.0.2.1", WWW),
         ("plain: and with EDNS", "udp 192.0.2.1", query("www.example.com", A, payload=1232)),
@@ -237,6 +250,13 @@ def standing(request, replies):
     return " and ".join(sorted(told))
 
 
+def is_wanted(word, found, replies):
+    """Whether replies that stand so are what a comment wants."""
+    if word != "refused":
+        return found == word
+    return found in ("none", "plain", "bare") and all(reply[3] & 15 in (1, 9) and reply[6:8] == b"\0\0" for reply in replies)
+
+
 def verify(path):
     with open(f"{FOLDER}/{os.path.splitext(os.path.basename(path))[0]}.in", encoding="ascii") as file:
         asked = [line.split() for line in file if not line.startswith("#")]
@@ -250,7 +270,7 @@ def verify(path):
                 transport, _, _, digits = asked[number]
                 found = standing(bytes.fromhex(digits), replies)
                 limit = 600 if transport == "udp" else 65535
-                is_well = found == wanted.split(":")[0] and all(len(reply) <= limit for reply in replies)
+                is_well = is_wanted(wanted.split(":")[0], found, replies) and all(len(reply) <= limit for reply in replies)
                 passed, failed = passed + is_well, failed + (not is_well)
                 if not is_well:
                     print(f"FAILED {path}: {wanted}: {found}")
