@@ -59,10 +59,7 @@ fn course_of(judgement: &Judgement) -> Course
 fn is_for_judging(keys: &Keys, rules: &Rules, bytes: &[u8], src: SocketAddr) -> bool
     ensures { IsTrue result ↔ IsForJudging keys.now rules.now bytes.now src }
 {
-    !keys.is_empty()
-        && rules.access.allow(src.ip())
-        && bytes.len() >= HEADER_LEN
-        && bytes[2] < 128
+    !keys.is_empty() && rules.access.allow(src.ip()) && bytes.len() >= HEADER_LEN && bytes[2] < 128
 }
 
 /// Whether two names are one, letter case aside.

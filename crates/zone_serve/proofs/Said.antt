@@ -39,7 +39,7 @@ known_more : (options : Options) (option text : Text) → AllByRecursion (λ (o 
 known_more [] option text all one = (one, tt)
 known_more (o ∷ options) option text all one = (all.0, known_more options option text all.1 one)
 
-zip_more : {A B : Type 0} (R : A → B → Type 0) (xs more : List A) (ys others : List B) → AllZip R xs ys → AllZip R more others → AllZip R (xs ++ more) (ys ++ others)
+pub zip_more : {A B : Type 0} (R : A → B → Type 0) (xs more : List A) (ys others : List B) → AllZip R xs ys → AllZip R more others → AllZip R (xs ++ more) (ys ++ others)
 zip_more R [] more [] others all behind_them = behind_them
 zip_more R [] more (y ∷ ys) others all behind_them = absurd all
 zip_more R (x ∷ xs) more [] others all behind_them = absurd all

@@ -8,8 +8,8 @@ ghost use Rattle.zone_serve.specs.Catalogs.{denied_transfers};
 
 use crate::arguments::Settings;
 use crate::fault::Fault;
-use hickory_server::proto::{NSIDPayload, Name, NameError};
 use hickory_server::access::IpNet;
+use hickory_server::proto::{NSIDPayload, Name, NameError};
 use hickory_server::server::Rules;
 use served_keys::networks::with_all;
 use served_zones::chains::apex;
