@@ -1,6 +1,5 @@
 -- What stays of a server from call to call.
-use Rattle.std.proofs.Common.{◌≡◌, List, ap, ◌∙◌, refl}
-use Rattle.wire_names.specs.rr.domain.DomainName.{DomainName}
+use Rattle.std.proofs.Common.{◌≡◌, ap, ◌∙◌, refl}
 use Rattle.hickory_base.specs.declared.zone_store.handler.ZoneHandler.{Ghosts}
 use Rattle.hickory_catalog.specs.Signing.{Signer}
 use Rattle.hickory_catalog.specs.declared.catalog.Catalog.{Catalog}

@@ -1,5 +1,5 @@
 -- What the catalog has that arguments ask for. What a file holds is outside: some text stands for each.
-use Rattle.std.specs.Prelude.{◌≡◌, ◌∷◌, ◌≢◌, ◌<◌, ◌++◌, Bool, true, false, All, [], ℕ, List, Option, Some, None, length, map, option_map}
+use Rattle.std.specs.Prelude.{◌≡◌, ◌∷◌, ◌≢◌, ◌<◌, ◌++◌, Bool, true, false, All, [], ℕ, List, Option, Some, None, length, map}
 use Rattle.wire_names.specs.rr.domain.DomainName.{DomainName}
 use Rattle.hickory_store.specs.BlockAnswers.{Blocklist}
 use Rattle.served_zones.specs.ServedZones.{AddsLists, AreJoined, AreLoaded, Chain, IsEmptyList}
@@ -8,7 +8,7 @@ use Rattle.access_control.specs.Access.{Network}
 use Rattle.tsig.specs.KeyTexts.{IsUsable}
 use Rattle.tsig.specs.declared.keys.Key.{Key}
 use Rattle.served_keys.specs.ServedKeys.{all_networks}
-use Rattle.zone_serve.specs.Arguments.{files_of, transfer_keys_of}
+use Rattle.zone_serve.specs.Arguments.{files_of}
 use Rattle.zone_serve.specs.declared.arguments.Settings.{Settings}
 
 -- So many lists are put on a list of blocked names, one after the other.

@@ -270,6 +270,44 @@ impl<'a> Settings<'a> {
         }
     }
 
+    /// Takes the option of keys at this place and what stands behind it.
+    fn put_keys(
+        &mut self,
+        option: &'a str,
+        text: &'a str,
+        place: usize,
+    ) -> Result<(), ArgumentFault<'a>>
+        ensures { OnOk result (Takes option.now text.now self.old self.new) }
+    {
+        match option {
+            "--keys" if self.keys.is_none() => self.keys = Some(text),
+            "--allow-transfer-key" => { self.transfer_keys.push((text, place.saturating_add(1)))? }
+            "--keys" => return Err(ArgumentFault::Twice { place, option }),
+            _ => return Err(fault_of(option, place)),
+        }
+        Ok(())
+    }
+
+    /// Takes the option of networks, or another one, at this place and what stands behind it.
+    fn put_network(
+        &mut self,
+        option: &'a str,
+        text: &'a str,
+        place: usize,
+    ) -> Result<(), ArgumentFault<'a>>
+        ensures { OnOk result (Takes option.now text.now self.old self.new) }
+    {
+        let behind = place.saturating_add(1);
+        match option {
+            "--allow" => self.allowed.push(network(text, behind)?)?,
+            "--deny" => self.denied.push(network(text, behind)?)?,
+            "--allow-transfer" => self.transfers_allowed.push(network(text, behind)?)?,
+            "--deny-transfer" => self.transfers_denied.push(network(text, behind)?)?,
+            _ => return self.put_keys(option, text, place),
+        }
+        Ok(())
+    }
+
     /// Takes the option at this place and what stands behind it.
     fn put(&mut self, option: &'a str, text: &'a str, place: usize) -> Result<(), ArgumentFault<'a>>
         ensures { OnOk result (Takes option.now text.now self.old self.new) }
@@ -278,16 +316,10 @@ impl<'a> Settings<'a> {
         match option {
             "--zone" => self.zones.push(zone_argument(text, behind)?)?,
             "--blocklist" => self.blocklists.push(text)?,
-            "--allow" => self.allowed.push(network(text, behind)?)?,
-            "--deny" => self.denied.push(network(text, behind)?)?,
-            "--allow-transfer" => self.transfers_allowed.push(network(text, behind)?)?,
-            "--deny-transfer" => self.transfers_denied.push(network(text, behind)?)?,
             "--nsid" if self.identifier.is_none() => self.identifier = Some((text, behind)),
             "--max-udp" if self.max_udp.is_none() => self.max_udp = Some(max_udp(text, behind)?),
-            "--keys" if self.keys.is_none() => self.keys = Some(text),
-            "--allow-transfer-key" => self.transfer_keys.push((text, behind))?,
-            "--nsid" | "--max-udp" | "--keys" => return Err(ArgumentFault::Twice { place, option }),
-            _ => return Err(fault_of(option, place)),
+            "--nsid" | "--max-udp" => return Err(ArgumentFault::Twice { place, option }),
+            _ => return self.put_network(option, text, place),
         }
         Ok(())
     }

@@ -200,24 +200,36 @@ fn server_for<R: Files + Eprint + Alloc<A = Global>>(
     Ok(signed)
 }
 
+/// Serves the standard input by a server.
+fn serve_input<R: Clock + Input + Print + Alloc<A = Global>>(
+    rt: &R,
+    mode: Mode,
+    address: IpAddr,
+    server: &mut SignedServer<NoKeys, Handler>,
+) -> Result<(), Fault> {
+    let alloc = rt.alloc();
+    let mut reader = rt.reader();
+    let mut writer = io::writer(rt);
+    match mode {
+        Mode::Udp => serve_datagram(alloc, rt, server, address, &mut reader, &mut writer),
+        Mode::Tcp => serve_stream(alloc, rt, server, address, &mut reader, &mut writer),
+        Mode::Lines => match serve_lines(alloc, rt, server, &mut reader, &mut writer)? {
+            Some(number) => Err(Fault::Line { number }),
+            None => Ok(()),
+        },
+    }
+}
+
 /// Serves the standard input as the arguments say.
 fn serve<R: Files + Env + Clock + Input + Print + Eprint + Alloc<A = Global>>(
     rt: &R,
     settings: &Settings<'_>,
     address: IpAddr,
 ) -> Result<(), Fault> {
-    let alloc = rt.alloc();
     let mut server = server_for(rt, settings)?;
-    let mut reader = rt.reader();
-    let mut writer = io::writer(rt);
-    match settings.mode {
-        Mode::Udp => { serve_datagram(alloc, rt, &mut server, address, &mut reader, &mut writer) }
-        Mode::Tcp => serve_stream(alloc, rt, &mut server, address, &mut reader, &mut writer),
-        Mode::Lines => match serve_lines(alloc, rt, &mut server, &mut reader, &mut writer)? {
-            Some(number) => Err(Fault::Line { number }),
-            None => Ok(()),
-        },
-    }
+    let ended = serve_input(rt, settings.mode, address, &mut server);
+    drop(server);
+    ended
 }
 
 /// The file that a fault is of.
