@@ -1,4 +1,5 @@
 mod Loading
+mod Named
 mod Results
 mod Said
 mod ServedLines

@@ -1,5 +1,5 @@
 -- Lists that are put on a list of blocked names, and zones that are loaded, one after the other.
-use Rattle.std.proofs.Common.{◌≡◌, ◌<◌, ◌≤◌, ◌+◌, ◌++◌, ◌∷◌, [], ℕ, List, Bool, true, false, Bor, Option, Some, None, Result, Ok, Err, IfOk, IsNone, OnOk, length, length-append, get_or, take, map, refl, sym, ap, ◌∙◌, subst, append_assoc, arith, option_map}
+use Rattle.std.proofs.Common.{◌≡◌, ◌<◌, ◌+◌, ◌++◌, ◌∷◌, [], ℕ, List, Bor, Option, Some, None, Result, Ok, Err, IfOk, IsNone, OnOk, length, length-append, get_or, take, map, refl, sym, ap, ◌∙◌, subst, append_assoc, option_map}
 use Rattle.std.proofs.lemmas.Bool.{false≢true}
 use Rattle.std.proofs.lemmas.List.{append-nil, length-map, map-append, take_more}
 use Rattle.std.specs.Option.{option_copied}

@@ -1,13 +1,13 @@
 -- What options say, one after the other.
-use Rattle.std.proofs.Common.{◌≡◌, ◌∙◌, ◌++◌, ◌∷◌, ◌+◌, [], ℕ, List, Bool, true, false, cond, length, map, refl, sym, ap, subst, arith, Bor, Option, Some, None}
-use Rattle.std.proofs.lemmas.List.{append-nil, length-append, map-append}
+use Rattle.std.proofs.Common.{◌≡◌, ◌∙◌, ◌++◌, ◌∷◌, [], ℕ, List, Bool, true, false, cond, map, refl, sym, ap, subst, arith, Bor, Option, Some, None}
+use Rattle.std.proofs.lemmas.List.{append-nil, map-append}
 use Rattle.std.specs.Prelude.{Contains, codes, is_some, nat_eq, option_map}
 use Rattle.std.specs.Cmp.Lexicographic.{pointwise}
 use Rattle.std.specs.List.{AllByRecursion, AllZip, filter}
 use Rattle.std.specs.Option.{option_to_list}
 use Rattle.access_control.specs.Access.{Network}
 use Rattle.access_control.specs.NetworkTexts.{IsNetworkText}
-use Rattle.zone_serve.specs.Arguments.{IsBound, IsZoneText, Options, OptionsSay, behind, bounds_of, files_of, identifiers_of, option_names, words_of}
+use Rattle.zone_serve.specs.Arguments.{IsBound, IsZoneText, Options, OptionsSay, behind, bounds_of, files_of, identifiers_of, key_files_of, option_names, transfer_keys_of, words_of}
 use Rattle.zone_serve.specs.declared.arguments.Settings.{Settings}
 use Rattle.zone_serve.specs.declared.arguments.ZoneArgument.{ZoneArgument}
 
@@ -39,7 +39,7 @@ known_more : (options : Options) (option text : Text) → AllByRecursion (λ (o 
 known_more [] option text all one = (one, tt)
 known_more (o ∷ options) option text all one = (all.0, known_more options option text all.1 one)
 
-zip_more : {A B : Type 0} (R : A → B → Type 0) (xs more : List A) (ys others : List B) → AllZip R xs ys → AllZip R more others → AllZip R (xs ++ more) (ys ++ others)
+pub zip_more : {A B : Type 0} (R : A → B → Type 0) (xs more : List A) (ys others : List B) → AllZip R xs ys → AllZip R more others → AllZip R (xs ++ more) (ys ++ others)
 zip_more R [] more [] others all behind_them = behind_them
 zip_more R [] more (y ∷ ys) others all behind_them = absurd all
 zip_more R (x ∷ xs) more [] others all behind_them = absurd all
@@ -66,6 +66,8 @@ pub record Gives (option text : Text) (old new : Settings) : Type 0 where
   pub more_bounds : List ℕ
   pub bounds_are : bounds_of new ≡ bounds_of old ++ more_bounds
   pub bounds : AllZip IsBound (given (codes "--max-udp") option text) more_bounds
+  pub key_files : key_files_of new ≡ key_files_of old ++ given (codes "--keys") option text
+  pub transfer_keys : transfer_keys_of new ≡ transfer_keys_of old ++ given (codes "--allow-transfer-key") option text
 
 kept : {X : Type 0} (xs ys : List X) → ys ≡ xs → ys ≡ xs ++ []
 kept xs ys same = same ∙ sym (append-nil xs)
@@ -79,6 +81,9 @@ one_more text xs ys x spelled same = record { more = x ∷ []; are = same; all =
 pub file_more : (files grown : List (Bor Text)) (file : Bor Text) → grown ≡ files ++ file ∷ [] → map (λ (f : Bor Text). f.now) grown ≡ map (λ (f : Bor Text). f.now) files ++ file.now ∷ []
 file_more files grown file is = ap (map (λ (f : Bor Text). f.now)) is ∙ map-append (λ (f : Bor Text). f.now) files (file ∷ [])
 
+pub key_more : (keys grown : List (Bor Text × ℕ)) (key : Bor Text × ℕ) → grown ≡ keys ++ key ∷ [] → map (λ (k : Bor Text × ℕ). k.0.now) grown ≡ map (λ (k : Bor Text × ℕ). k.0.now) keys ++ key.0.now ∷ []
+key_more keys grown key is = ap (map (λ (k : Bor Text × ℕ). k.0.now)) is ∙ map-append (λ (k : Bor Text × ℕ). k.0.now) keys (key ∷ [])
+
 -- a setting that is there once stands alone
 pub first_one : {X Y : Type 0} (was : Option X) (of : X → Y) (now : Y) → is_some was ≡ false → now ∷ [] ≡ option_to_list (option_map of was) ++ now ∷ []
 first_one None of now none = refl
@@ -91,8 +96,8 @@ first_bound (Some x) now none = absurd cc
 -- What each option gives: one thing more, where nothing else changes.
 module _ (text : Text) (old new : Settings) where
   pub zone_gives : (zone : ZoneArgument) → IsZoneText text zone → new.zones.items ≡ old.zones.items ++ zone ∷ [] → files_of new ≡ files_of old → new.allowed.items ≡ old.allowed.items → new.denied.items ≡ old.denied.items
-      → new.transfers_allowed.items ≡ old.transfers_allowed.items → new.transfers_denied.items ≡ old.transfers_denied.items → identifiers_of new ≡ identifiers_of old → bounds_of new ≡ bounds_of old → Gives (codes "--zone") text old new
-  zone_gives zone spelled is f a d t u i b = record {
+      → new.transfers_allowed.items ≡ old.transfers_allowed.items → new.transfers_denied.items ≡ old.transfers_denied.items → identifiers_of new ≡ identifiers_of old → bounds_of new ≡ bounds_of old → key_files_of new ≡ key_files_of old → transfer_keys_of new ≡ transfer_keys_of old → Gives (codes "--zone") text old new
+  zone_gives zone spelled is f a d t u i b k n = record {
     known = (0, omega arith, refl);
     more_zones = zone ∷ [];
     zones_are = is;
@@ -106,11 +111,13 @@ module _ (text : Text) (old new : Settings) where
     more_bounds = [];
     bounds_are = kept _ _ b;
     bounds = tt;
+    key_files = kept _ _ k;
+    transfer_keys = kept _ _ n;
   }
 
   pub blocklist_gives : files_of new ≡ files_of old ++ text ∷ [] → new.zones.items ≡ old.zones.items → new.allowed.items ≡ old.allowed.items → new.denied.items ≡ old.denied.items
-      → new.transfers_allowed.items ≡ old.transfers_allowed.items → new.transfers_denied.items ≡ old.transfers_denied.items → identifiers_of new ≡ identifiers_of old → bounds_of new ≡ bounds_of old → Gives (codes "--blocklist") text old new
-  blocklist_gives is z a d t u i b = record {
+      → new.transfers_allowed.items ≡ old.transfers_allowed.items → new.transfers_denied.items ≡ old.transfers_denied.items → identifiers_of new ≡ identifiers_of old → bounds_of new ≡ bounds_of old → key_files_of new ≡ key_files_of old → transfer_keys_of new ≡ transfer_keys_of old → Gives (codes "--blocklist") text old new
+  blocklist_gives is z a d t u i b k n = record {
     known = (1, omega arith, refl);
     more_zones = [];
     zones_are = kept _ _ z;
@@ -124,11 +131,13 @@ module _ (text : Text) (old new : Settings) where
     more_bounds = [];
     bounds_are = kept _ _ b;
     bounds = tt;
+    key_files = kept _ _ k;
+    transfer_keys = kept _ _ n;
   }
 
   pub allow_gives : (network : Network) → IsNetworkText text network → new.allowed.items ≡ old.allowed.items ++ network ∷ [] → new.zones.items ≡ old.zones.items → files_of new ≡ files_of old → new.denied.items ≡ old.denied.items
-      → new.transfers_allowed.items ≡ old.transfers_allowed.items → new.transfers_denied.items ≡ old.transfers_denied.items → identifiers_of new ≡ identifiers_of old → bounds_of new ≡ bounds_of old → Gives (codes "--allow") text old new
-  allow_gives network spelled is z f d t u i b = record {
+      → new.transfers_allowed.items ≡ old.transfers_allowed.items → new.transfers_denied.items ≡ old.transfers_denied.items → identifiers_of new ≡ identifiers_of old → bounds_of new ≡ bounds_of old → key_files_of new ≡ key_files_of old → transfer_keys_of new ≡ transfer_keys_of old → Gives (codes "--allow") text old new
+  allow_gives network spelled is z f d t u i b k n = record {
     known = (2, omega arith, refl);
     more_zones = [];
     zones_are = kept _ _ z;
@@ -142,11 +151,13 @@ module _ (text : Text) (old new : Settings) where
     more_bounds = [];
     bounds_are = kept _ _ b;
     bounds = tt;
+    key_files = kept _ _ k;
+    transfer_keys = kept _ _ n;
   }
 
   pub deny_gives : (network : Network) → IsNetworkText text network → new.denied.items ≡ old.denied.items ++ network ∷ [] → new.zones.items ≡ old.zones.items → files_of new ≡ files_of old → new.allowed.items ≡ old.allowed.items
-      → new.transfers_allowed.items ≡ old.transfers_allowed.items → new.transfers_denied.items ≡ old.transfers_denied.items → identifiers_of new ≡ identifiers_of old → bounds_of new ≡ bounds_of old → Gives (codes "--deny") text old new
-  deny_gives network spelled is z f a t u i b = record {
+      → new.transfers_allowed.items ≡ old.transfers_allowed.items → new.transfers_denied.items ≡ old.transfers_denied.items → identifiers_of new ≡ identifiers_of old → bounds_of new ≡ bounds_of old → key_files_of new ≡ key_files_of old → transfer_keys_of new ≡ transfer_keys_of old → Gives (codes "--deny") text old new
+  deny_gives network spelled is z f a t u i b k n = record {
     known = (3, omega arith, refl);
     more_zones = [];
     zones_are = kept _ _ z;
@@ -160,11 +171,13 @@ module _ (text : Text) (old new : Settings) where
     more_bounds = [];
     bounds_are = kept _ _ b;
     bounds = tt;
+    key_files = kept _ _ k;
+    transfer_keys = kept _ _ n;
   }
 
   pub allow_transfer_gives : (network : Network) → IsNetworkText text network → new.transfers_allowed.items ≡ old.transfers_allowed.items ++ network ∷ [] → new.zones.items ≡ old.zones.items → files_of new ≡ files_of old → new.allowed.items ≡ old.allowed.items
-      → new.denied.items ≡ old.denied.items → new.transfers_denied.items ≡ old.transfers_denied.items → identifiers_of new ≡ identifiers_of old → bounds_of new ≡ bounds_of old → Gives (codes "--allow-transfer") text old new
-  allow_transfer_gives network spelled is z f a d u i b = record {
+      → new.denied.items ≡ old.denied.items → new.transfers_denied.items ≡ old.transfers_denied.items → identifiers_of new ≡ identifiers_of old → bounds_of new ≡ bounds_of old → key_files_of new ≡ key_files_of old → transfer_keys_of new ≡ transfer_keys_of old → Gives (codes "--allow-transfer") text old new
+  allow_transfer_gives network spelled is z f a d u i b k n = record {
     known = (4, omega arith, refl);
     more_zones = [];
     zones_are = kept _ _ z;
@@ -178,11 +191,13 @@ module _ (text : Text) (old new : Settings) where
     more_bounds = [];
     bounds_are = kept _ _ b;
     bounds = tt;
+    key_files = kept _ _ k;
+    transfer_keys = kept _ _ n;
   }
 
   pub deny_transfer_gives : (network : Network) → IsNetworkText text network → new.transfers_denied.items ≡ old.transfers_denied.items ++ network ∷ [] → new.zones.items ≡ old.zones.items → files_of new ≡ files_of old → new.allowed.items ≡ old.allowed.items
-      → new.denied.items ≡ old.denied.items → new.transfers_allowed.items ≡ old.transfers_allowed.items → identifiers_of new ≡ identifiers_of old → bounds_of new ≡ bounds_of old → Gives (codes "--deny-transfer") text old new
-  deny_transfer_gives network spelled is z f a d t i b = record {
+      → new.denied.items ≡ old.denied.items → new.transfers_allowed.items ≡ old.transfers_allowed.items → identifiers_of new ≡ identifiers_of old → bounds_of new ≡ bounds_of old → key_files_of new ≡ key_files_of old → transfer_keys_of new ≡ transfer_keys_of old → Gives (codes "--deny-transfer") text old new
+  deny_transfer_gives network spelled is z f a d t i b k n = record {
     known = (5, omega arith, refl);
     more_zones = [];
     zones_are = kept _ _ z;
@@ -196,11 +211,13 @@ module _ (text : Text) (old new : Settings) where
     more_bounds = [];
     bounds_are = kept _ _ b;
     bounds = tt;
+    key_files = kept _ _ k;
+    transfer_keys = kept _ _ n;
   }
 
   pub nsid_gives : identifiers_of new ≡ identifiers_of old ++ text ∷ [] → new.zones.items ≡ old.zones.items → files_of new ≡ files_of old → new.allowed.items ≡ old.allowed.items
-      → new.denied.items ≡ old.denied.items → new.transfers_allowed.items ≡ old.transfers_allowed.items → new.transfers_denied.items ≡ old.transfers_denied.items → bounds_of new ≡ bounds_of old → Gives (codes "--nsid") text old new
-  nsid_gives is z f a d t u b = record {
+      → new.denied.items ≡ old.denied.items → new.transfers_allowed.items ≡ old.transfers_allowed.items → new.transfers_denied.items ≡ old.transfers_denied.items → bounds_of new ≡ bounds_of old → key_files_of new ≡ key_files_of old → transfer_keys_of new ≡ transfer_keys_of old → Gives (codes "--nsid") text old new
+  nsid_gives is z f a d t u b k n = record {
     known = (6, omega arith, refl);
     more_zones = [];
     zones_are = kept _ _ z;
@@ -214,11 +231,13 @@ module _ (text : Text) (old new : Settings) where
     more_bounds = [];
     bounds_are = kept _ _ b;
     bounds = tt;
+    key_files = kept _ _ k;
+    transfer_keys = kept _ _ n;
   }
 
   pub max_udp_gives : (bound : ℕ) → IsBound text bound → bounds_of new ≡ bounds_of old ++ bound ∷ [] → new.zones.items ≡ old.zones.items → files_of new ≡ files_of old → new.allowed.items ≡ old.allowed.items
-      → new.denied.items ≡ old.denied.items → new.transfers_allowed.items ≡ old.transfers_allowed.items → new.transfers_denied.items ≡ old.transfers_denied.items → identifiers_of new ≡ identifiers_of old → Gives (codes "--max-udp") text old new
-  max_udp_gives bound spelled is z f a d t u i = record {
+      → new.denied.items ≡ old.denied.items → new.transfers_allowed.items ≡ old.transfers_allowed.items → new.transfers_denied.items ≡ old.transfers_denied.items → identifiers_of new ≡ identifiers_of old → key_files_of new ≡ key_files_of old → transfer_keys_of new ≡ transfer_keys_of old → Gives (codes "--max-udp") text old new
+  max_udp_gives bound spelled is z f a d t u i k n = record {
     known = (7, omega arith, refl);
     more_zones = [];
     zones_are = kept _ _ z;
@@ -232,6 +251,48 @@ module _ (text : Text) (old new : Settings) where
     more_bounds = bound ∷ [];
     bounds_are = is;
     bounds = (spelled, tt);
+    key_files = kept _ _ k;
+    transfer_keys = kept _ _ n;
+  }
+
+  pub keys_gives : key_files_of new ≡ key_files_of old ++ text ∷ [] → new.zones.items ≡ old.zones.items → files_of new ≡ files_of old → new.allowed.items ≡ old.allowed.items → new.denied.items ≡ old.denied.items
+      → new.transfers_allowed.items ≡ old.transfers_allowed.items → new.transfers_denied.items ≡ old.transfers_denied.items → identifiers_of new ≡ identifiers_of old → bounds_of new ≡ bounds_of old → transfer_keys_of new ≡ transfer_keys_of old → Gives (codes "--keys") text old new
+  keys_gives is z f a d t u i b n = record {
+    known = (8, omega arith, refl);
+    more_zones = [];
+    zones_are = kept _ _ z;
+    zones = tt;
+    files = kept _ _ f;
+    allowed = none_more _ _ a;
+    denied = none_more _ _ d;
+    transfers_allowed = none_more _ _ t;
+    transfers_denied = none_more _ _ u;
+    identifiers = kept _ _ i;
+    more_bounds = [];
+    bounds_are = kept _ _ b;
+    bounds = tt;
+    key_files = is;
+    transfer_keys = kept _ _ n;
+  }
+
+  pub transfer_key_gives : transfer_keys_of new ≡ transfer_keys_of old ++ text ∷ [] → new.zones.items ≡ old.zones.items → files_of new ≡ files_of old → new.allowed.items ≡ old.allowed.items → new.denied.items ≡ old.denied.items
+      → new.transfers_allowed.items ≡ old.transfers_allowed.items → new.transfers_denied.items ≡ old.transfers_denied.items → identifiers_of new ≡ identifiers_of old → bounds_of new ≡ bounds_of old → key_files_of new ≡ key_files_of old → Gives (codes "--allow-transfer-key") text old new
+  transfer_key_gives is z f a d t u i b k = record {
+    known = (9, omega arith, refl);
+    more_zones = [];
+    zones_are = kept _ _ z;
+    zones = tt;
+    files = kept _ _ f;
+    allowed = none_more _ _ a;
+    denied = none_more _ _ d;
+    transfers_allowed = none_more _ _ t;
+    transfers_denied = none_more _ _ u;
+    identifiers = kept _ _ i;
+    more_bounds = [];
+    bounds_are = kept _ _ b;
+    bounds = tt;
+    key_files = kept _ _ k;
+    transfer_keys = is;
   }
 
 module _ (options : Options) (option text : Text) (old new : Settings) (say : OptionsSay options old) (gives : Gives option text old new) where
@@ -255,4 +316,6 @@ module _ (options : Options) (option text : Text) (old new : Settings) (say : Op
     transfers_denied = zipped IsNetworkText (codes "--deny-transfer") old.transfers_denied.items gives.transfers_denied.more new.transfers_denied.items gives.transfers_denied.are say.transfers_denied gives.transfers_denied.all;
     identifier = listed (codes "--nsid") _ _ say.identifier gives.identifiers;
     max_udp = zipped IsBound (codes "--max-udp") (bounds_of old) gives.more_bounds (bounds_of new) gives.bounds_are say.max_udp gives.bounds;
+    keys = listed (codes "--keys") _ _ say.keys gives.key_files;
+    transfer_keys = listed (codes "--allow-transfer-key") _ _ say.transfer_keys gives.transfer_keys;
   }

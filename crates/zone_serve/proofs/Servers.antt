@@ -1,14 +1,23 @@
 -- What stays of a server from call to call.
-use Rattle.std.proofs.Common.{◌≡◌, ap, ◌∙◌}
+use Rattle.std.proofs.Common.{◌≡◌, ap, ◌∙◌, refl}
+use Rattle.hickory_base.specs.declared.zone_store.handler.ZoneHandler.{Ghosts}
+use Rattle.hickory_catalog.specs.Signing.{Signer}
 use Rattle.hickory_catalog.specs.declared.catalog.Catalog.{Catalog}
-use Rattle.hickory_server.specs.declared.server.service.Server.{Server}
+use Rattle.signed_server.specs.declared.service.SignedServer.{SignedServer}
+use Rattle.zone_serve.specs.Served.{Stays, over, service_of}
 
--- Rules, identifier and signer stay.
-pub record Stays {S H : Type 0} (first last : Server S H) : Type 0 where
-  pub rules : last.rules ≡ first.rules
-  pub others : last.catalog ≡ record first.catalog { zones = last.catalog.zones }
+pub stays_on : {S H : Type 0} (first middle last : SignedServer S H) → Stays first middle → Stays middle last → Stays first last
+stays_on {S} {H} first middle last so_far step = record {
+  keys = step.keys ∙ so_far.keys;
+  transfer_keys = step.transfer_keys ∙ so_far.transfer_keys;
+  rules = step.rules ∙ so_far.rules;
+  others = step.others ∙ ap (λ (m : Catalog S H). record m { zones = last.server.catalog.zones }) so_far.others;
+}
 
-pub stays_on : {S H : Type 0} (first middle last : Server S H) → Stays first middle → last.rules ≡ middle.rules → last.catalog ≡ record middle.catalog { zones = last.catalog.zones }
-    → Stays first last
-stays_on {S} {H} first middle last so_far rules others =
-    record { rules = rules ∙ so_far.rules; others = others ∙ ap (λ (m : Catalog S H). record m { zones = last.catalog.zones }) so_far.others }
+pub stays_so : {S H : Type 0} (server : SignedServer S H) → Stays server server
+stays_so server = record { keys = refl; transfer_keys = refl; rules = refl; others = refl }
+
+-- A server of which this stayed is the same over its own zones.
+pub same_service : {S H : Type 0} (handler : Ghosts H) (signature_for : S → Signer) (first middle : SignedServer S H) → Stays first middle
+    → service_of handler signature_for middle ≡ over (service_of handler signature_for first) middle.server.catalog.zones
+same_service handler signature_for first middle stays = rw (stays.keys, stays.transfer_keys, stays.rules, stays.others) refl

@@ -24,7 +24,8 @@ behind name options = map (λ option. option.1) (filter (λ option. pointwise na
 
 -- the names that an option may have
 abbrev pub option_names : List (List ℕ)
-option_names = codes "--zone" ∷ codes "--blocklist" ∷ codes "--allow" ∷ codes "--deny" ∷ codes "--allow-transfer" ∷ codes "--deny-transfer" ∷ codes "--nsid" ∷ codes "--max-udp" ∷ []
+option_names = codes "--zone" ∷ codes "--blocklist" ∷ codes "--allow" ∷ codes "--deny" ∷ codes "--allow-transfer" ∷ codes "--deny-transfer" ∷ codes "--nsid" ∷ codes "--max-udp"
+    ∷ codes "--keys" ∷ codes "--allow-transfer-key" ∷ []
 
 -- NAME=FILE: the name stands before the first `=`, 61, and the file behind it.
 pub record IsZoneText (text : List ℕ) (zone : ZoneArgument) : Type 0 where
@@ -54,7 +55,16 @@ identifiers_of settings = option_to_list (option_map (λ it. it.0.now) settings.
 abbrev pub bounds_of : Settings → List ℕ
 bounds_of settings = option_to_list settings.max_udp
 
--- What options say: zones, lists and networks are those that the texts behind their options spell, in their order; `--nsid` and `--max-udp` stand once at most.
+-- the file of keys, if there is one
+abbrev pub key_files_of : Settings → List (List ℕ)
+key_files_of settings = option_to_list (option_map (λ file. file.now) settings.keys)
+
+-- the names of the keys that may have transfers from anywhere
+abbrev pub transfer_keys_of : Settings → List (List ℕ)
+transfer_keys_of settings = map (λ it. it.0.now) settings.transfer_keys.items
+
+-- What options say: zones, lists, networks and keys are those that the texts behind their options spell, in their order; `--nsid`, `--max-udp` and `--keys`
+-- stand once at most.
 pub record OptionsSay (options : Options) (settings : Settings) : Type 0 where
   pub known : AllByRecursion (λ option. Contains option_names option.0) options
   pub zones : AllZip IsZoneText (behind (codes "--zone") options) settings.zones.items
@@ -65,6 +75,8 @@ pub record OptionsSay (options : Options) (settings : Settings) : Type 0 where
   pub transfers_denied : AllZip IsNetworkText (behind (codes "--deny-transfer") options) settings.transfers_denied.items
   pub identifier : identifiers_of settings ≡ behind (codes "--nsid") options
   pub max_udp : AllZip IsBound (behind (codes "--max-udp") options) (bounds_of settings)
+  pub keys : key_files_of settings ≡ behind (codes "--keys") options
+  pub transfer_keys : transfer_keys_of settings ≡ behind (codes "--allow-transfer-key") options
 
 -- An option is taken, with what stands behind it: settings that were what options say are what those and it say.
 abbrev pub Takes : List ℕ → List ℕ → Settings → Settings → Type 0

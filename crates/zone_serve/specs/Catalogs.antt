@@ -1,9 +1,13 @@
 -- What the catalog has that arguments ask for. What a file holds is outside: some text stands for each.
-use Rattle.std.specs.Prelude.{◌≡◌, ◌<◌, [], ℕ, List, Option, Some, None, length, map, option_map}
+use Rattle.std.specs.Prelude.{◌≡◌, ◌∷◌, ◌≢◌, ◌<◌, ◌++◌, Bool, true, false, All, [], ℕ, List, Option, Some, None, length, map}
 use Rattle.wire_names.specs.rr.domain.DomainName.{DomainName}
 use Rattle.hickory_store.specs.BlockAnswers.{Blocklist}
 use Rattle.served_zones.specs.ServedZones.{AddsLists, AreJoined, AreLoaded, Chain, IsEmptyList}
 use Rattle.served_zones.specs.declared.parents.Loaded.{Loaded}
+use Rattle.access_control.specs.Access.{Network}
+use Rattle.tsig.specs.KeyTexts.{IsUsable}
+use Rattle.tsig.specs.declared.keys.Key.{Key}
+use Rattle.served_keys.specs.ServedKeys.{all_networks}
 use Rattle.zone_serve.specs.Arguments.{files_of}
 use Rattle.zone_serve.specs.declared.arguments.Settings.{Settings}
 
@@ -33,3 +37,13 @@ pub record AreZonesOf (settings : Settings) (zones : List (DomainName × Chain))
   pub between : List (DomainName × Chain)
   pub are_loaded : AreLoaded list (names_of settings) loaded [] between
   pub are_joined : AreJoined loaded between zones
+
+-- The keys where there is no file of keys, and those of a file: none, or some that can be used.
+abbrev pub AreKeysOf : Bool → List Key → Type 0
+AreKeysOf true keys = keys ≡ []
+AreKeysOf false keys = (keys ≢ []) × All IsUsable keys
+
+-- The networks that may have no transfer: those of the arguments, and where keys may have transfers from anywhere, all but what is allowed by a longer prefix.
+abbrev pub denied_transfers : List (List ℕ) → List Network → List Network
+denied_transfers [] networks = networks
+denied_transfers (name ∷ names) networks = networks ++ all_networks

@@ -37,6 +37,9 @@ pub enum Wanted {
     /// A number.
     #[error("N")]
     Number,
+    /// The name of a key.
+    #[error("NAME")]
+    Key,
 }
 
 /// Why the arguments are not taken. A `place` tells which argument it is; the first is 1.
@@ -160,6 +163,10 @@ pub struct Settings<'a> {
     pub identifier: Option<(&'a str, usize)>,
     /// How many bytes a reply over UDP has at most.
     pub max_udp: Option<u16>,
+    /// The file of keys.
+    pub keys: Option<&'a str>,
+    /// The names of the keys that may have transfers from anywhere, each with its argument.
+    pub transfer_keys: Vec<(&'a str, usize)>,
     /// How requests come in and replies go out.
     pub mode: Mode,
 }
@@ -180,10 +187,11 @@ fn mode_named(name: &str) -> Option<Mode>
 fn wanted_behind(option: &str) -> Option<Wanted> {
     match option {
         "--zone" => Some(Wanted::Zone),
-        "--blocklist" => Some(Wanted::File),
+        "--blocklist" | "--keys" => Some(Wanted::File),
         "--allow" | "--deny" | "--allow-transfer" | "--deny-transfer" => Some(Wanted::Network),
         "--nsid" => Some(Wanted::Text),
         "--max-udp" => Some(Wanted::Number),
+        "--allow-transfer-key" => Some(Wanted::Key),
         _ => None,
     }
 }
@@ -256,8 +264,48 @@ impl<'a> Settings<'a> {
             transfers_denied: Vec::new(alloc),
             identifier: None,
             max_udp: None,
+            keys: None,
+            transfer_keys: Vec::new(alloc),
             mode: Mode::Lines,
         }
+    }
+
+    /// Takes the option of keys at this place and what stands behind it.
+    fn put_keys(
+        &mut self,
+        option: &'a str,
+        text: &'a str,
+        place: usize,
+    ) -> Result<(), ArgumentFault<'a>>
+        ensures { OnOk result (Takes option.now text.now self.old self.new) }
+    {
+        match option {
+            "--keys" if self.keys.is_none() => self.keys = Some(text),
+            "--allow-transfer-key" => { self.transfer_keys.push((text, place.saturating_add(1)))? }
+            "--keys" => return Err(ArgumentFault::Twice { place, option }),
+            _ => return Err(fault_of(option, place)),
+        }
+        Ok(())
+    }
+
+    /// Takes the option of networks, or another one, at this place and what stands behind it.
+    fn put_network(
+        &mut self,
+        option: &'a str,
+        text: &'a str,
+        place: usize,
+    ) -> Result<(), ArgumentFault<'a>>
+        ensures { OnOk result (Takes option.now text.now self.old self.new) }
+    {
+        let behind = place.saturating_add(1);
+        match option {
+            "--allow" => self.allowed.push(network(text, behind)?)?,
+            "--deny" => self.denied.push(network(text, behind)?)?,
+            "--allow-transfer" => self.transfers_allowed.push(network(text, behind)?)?,
+            "--deny-transfer" => self.transfers_denied.push(network(text, behind)?)?,
+            _ => return self.put_keys(option, text, place),
+        }
+        Ok(())
     }
 
     /// Takes the option at this place and what stands behind it.
@@ -268,14 +316,10 @@ impl<'a> Settings<'a> {
         match option {
             "--zone" => self.zones.push(zone_argument(text, behind)?)?,
             "--blocklist" => self.blocklists.push(text)?,
-            "--allow" => self.allowed.push(network(text, behind)?)?,
-            "--deny" => self.denied.push(network(text, behind)?)?,
-            "--allow-transfer" => self.transfers_allowed.push(network(text, behind)?)?,
-            "--deny-transfer" => self.transfers_denied.push(network(text, behind)?)?,
             "--nsid" if self.identifier.is_none() => self.identifier = Some((text, behind)),
             "--max-udp" if self.max_udp.is_none() => self.max_udp = Some(max_udp(text, behind)?),
             "--nsid" | "--max-udp" => return Err(ArgumentFault::Twice { place, option }),
-            _ => return Err(fault_of(option, place)),
+            _ => return self.put_network(option, text, place),
         }
         Ok(())
     }

@@ -1,8 +1,10 @@
 //! Why the program ends before its input does.
 
 use crate::frames::StreamFault;
+use crate::keys::KeyFileFault;
 use crate::lists::ListFault;
 use crate::zones::ZoneFileFault;
+use served_keys::names::KeyNameFault;
 use std::alloc::{AllocError, AllocFailed};
 use std::io;
 use thiserror::Error;
@@ -24,6 +26,14 @@ pub enum Fault {
     LongIdentifier {
         /// Which argument it is; the first is 1.
         place: usize,
+    },
+    /// What stands behind `--allow-transfer-key` is the name of no key.
+    #[error("argument {place}: {fault}")]
+    TransferKey {
+        /// Which argument it is; the first is 1.
+        place: usize,
+        /// What is wrong with it.
+        fault: KeyNameFault,
     },
     /// The environment tells an address of the peer that is none.
     #[error("the environment tells a peer's address that is none")]
@@ -49,6 +59,12 @@ pub enum Fault {
         place: usize,
         /// What is wrong with it.
         fault: ListFault,
+    },
+    /// The file of keys is not taken.
+    #[error("{fault}")]
+    Keys {
+        /// What is wrong with it.
+        fault: KeyFileFault,
     },
     /// The peer's address may not use the server.
     #[error("denied")]
@@ -90,10 +106,12 @@ impl Fault {
             Fault::Stream(StreamFault::Partial | StreamFault::TooLong) => 1,
             Fault::NotUtf8 | Fault::ZoneName { .. } | Fault::LongIdentifier { .. } | Fault::Peer =>
                 2,
+            Fault::TransferKey { .. } => 2,
             Fault::Memory | Fault::Stream(StreamFault::Memory) => 3,
             Fault::Clock | Fault::Read | Fault::Write => 4,
             Fault::Stream(StreamFault::Read) => 4,
             Fault::ZoneTwice { .. } | Fault::Zone { .. } | Fault::List { .. } => 5,
+            Fault::Keys { .. } => 5,
         }
     }
 

@@ -8,16 +8,20 @@
 //! file is not taken.
 #![tactic(auto)]
 
-ghost use Rattle.std.specs.Prelude.{◌≡◌, IfOk, MatchOption, None, map, option_map};
+ghost use Rattle.std.specs.Prelude.{◌≡◌, IfOk, MatchOption, None, is_none, map, option_map};
+ghost use Rattle.std.specs.List.{AllZip};
 ghost use Rattle.access_control.specs.Access.{SameNetworks};
 ghost use Rattle.hickory_base.specs.zone_store.ZoneAnswers.{MemoryZone};
 ghost use Rattle.served_zones.specs.ServedZones.{AreLoaded, IsLoadedAs, IsPlaced, IsServedZone};
-ghost use Rattle.zone_serve.specs.Catalogs.{AreZonesOf};
+ghost use Rattle.served_keys.specs.ServedKeys.{IsKeyName};
+ghost use Rattle.zone_serve.specs.Arguments.{transfer_keys_of};
+ghost use Rattle.zone_serve.specs.Catalogs.{AreKeysOf, AreZonesOf, denied_transfers};
 
 mod arguments;
 mod fault;
 mod files;
 mod frames;
+mod keys;
 mod lines;
 mod lists;
 mod peer;
@@ -28,6 +32,7 @@ mod zones;
 use crate::arguments::{ArgumentFault, Mode, Settings, ZoneArgument};
 use crate::fault::Fault;
 use crate::files::bytes_of;
+use crate::keys::{keys_of, transfer_keys_of};
 use crate::lists::blocklist;
 use crate::server::{apex_of, identifier_of, rules_of};
 use crate::serving::{serve_datagram, serve_lines, serve_stream};
@@ -41,6 +46,7 @@ use served_zones::chains::{chain, put_chain};
 use served_zones::handler::{Handler, Zones};
 use served_zones::parents::{Loaded, alone, join_parents};
 use served_zones::zones::zone_of_file;
+use signed_server::SignedServer;
 use std::alloc::{AllocError, Global};
 use std::env::VarError;
 use std::net::{IpAddr, Ipv4Addr};
@@ -173,18 +179,45 @@ fn catalog<R: Files + Eprint + Alloc<A = Global>>(
 fn server_for<R: Files + Eprint + Alloc<A = Global>>(
     rt: &R,
     settings: &Settings<'_>,
-) -> Result<Server<NoKeys, Handler>, Fault>
-    ensures denied { IfOk result (λ server. SameNetworks settings.now.denied.items server.rules.access.deny) }
-    ensures allowed { IfOk result (λ server. SameNetworks settings.now.allowed.items server.rules.access.allow) }
-    ensures transfers_denied { IfOk result (λ server. SameNetworks settings.now.transfers_denied.items server.rules.transfers.deny) }
-    ensures transfers_allowed { IfOk result (λ server. SameNetworks settings.now.transfers_allowed.items server.rules.transfers.allow) }
-    ensures limit { IfOk result (λ server. MatchOption settings.now.max_udp (server.rules.max_udp ≡ 1232) (λ limit. server.rules.max_udp ≡ limit)) }
-    ensures zones { IfOk result (λ server. AreZonesOf settings.now server.catalog.zones) }
-    ensures identifier { IfOk result (λ server. server.catalog.nsid ≡ option_map (λ it. it.0.now) settings.now.identifier) }
+) -> Result<SignedServer<NoKeys, Handler>, Fault>
+    ensures denied { IfOk result (λ made. SameNetworks settings.now.denied.items made.server.rules.access.deny) }
+    ensures allowed { IfOk result (λ made. SameNetworks settings.now.allowed.items made.server.rules.access.allow) }
+    ensures transfers_denied { IfOk result (λ made. SameNetworks (denied_transfers (transfer_keys_of settings.now) settings.now.transfers_denied.items) made.server.rules.transfers.deny) }
+    ensures transfers_allowed { IfOk result (λ made. SameNetworks settings.now.transfers_allowed.items made.server.rules.transfers.allow) }
+    ensures limit { IfOk result (λ made. MatchOption settings.now.max_udp (made.server.rules.max_udp ≡ 1232) (λ limit. made.server.rules.max_udp ≡ limit)) }
+    ensures zones { IfOk result (λ made. AreZonesOf settings.now made.server.catalog.zones) }
+    ensures identifier { IfOk result (λ made. made.server.catalog.nsid ≡ option_map (λ it. it.0.now) settings.now.identifier) }
+    ensures keys { IfOk result (λ made. AreKeysOf (is_none settings.now.keys) made.keys) }
+    ensures transfer_keys { IfOk result (λ made. AllZip IsKeyName (transfer_keys_of settings.now) made.transfer_keys.items) }
 {
     let alloc = rt.alloc();
+    let keys = keys_of(rt, settings.keys)?;
+    let names = transfer_keys_of(alloc, &keys, &settings.transfer_keys)?;
     let rules = rules_of(alloc, settings)?;
-    Ok(Server::new(alloc, rules, catalog(rt, settings)?)?)
+    let server = Server::new(alloc, rules, catalog(rt, settings)?)?;
+    let mut signed = SignedServer::new(alloc, server, keys)?;
+    signed.transfer_keys = names;
+    Ok(signed)
+}
+
+/// Serves the standard input by a server.
+fn serve_input<R: Clock + Input + Print + Alloc<A = Global>>(
+    rt: &R,
+    mode: Mode,
+    address: IpAddr,
+    server: &mut SignedServer<NoKeys, Handler>,
+) -> Result<(), Fault> {
+    let alloc = rt.alloc();
+    let mut reader = rt.reader();
+    let mut writer = io::writer(rt);
+    match mode {
+        Mode::Udp => serve_datagram(alloc, rt, server, address, &mut reader, &mut writer),
+        Mode::Tcp => serve_stream(alloc, rt, server, address, &mut reader, &mut writer),
+        Mode::Lines => match serve_lines(alloc, rt, server, &mut reader, &mut writer)? {
+            Some(number) => Err(Fault::Line { number }),
+            None => Ok(()),
+        },
+    }
 }
 
 /// Serves the standard input as the arguments say.
@@ -193,18 +226,10 @@ fn serve<R: Files + Env + Clock + Input + Print + Eprint + Alloc<A = Global>>(
     settings: &Settings<'_>,
     address: IpAddr,
 ) -> Result<(), Fault> {
-    let alloc = rt.alloc();
     let mut server = server_for(rt, settings)?;
-    let mut reader = rt.reader();
-    let mut writer = io::writer(rt);
-    match settings.mode {
-        Mode::Udp => { serve_datagram(alloc, rt, &mut server, address, &mut reader, &mut writer) }
-        Mode::Tcp => serve_stream(alloc, rt, &mut server, address, &mut reader, &mut writer),
-        Mode::Lines => match serve_lines(alloc, rt, &mut server, &mut reader, &mut writer)? {
-            Some(number) => Err(Fault::Line { number }),
-            None => Ok(()),
-        },
-    }
+    let ended = serve_input(rt, settings.mode, address, &mut server);
+    drop(server);
+    ended
 }
 
 /// The file that a fault is of.
@@ -214,6 +239,7 @@ fn file_of<'a>(settings: &Settings<'a>, fault: Fault) -> Option<&'a str> {
             settings.zones.get(place).map(|zone| zone.file)
         }
         Fault::List { place, .. } => settings.blocklists.get(place).copied(),
+        Fault::Keys { .. } => settings.keys,
         _ => None,
     }
 }
@@ -274,6 +300,8 @@ zone_serve [--zone NAME=FILE].. [OPTION].. udp|tcp|lines
   --allow NET, --deny NET    who may ask
   --allow-transfer NET, --deny-transfer NET
                              who of those may have a zone transferred
+  --keys FILE                the keys that sign messages (TSIG)
+  --allow-transfer-key NAME  whose good signature has zones transferred from anywhere
   --nsid TEXT                what identifies this server
   --max-udp N                bytes of a reply over UDP at most, 1232
   udp|tcp|lines              one datagram, a stream, or lines 'udp|tcp ADDRESS HEX'

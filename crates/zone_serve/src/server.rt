@@ -3,30 +3,43 @@
 ghost use Rattle.std.specs.Prelude.{◌≡◌, IfOk, MatchOption, option_map};
 ghost use Rattle.access_control.specs.Access.{SameNetworks};
 ghost use Rattle.served_zones.specs.ServedZones.{IsApexText};
+ghost use Rattle.zone_serve.specs.Arguments.{transfer_keys_of};
+ghost use Rattle.zone_serve.specs.Catalogs.{denied_transfers};
 
 use crate::arguments::Settings;
 use crate::fault::Fault;
+use hickory_server::access::IpNet;
 use hickory_server::proto::{NSIDPayload, Name, NameError};
 use hickory_server::server::Rules;
+use served_keys::networks::with_all;
 use served_zones::chains::apex;
 use served_zones::identifier::{IdentifierFault, identifier};
 use served_zones::networks::access;
 use std::alloc::{AllocError, Global};
 
+/// The networks that may have no transfer.
+fn denied_transfers(alloc: Global, settings: &Settings<'_>) -> Result<Vec<IpNet>, AllocError>
+    ensures { IfOk result (λ networks. networks.items ≡ denied_transfers (transfer_keys_of settings.now) settings.now.transfers_denied.items) }
+{
+    let denied = settings.transfers_denied.as_slice();
+    if settings.transfer_keys.is_empty() {
+        Vec::from_slice(alloc, denied)
+    } else {
+        with_all(alloc, denied)
+    }
+}
+
 /// The rules that the arguments ask for.
 pub fn rules_of(alloc: Global, settings: &Settings<'_>) -> Result<Rules, AllocError>
     ensures denied { IfOk result (λ rules. SameNetworks settings.now.denied.items rules.access.deny) }
     ensures allowed { IfOk result (λ rules. SameNetworks settings.now.allowed.items rules.access.allow) }
-    ensures transfers_denied { IfOk result (λ rules. SameNetworks settings.now.transfers_denied.items rules.transfers.deny) }
+    ensures transfers_denied { IfOk result (λ rules. SameNetworks (denied_transfers (transfer_keys_of settings.now) settings.now.transfers_denied.items) rules.transfers.deny) }
     ensures transfers_allowed { IfOk result (λ rules. SameNetworks settings.now.transfers_allowed.items rules.transfers.allow) }
     ensures limit { IfOk result (λ rules. MatchOption settings.now.max_udp (rules.max_udp ≡ 1232) (λ limit. rules.max_udp ≡ limit)) }
 {
     let server = access(alloc, &settings.denied, &settings.allowed)?;
-    let transfers = access(
-        alloc,
-        &settings.transfers_denied,
-        &settings.transfers_allowed,
-    )?;
+    let denied = denied_transfers(alloc, settings)?;
+    let transfers = access(alloc, &denied, &settings.transfers_allowed)?;
     Ok(Rules {
         access: server,
         transfers,

@@ -1,4 +1,4 @@
-use Rattle.std.proofs.Common.{◌∙◌, [], List, Option, ap, map, option_map, subst, sym}
+use Rattle.std.proofs.Common.{◌∙◌, ap, option_map}
 use Rattle.std.specs.Global.{Global}
 use Rattle.std.specs.declared.rc.Rc.{Rc}
 use Rattle.hickory_store.specs.BlockAnswers.{Blocklist}

@@ -7,7 +7,7 @@ pub returns-clause-allowed : goal.returns-clause-allowed
 returns-clause-allowed c = rw c.deref-2.ensures.value at c.in_ok-server.ensures.allowed
 
 pub returns-clause-transfers_denied : goal.returns-clause-transfers_denied
-returns-clause-transfers_denied c = rw c.deref-3.ensures.value at c.in_ok-transfers.ensures.denied
+returns-clause-transfers_denied c = rw (c.deref-3.ensures.value, c.in_ok-denied.ensures) at c.in_ok-transfers.ensures.denied
 
 pub returns-clause-transfers_allowed : goal.returns-clause-transfers_allowed
 returns-clause-transfers_allowed c = rw c.deref-4.ensures.value at c.in_ok-transfers.ensures.allowed

@@ -1,19 +1,19 @@
-use Rattle.std.proofs.Common.{◌≡◌, ◌++◌, [], true, false, refl, rules}
+use Rattle.std.proofs.Common.{◌≡◌, ◌++◌, [], true, false, rules}
 use Rattle.std.proofs.KnownBytes.{Appends-nil, Appends-trans, Consumes-nil, Consumes-trans}
 use Rattle.zone_serve.specs.Served.{none}
-use Rattle.zone_serve.proofs.Servers.{stays_on}
+use Rattle.zone_serve.proofs.Servers.{stays_on, stays_so}
 use Rattle.zone_serve.proofs.Streams.{stream_end, stream_more}
 use Rattle.zone_serve.proofs.serving.serve_stream.Goals as goal
 
 pub loop-init : goal.loop-init
-loop-init g c = (record { rules = refl; others = refl }, [], [], none, Consumes-nil _, Appends-nil _)
+loop-init g c = (stays_so c.args.server.now, [], [], none, Consumes-nil _, Appends-nil _)
 
 pub loop-preserved : goal.loop-preserved
 loop-preserved g c =
     let (stays, read, written, served, consumes, appends) = c.loop.invariant in
     let (frame, frames, next, consumes_next, appends_next) = c.in_ok-serve_next.ensures.served in
     let is_more : c.in_ok-serve_next.field-0 ≡ true = search rules in (
-      stays_on c.args.server.now c.loop.server c.serve_next.new.server stays c.in_ok-serve_next.ensures.rules c.in_ok-serve_next.ensures.others,
+      stays_on c.args.server.now c.loop.server c.serve_next.new.server stays c.in_ok-serve_next.ensures.stays,
       read ++ frame,
       written ++ frames,
       stream_more g.H.ZoneHandler g.S.ReplySigner.signature_for c.args.address c.args.server.now c.loop.server c.serve_next.new.server stays
