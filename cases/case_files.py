@@ -159,8 +159,10 @@ class Room:
         printed = f"{self.folder}/printed"
         given, taken = case.open_input(), case.open_output(printed)
         try:
+            # (each build goes by the one name, which some print)
             ended = subprocess.run(
-                [program, *case.arguments],
+                [program.removesuffix(".by-rattle"), *case.arguments],
+                executable=program,
                 stdin=given, stdout=taken, stderr=subprocess.PIPE,
                 cwd=self.folder, env={**environment, **case.environment}, timeout=SECONDS,
             )
