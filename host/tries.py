@@ -416,11 +416,12 @@ def try_same(zone):
 
     want(f"{len(messages)} datagrams are answered as by zone_serve", all((udp(m, 0.3) or b"") == serve("udp", m) for m in messages))
     answered = [m for m in messages if udp(m, 0.3) is not None]
+    wanted = serve("tcp", b"".join(map(frame, answered)))
     with tcp() as s:
         s.sendall(b"".join(frame(m) for m in answered))
-        f = s.makefile("rb")
-        replies = [read(f) or b"" for _ in answered]
-    want(f"and {len(answered)} messages of a connection", b"".join(map(frame, replies)) == serve("tcp", b"".join(map(frame, answered))))
+        # (that for IXFR has several replies)
+        replies = s.makefile("rb").read(len(wanted))
+    want(f"and {len(answered)} messages of a connection", replies == wanted)
 
 
 def try_joined(folder, port):
