@@ -1,0 +1,148 @@
+-- A configuration file in TOML 1.1 as a list of settings: each is the name of an option, and a value in text.
+use Rattle.std.specs.Prelude.{◌≡◌, ◌⊎◌, ⊤, ◌++◌, ◌∷◌, [], ℕ, ℤ, pos, List, Bool, true, false, Option, Some, None, String, bytes_eq, map, codes, option_map, string_bytes, get_or, cond, take, length, ◌==◌, ◌+◌, ◌-◌, ◌<◌, ◌≤◌}
+use Rattle.std.specs.List.{list_any}
+use Rattle.std.specs.Str.{IsUtf8}
+use Rattle.std.specs.declared.alloc.Global.{Global}
+use Rattle.toml.specs.Parse.{parse_document}
+use Rattle.server_settings.specs.declared.fault.SettingsFault.{SettingsFault}
+use Rattle.server_settings.specs.declared.fault.SettingsFault.TheVariants as faults
+use Rattle.server_settings.specs.declared.reading.Refusal.{Refusal}
+use Rattle.server_settings.specs.declared.reading.Refusal.TheVariants.{Unknown, Wrong, Memory}
+use Rattle.std.specs.Fmt.{decimal}
+use Rattle.server_settings.specs.declared.reading.Setting.{Setting}
+use Rattle.toml.specs.Data.{Data, Items, Members, array, integer, item, member, no_items, no_members, string, table}
+
+-- a name and a value
+abbrev pub Pair : Type 0
+Pair = List ℕ × List ℕ
+
+-- what a setting says
+abbrev pub said : Setting → Pair
+said setting = (string_bytes setting.name, string_bytes setting.value)
+
+-- the digits of a whole number that is not negative
+abbrev pub digits_of : ℤ → Option (List ℕ)
+digits_of (pos n) = Some (decimal n)
+digits_of _ = None
+
+-- what one value is as text: a string is itself, and a whole number its digits
+abbrev pub text_of : Data → Option (List ℕ)
+text_of (string text) = Some text
+text_of (integer z) = digits_of z
+text_of _ = None
+
+-- one text more in front, where there are texts
+abbrev pub with_text : Option (List ℕ) → Option (List (List ℕ)) → Option (List (List ℕ))
+with_text (Some text) (Some texts) = Some (text ∷ texts)
+with_text _ _ = None
+
+-- a member of a table as one text
+abbrev pub assigned : List ℕ → Option (List ℕ) → Option (List ℕ)
+assigned key text = option_map (λ t. key ++ codes "=" ++ t) text
+
+-- the texts of an array, in its order
+abbrev pub texts_of_items : Items → Option (List (List ℕ))
+texts_of_items no_items = Some []
+texts_of_items (item d ds) = with_text (text_of d) (texts_of_items ds)
+
+-- the texts `KEY=TEXT` of a table, in the order of its keys
+abbrev pub texts_of_members : Members → Option (List (List ℕ))
+texts_of_members no_members = Some []
+texts_of_members (member key d ms) = with_text (assigned key (text_of d)) (texts_of_members ms)
+
+-- the values that an option is given: one of a text or a number, one of each item of an array, and one of each member of a table
+abbrev pub texts_of : Data → Option (List (List ℕ))
+texts_of (array ds) = texts_of_items ds
+texts_of (table ms) = texts_of_members ms
+texts_of d = with_text (text_of d) (Some [])
+
+-- an option with each of these values
+abbrev pub under : List ℕ → List (List ℕ) → List Pair
+under name texts = map (λ text. (name, text)) texts
+
+-- settings in front of others, where there are any
+abbrev pub join : Option (List Pair) → Option (List Pair) → Option (List Pair)
+join (Some front) (Some back) = Some (front ++ back)
+join _ _ = None
+
+-- the settings of a document, in the order of their names; none where a value is not of these kinds
+abbrev pub settings_of : Members → Option (List Pair)
+settings_of no_members = Some []
+settings_of (member name d ms) = join (option_map (under name) (texts_of d)) (settings_of ms)
+
+-- there is an option of this name
+abbrev pub is_option : List (String Global) → List ℕ → Bool
+is_option options name = list_any (λ option. bytes_eq (string_bytes option) name) options
+
+-- every name of the document is that of an option
+abbrev pub AreKnown : List (String Global) → Members → Type 0
+AreKnown options no_members = ⊤
+AreKnown options (member name d ms) = (is_option options name ≡ true) × AreKnown options ms
+
+-- the document has this value under this name
+abbrev pub HasMember : List ℕ → Data → Members → Type 0
+HasMember name d no_members = ⊥
+HasMember name d (member k e ms) = ((k ≡ name) × (e ≡ d)) ⊎ HasMember name d ms
+
+-- the text is a TOML document of these members
+abbrev pub IsDocument : List ℕ → Members → Type 0
+IsDocument text ms = IsUtf8 text × (parse_document text ≡ Some ms)
+
+-- the text is a document whose names are options, and whose values give these settings
+abbrev pub AreSettings : List (String Global) → List ℕ → List Pair → Type 0
+AreSettings options text settings = (ms : Members) × IsDocument text ms × AreKnown options ms × (settings_of ms ≡ Some settings)
+
+-- the text is a document that has a name of no option
+abbrev pub IsUnknown : List (String Global) → List ℕ → List ℕ → Type 0
+IsUnknown options text name = (ms : Members) × (d : Data) × IsDocument text ms × HasMember name d ms × (is_option options name ≡ false)
+
+-- the text is a document that has a value under this name that gives the option none
+abbrev pub IsWrong : List ℕ → List ℕ → Type 0
+IsWrong text name = (ms : Members) × (d : Data) × IsDocument text ms × HasMember name d ms × (texts_of d ≡ None)
+
+-- the text is a document that is refused for what it says
+abbrev pub IsRefused : List (String Global) → List ℕ → Type 0
+IsRefused options text = ((name : List ℕ) × IsUnknown options text name) ⊎ ((name : List ℕ) × IsWrong text name)
+
+-- how many lines end in a text
+abbrev pub line_ends : List ℕ → ℕ
+line_ends [] = 0
+line_ends (byte ∷ text) = cond (byte == 10) 1 0 + line_ends text
+
+-- the line in which the last byte of a text stands, from 1
+abbrev pub line_of : List ℕ → ℕ
+line_of text = line_ends (take (length text - 1) text) + 1
+
+-- none of the lines before this place ends a front of the text that is refused
+abbrev pub NoneRefusedBefore : List (String Global) → List ℕ → ℕ → Type 0
+NoneRefusedBefore options text place = (i : ℕ) → i < place → get_or text i 0 ≡ 10 → ¬ (IsRefused options (take (i + 1) text))
+
+-- the front up to this place is the shortest one of whole lines that may be refused
+abbrev pub IsShortest : List (String Global) → List ℕ → ℕ → Type 0
+IsShortest options text end = (end ≤ length text) × NoneRefusedBefore options text (end - 1)
+
+-- Why a text gives no settings: it is no TOML; or its shortest front of whole lines that is refused has a name of no option, or a value that gives an option none, and
+-- the line is the one with which that front ends.
+abbrev pub IsFault : List (String Global) → List ℕ → SettingsFault → Type 0
+IsFault options text (faults.Syntax e) = (ms : Members) → ¬ (IsDocument text ms)
+IsFault options text (faults.UnknownOption name line) =
+    (end : ℕ) × IsShortest options text end × IsUnknown options (take end text) (string_bytes name) × (line ≡ line_of (take end text))
+IsFault options text (faults.WrongValue name line) =
+    (end : ℕ) × IsShortest options text end × IsWrong (take end text) (string_bytes name) × (line ≡ line_of (take end text))
+IsFault options text faults.Memory = ⊤
+
+-- what a refusal says of a member of a document
+abbrev pub IsMemberRefusal : List (String Global) → List ℕ → Data → Refusal → Type 0
+IsMemberRefusal options name d (Unknown n) = (string_bytes n ≡ name) × (is_option options name ≡ false)
+IsMemberRefusal options name d (Wrong n) = (string_bytes n ≡ name) × (texts_of d ≡ None)
+IsMemberRefusal options name d Memory = ⊤
+
+-- what it says of a document
+abbrev pub IsTableRefusal : List (String Global) → Members → Refusal → Type 0
+IsTableRefusal options ms refusal = (name : List ℕ) × (d : Data) × HasMember name d ms × IsMemberRefusal options name d refusal
+
+-- what it says of a text
+abbrev pub IsRefusal : List (String Global) → List ℕ → Refusal → Type 0
+IsRefusal options text (Unknown name) = IsUnknown options text (string_bytes name)
+IsRefusal options text (Wrong name) = IsWrong text (string_bytes name)
+IsRefusal options text Memory = ⊤

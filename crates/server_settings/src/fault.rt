@@ -1,0 +1,31 @@
+//! Why a text is no list of settings.
+
+use thiserror::Error as Told;
+use toml::de::Error;
+
+/// Why a text is no list of settings.
+#[derive(Debug, Drop, Told)]
+pub enum SettingsFault {
+    /// It is not TOML 1.1, or not UTF-8; the fault tells where.
+    #[error("{0}")]
+    Syntax(Error),
+    /// There is no option of this name.
+    #[error("line {line}: there is no option {name:?}")]
+    UnknownOption {
+        /// The name.
+        name: String,
+        /// The line with which the document has it, from 1.
+        line: usize,
+    },
+    /// The value of this option is not of a kind that gives it one: a text, a whole number that is not negative, or an array or a table of these.
+    #[error("line {line}: {name:?} wants a text, a whole number that is not negative, or a list or a table of these")]
+    WrongValue {
+        /// The name of the option.
+        name: String,
+        /// The line with which the document has it, from 1.
+        line: usize,
+    },
+    /// Memory was refused.
+    #[error("no memory")]
+    Memory,
+}

@@ -1,0 +1,6 @@
+//! The configuration file of a server: settings in TOML.
+#![tactic(auto)]
+
+pub mod fault;
+pub mod reading;
+mod values;
