@@ -1,5 +1,5 @@
 -- A configuration file in TOML 1.1 as a list of settings: each is the name of an option, and a value in text.
-use Rattle.std.specs.Prelude.{◌≡◌, ◌⊎◌, ⊤, ◌++◌, ◌∷◌, [], ℕ, ℤ, pos, List, Bool, true, false, Option, Some, None, String, bytes_eq, map, codes, option_map, string_bytes, get_or, cond, take, length, ◌==◌, ◌+◌, ◌-◌, ◌<◌, ◌≤◌}
+use Rattle.std.specs.Prelude.{◌≡◌, ◌⊎◌, ⊤, ◌++◌, ◌∷◌, [], ℕ, ℤ, pos, List, Bool, true, false, Option, Some, None, String, bytes_eq, map, codes, option_map, string_bytes, get_or, cond, take, length, ◌==◌, ◌||◌, ◌+◌, ◌-◌, ◌<◌, ◌≤◌}
 use Rattle.std.specs.List.{list_any}
 use Rattle.std.specs.Str.{IsUtf8}
 use Rattle.std.specs.declared.alloc.Global.{Global}
@@ -146,3 +146,16 @@ abbrev pub IsRefusal : List (String Global) → List ℕ → Refusal → Type 0
 IsRefusal options text (Unknown name) = IsUnknown options text (string_bytes name)
 IsRefusal options text (Wrong name) = IsWrong text (string_bytes name)
 IsRefusal options text Memory = ⊤
+
+-- a setting as two strings of C, each with the byte 0 behind it
+abbrev pub strings : Pair → List ℕ
+strings setting = (setting.0 ++ 0 ∷ []) ++ (setting.1 ++ 0 ∷ [])
+
+-- settings so, one behind the other
+abbrev pub strings_of : List Pair → List ℕ
+strings_of [] = []
+strings_of (setting ∷ settings) = strings setting ++ strings_of settings
+
+-- a setting has the byte 0, where C would see the end of its string
+abbrev pub has_zero : Pair → Bool
+has_zero setting = list_any (λ byte. byte == 0) setting.0 || list_any (λ byte. byte == 0) setting.1

@@ -4,3 +4,4 @@
 pub mod fault;
 pub mod reading;
 mod values;
+pub mod writing;
