@@ -159,3 +159,12 @@ strings_of (setting ∷ settings) = strings setting ++ strings_of settings
 -- a setting has the byte 0, where C would see the end of its string
 abbrev pub has_zero : Pair → Bool
 has_zero setting = list_any (λ byte. byte == 0) setting.0 || list_any (λ byte. byte == 0) setting.1
+
+-- a string of C: a text and the byte 0 behind it
+abbrev pub ended : List ℕ → List ℕ
+ended text = text ++ 0 ∷ []
+
+-- strings of C, one behind the other
+abbrev pub ended_strings : List (List ℕ) → List ℕ
+ended_strings [] = []
+ended_strings (text ∷ texts) = ended text ++ ended_strings texts

@@ -3,5 +3,6 @@
 
 pub mod fault;
 pub mod reading;
+pub mod names;
 mod values;
 pub mod writing;
