@@ -168,3 +168,12 @@ ended text = text ++ 0 ∷ []
 abbrev pub ended_strings : List (List ℕ) → List ℕ
 ended_strings [] = []
 ended_strings (text ∷ texts) = ended text ++ ended_strings texts
+
+-- the bytes are the strings of the settings that the text gives the options
+abbrev pub GivesStrings : List (String Global) → List ℕ → List ℕ → Type 0
+GivesStrings options text bytes = (settings : List Pair) × AreSettings options text settings × (bytes ≡ strings_of settings)
+
+-- The bytes are the strings of the settings that the text gives options, whose names are strings of C, one behind the other.
+abbrev pub IsConfiguration : List ℕ → List ℕ → List ℕ → Type 0
+IsConfiguration names text bytes =
+    (options : List (String Global)) × (ended_strings (map string_bytes options) ≡ names) × GivesStrings options text bytes
