@@ -29,14 +29,17 @@ struct sockets {
     int fds[2 * MOST_ADDRESSES], count;
 };
 
-/* load.c: the server that the settings ask for, read from their files. 0, or -1 with a line on the standard error. */
-int load(const struct settings *settings, zone_service *service);
+extern struct settings settings;
+
+/* load.c: the bytes of a file, or NULL; and the server that the settings ask for, read from their files: 0, or -1 with a line on the standard error. */
+uint8_t *read_file(const char *path, size_t *len);
+int load(zone_service *service);
 
 /* sockets.c */
-int open_sockets(const struct settings *settings, struct sockets *sockets);
+int open_sockets(struct sockets *sockets);
 
 /* worker.c: serves until SIGTERM, then lets its connections end. statistics is a listener, or less than 0. */
-int work(const struct settings *settings, const struct sockets *sockets, int statistics, zone_service *service);
+int work(const struct sockets *sockets, int statistics, zone_service *service);
 
 /* statistics.c: begin makes the socket where they are told, add has what a server counted since the last time, tell answers a client. */
 int statistics_begin(const char *path);
@@ -47,11 +50,10 @@ void statistics_tell(int listener);
 void udp_serve(int fd, zone_service *service, uint64_t now);
 
 /* tcp.c */
-void tcp_begin(const struct settings *settings, int epoll);
+extern int tcp_epoll, tcp_count; /* where connections are waited for, and how many there are */
 void tcp_accept(int listener, uint64_t moment);
 void tcp_ready(void *connection, uint32_t events, zone_service *service, uint64_t now, uint64_t moment);
 int tcp_expire(uint64_t moment); /* milliseconds until the next connection is too old, or -1 */
-int tcp_count(void);
 
 /* The bytes of an address. */
 struct source {

@@ -5,8 +5,7 @@
 #include <stdlib.h>
 #include <string.h>
 
-/* The bytes of a file. */
-static uint8_t *read_file(const char *path, size_t *len)
+uint8_t *read_file(const char *path, size_t *len)
 {
     FILE *file = fopen(path, "rb");
     uint8_t *bytes = NULL, *more = NULL;
@@ -68,35 +67,35 @@ static int add_zone(zone_service *service, const char *zone)
     return -1;
 }
 
-static int set_all(const struct settings *s, zone_service *service)
+static int set_all(zone_service *service)
 {
     static setter *const set_network[NETWORK_KINDS] = {zone_service_set_allowed, zone_service_set_denied, zone_service_set_transfer_allowed,
                                                        zone_service_set_transfer_denied};
-    if ((s->blocklist != NULL && set_file(service, s->blocklist, NULL, 0, s->blocklist) != 0) ||
-        (s->identifier != NULL && set_text(zone_service_set_identifier, service, s->identifier) != 0))
+    if ((settings.blocklist != NULL && set_file(service, settings.blocklist, NULL, 0, settings.blocklist) != 0) ||
+        (settings.identifier != NULL && set_text(zone_service_set_identifier, service, settings.identifier) != 0))
         return -1;
-    if (told("--max-udp", zone_service_set_max_udp(service, (uint16_t)s->max_udp, fault, sizeof fault, &fault_len)) != 0 ||
-        told("--rate-limit", zone_service_set_rate_limit(service, (uint32_t)s->rate_limit, (uint32_t)s->rate_slip, fault, sizeof fault,
+    if (told("--max-udp", zone_service_set_max_udp(service, (uint16_t)settings.max_udp, fault, sizeof fault, &fault_len)) != 0 ||
+        told("--rate-limit", zone_service_set_rate_limit(service, (uint32_t)settings.rate_limit, (uint32_t)settings.rate_slip, fault, sizeof fault,
                                                          &fault_len)) != 0)
         return -1;
     for (int kind = 0; kind < NETWORK_KINDS; kind++)
-        for (int i = 0; i < s->networks[kind].count; i++)
-            if (set_text(set_network[kind], service, s->networks[kind].at[i]) != 0)
+        for (int i = 0; i < settings.networks[kind].count; i++)
+            if (set_text(set_network[kind], service, settings.networks[kind].at[i]) != 0)
                 return -1;
-    for (int i = 0; i < s->zones.count; i++)
-        if (add_zone(service, s->zones.at[i]) != 0)
+    for (int i = 0; i < settings.zones.count; i++)
+        if (add_zone(service, settings.zones.at[i]) != 0)
             return -1;
     return told("--zone", zone_service_join_zones(service, fault, sizeof fault, &fault_len));
 }
 
-int load(const struct settings *settings, zone_service *service)
+int load(zone_service *service)
 {
     service->at = NULL;
     if (zone_service_create(&service->at) != 0) {
         complain("no memory");
         return -1;
     }
-    if (set_all(settings, service) == 0)
+    if (set_all(service) == 0)
         return 0;
     zone_service_free(*service);
     return -1;

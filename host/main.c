@@ -23,7 +23,10 @@
 
 #define MOST_WORKERS 64
 
-static struct settings settings = {.max_udp = 1232, .workers = 1, .rate_slip = 2, .tcp_idle = 10, .tcp_most = 1000, .tcp_client = 100};
+static const struct settings defaults = {.max_udp = 1232, .workers = 1, .rate_slip = 2, .tcp_idle = 10, .tcp_most = 1000, .tcp_client = 100};
+struct settings settings;
+static char **arguments, rooms[2][1 << 20]; /* what a configuration file says is in one; what one before it said, in the other */
+static int room;
 static struct sockets sockets[MOST_WORKERS];
 static pid_t workers[MOST_WORKERS];
 static time_t begun[MOST_WORKERS];
@@ -58,10 +61,10 @@ static void notify(const char *text)
     }
 }
 
-static void usage(void)
+static int usage(void)
 {
     complain("wrong arguments; zoned --help says how it is started");
-    exit(2);
+    return -1;
 }
 
 /* Options, each with one of these behind it: a number, a text, or one of several texts. */
@@ -71,41 +74,39 @@ static const struct option {
     const char **word;
     struct texts *list;
     int least, most; /* numbers; or how many texts at most */
-} options[] = {{"--listen", "ADDRESS[@PORT], over UDP and TCP; port 53", .list = &settings.addresses, .most = MOST_ADDRESSES},
-               {"--zone", "NAME=FILE: the zone at NAME, from a zone file", .list = &settings.zones, .most = MOST_TEXTS},
-               {"--allow", "NET that may ask", .list = &settings.networks[0], .most = MOST_TEXTS},
-               {"--deny", "NET that may not", .list = &settings.networks[1], .most = MOST_TEXTS},
-               {"--allow-transfer", "NET that may have zones transferred", .list = &settings.networks[2], .most = MOST_TEXTS},
-               {"--deny-transfer", "NET that may not", .list = &settings.networks[3], .most = MOST_TEXTS},
-               {"--blocklist", "FILE of names that are blocked, a line each", .word = &settings.blocklist},
-               {"--nsid", "TEXT that identifies this server", .word = &settings.identifier},
-               {"--statistics", "PATH of a Unix socket where it tells what it has done", .word = &settings.statistics},
-               {"--user", "NAME of the user that it becomes once its sockets are open", .word = &settings.user},
-               {"--max-udp", "bytes of a reply over UDP at most", &settings.max_udp, .least = 512, .most = 65535},
-               {"--rate-limit", "replies over UDP a second to a network of clients, 0 for all", &settings.rate_limit, .most = 1000000},
-               {"--rate-slip", "of those above it each so many says TC, 0 for none", &settings.rate_slip, .most = 1000},
-               {"--workers", "processes that serve", &settings.workers, .least = 1, .most = MOST_WORKERS},
-               {"--tcp-idle", "seconds until a connection that does not get on is closed", &settings.tcp_idle, .least = 1, .most = 3600},
-               {"--tcp-most", "connections of a worker", &settings.tcp_most, .least = 1, .most = 100000},
-               {"--tcp-client", "connections of a client and worker", &settings.tcp_client, .least = 1, .most = 100000},
+} options[] = {{"listen", "ADDRESS[@PORT], over UDP and TCP; port 53", .list = &settings.addresses, .most = MOST_ADDRESSES},
+               {"zone", "NAME=FILE: the zone at NAME, from a zone file", .list = &settings.zones, .most = MOST_TEXTS},
+               {"allow", "NET that may ask", .list = &settings.networks[0], .most = MOST_TEXTS},
+               {"deny", "NET that may not", .list = &settings.networks[1], .most = MOST_TEXTS},
+               {"allow-transfer", "NET that may have zones transferred", .list = &settings.networks[2], .most = MOST_TEXTS},
+               {"deny-transfer", "NET that may not", .list = &settings.networks[3], .most = MOST_TEXTS},
+               {"blocklist", "FILE of names that are blocked, a line each", .word = &settings.blocklist},
+               {"nsid", "TEXT that identifies this server", .word = &settings.identifier},
+               {"statistics", "PATH of a Unix socket where it tells what it has done", .word = &settings.statistics},
+               {"user", "NAME of the user that it becomes once its sockets are open", .word = &settings.user},
+               {"max-udp", "bytes of a reply over UDP at most", &settings.max_udp, .least = 512, .most = 65535},
+               {"rate-limit", "replies over UDP a second to a network of clients, 0 for all", &settings.rate_limit, .most = 1000000},
+               {"rate-slip", "of those above it each so many says TC, 0 for none", &settings.rate_slip, .most = 1000},
+               {"workers", "processes that serve", &settings.workers, .least = 1, .most = MOST_WORKERS},
+               {"tcp-idle", "seconds until a connection that does not get on is closed", &settings.tcp_idle, .least = 1, .most = 3600},
+               {"tcp-most", "connections of a worker", &settings.tcp_most, .least = 1, .most = 100000},
+               {"tcp-client", "connections of a client and worker", &settings.tcp_client, .least = 1, .most = 100000},
                {NULL}};
 
 static void help(void)
 {
     puts("zoned --listen ADDRESS[@PORT].. --zone NAME=FILE.. [OPTION]..\n"
+         "  --config FILE     of settings in TOML, as if these options stood here: option = value\n"
          "  --check           read the files, tell what is wrong with them, and end\n  --version, --help");
-    for (const struct option *o = options; o->name != NULL; o++) {
-        printf("  %-17s %s", o->name, o->says);
-        if (o->list != NULL)
-            printf("; up to %d times", o->most);
+    for (const struct option *o = options; o->name != NULL; o++)
         if (o->number != NULL)
-            printf(": %d to %d; %d", o->least, o->most, *o->number);
-        puts("");
-    }
+            printf("  --%-15s %s: %d to %d; %d\n", o->name, o->says, o->least, o->most, *o->number);
+        else
+            printf(o->list == NULL ? "  --%-15s %s\n" : "  --%-15s %s; up to %d times\n", o->name, o->says, o->most);
     exit(0);
 }
 
-static void put_option(const char *name, const char *text)
+static int put_option(const char *name, const char *text)
 {
     const struct option *o = options;
     while (o->name != NULL && strcmp(name, o->name) != 0)
@@ -115,7 +116,7 @@ static void put_option(const char *name, const char *text)
         long n = strtol(text, &rest, 10);
         if (rest == text || *rest != 0 || n < o->least || n > o->most) {
             complain("%s: not a number from %d to %d", text, o->least, o->most);
-            exit(2);
+            return -1;
         }
         *o->number = (int)n;
     } else if (o->word != NULL) {
@@ -123,28 +124,54 @@ static void put_option(const char *name, const char *text)
     } else if (o->list != NULL && o->list->count < o->most) {
         o->list->at[o->list->count++] = text;
     } else {
-        usage();
+        return usage();
     }
+    return 0;
 }
 
-/* Reads the arguments. Whether the files are only to be read. */
-static int read_arguments(int argc, char **argv)
+/* Takes the settings of a configuration file, which the library reads. */
+static int read_config(const char *path)
 {
-    int check = 0;
-    for (int i = 1; i < argc; i++)
-        if (strcmp(argv[i], "--help") == 0 || strcmp(argv[i], "-h") == 0)
+    static uint8_t names[512], why[256];
+    size_t len, names_len = 0, written, why_len;
+    uint8_t *text = read_file(path, &len);
+    char *at = rooms[room = !room], *end, *value;
+    if (text == NULL)
+        return -1;
+    for (const struct option *o = options; o->name != NULL; o++)
+        names_len += strlen(strcpy((char *)names + names_len, o->name)) + 1;
+    int wrong = zone_service_read_settings(names, names_len, text, len, (uint8_t *)at, sizeof rooms[0], &written, why, sizeof why, &why_len) != 0;
+    free(text);
+    if (wrong)
+        complain("%s: %.*s", path, (int)why_len, (const char *)why);
+    for (end = at + written; !wrong && at < end; at = value + strlen(value) + 1) {
+        value = at + strlen(at) + 1;
+        wrong = put_option(at, value);
+    }
+    return wrong;
+}
+
+/* Reads the arguments. Whether the files are only to be read; less than 0 where they are wrong. */
+static int read_arguments(void)
+{
+    int check = 0, wrong = 0;
+    settings = defaults;
+    for (char **a = arguments + 1; *a != NULL && !wrong; a++)
+        if (strcmp(*a, "--help") == 0 || strcmp(*a, "-h") == 0)
             help();
-        else if (strcmp(argv[i], "--version") == 0)
+        else if (strcmp(*a, "--version") == 0)
             exit(puts("zoned " ZONED_VERSION) < 0);
-        else if (strcmp(argv[i], "--check") == 0)
+        else if (strcmp(*a, "--check") == 0)
             check = 1;
-        else if (i + 1 == argc)
-            usage();
+        else if (a[1] == NULL || strncmp(*a, "--", 2) != 0)
+            wrong = usage();
+        else if (strcmp(*a, "--config") == 0)
+            wrong = read_config(*++a);
         else
-            put_option(argv[i], argv[i + 1]), i++;
-    if ((settings.addresses.count == 0 && !check) || settings.zones.count == 0)
-        usage();
-    return check;
+            wrong = put_option(*a + 2, a[1]), a++;
+    if (!wrong && ((settings.addresses.count == 0 && !check) || settings.zones.count == 0))
+        wrong = usage();
+    return wrong ? -1 : check;
 }
 
 static int let_privileges_go(void)
@@ -167,7 +194,7 @@ static void begin(int worker)
         for (int i = 0; i < settings.workers; i++)
             for (int j = 0; i != worker && j < sockets[i].count; j++)
                 close(sockets[i].fds[j]);
-        _exit(getppid() == parent ? work(&settings, &sockets[worker], statistics, &service) : 0);
+        _exit(getppid() == parent ? work(&sockets[worker], statistics, &service) : 0);
     }
     if (child < 0)
         complain("cannot begin a worker: %s", strerror(errno));
@@ -178,8 +205,10 @@ static void begin(int worker)
 static void reload(void)
 {
     zone_service fresh;
+    struct settings before = settings;
     notify("RELOADING=1\n");
-    if (load(&settings, &fresh) == 0) {
+    if (read_arguments() == 0 && load(&fresh) == 0) {
+        settings.workers = before.workers;
         zone_service_free(service);
         service = fresh;
         for (int i = 0; i < settings.workers; i++) {
@@ -188,6 +217,9 @@ static void reload(void)
             if (old > 0)
                 kill(old, SIGTERM);
         }
+    } else {
+        settings = before;
+        room = !room;
     }
     notify("READY=1\n");
 }
@@ -205,7 +237,7 @@ static void replace_ended(void)
             }
 }
 
-int main(int argc, char **argv)
+int main(int count __attribute__((unused)), char **argv)
 {
     static const int awaited[] = {SIGHUP, SIGTERM, SIGINT, SIGCHLD};
     sigset_t signals;
@@ -213,13 +245,15 @@ int main(int argc, char **argv)
     for (size_t i = 0; i < sizeof awaited / sizeof awaited[0]; i++)
         sigaddset(&signals, awaited[i]);
     sigprocmask(SIG_BLOCK, &signals, NULL);
-    if (read_arguments(argc, argv))
-        return load(&settings, &service) == 0 ? 0 : 1;
+    arguments = argv;
+    int check = read_arguments();
+    if (check != 0)
+        return check < 0 ? 2 : load(&service) != 0;
     for (int i = 0; i < settings.workers; i++)
-        if (open_sockets(&settings, &sockets[i]) != 0)
+        if (open_sockets(&sockets[i]) != 0)
             return 1;
     /* The files are read without privileges, as they will be at a reload. */
-    if (let_privileges_go() != 0 || load(&settings, &service) != 0)
+    if (let_privileges_go() != 0 || load(&service) != 0)
         return 1;
     if (settings.statistics != NULL && (statistics = statistics_begin(settings.statistics)) < 0)
         return 1;

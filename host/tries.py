@@ -452,6 +452,54 @@ def try_arguments(zone, bad):
     want("a wrong network is told", status(["--check", "--zone", f"example.com={zone}", "--allow", "1.2.3"]) == 1)
 
 
+def told(words):
+    """The status of a call that ends, and what it says on its standard error."""
+    ran = subprocess.run([ZONED, *words], stdout=subprocess.DEVNULL, stderr=subprocess.PIPE, text=True)
+    return ran.returncode, ran.stderr
+
+
+def try_configuration(folder, zone, port):
+    """Settings from a file in TOML, its faults, and a reload that reads it anew."""
+    path = os.path.join(folder, "zoned.toml")
+    good = f'listen = ["127.0.0.1@{port}"]\nworkers = 2\ndeny = "127.0.0.9"\n[zone]\n"example.com" = "{zone}"\n'
+
+    def write(text):
+        with open(path, "w") as it:
+            it.write(text)
+
+    write(good)
+    want("--check takes a good configuration", told(["--config", path, "--check"])[0] == 0)
+    faults = {
+        "a name of no option, with its line": ("workers = 1\nworker = 2\n" + good[good.index("[") :], "zoned.toml: line 2: there is no option \"worker\""),
+        "a value of no kind, with its line": ("workers = 1\n\nmax-udp = 1.5\n", "zoned.toml: line 3: \"max-udp\" wants"),
+        "a name without quotes in a table": ("[zone]\na.example = 'x'\n", "zoned.toml: line 2: \"zone\" wants"),
+        "what is no TOML": ("workers = 1\nlisten = [\n", "line"),
+        "a number that is too large": ("workers = 65\n", "65: not a number from 1 to 64"),
+        "a byte that no string of C has": ('nsid = "a\\u0000b"\n', "zero byte"),
+    }
+    for what, (text, says) in faults.items():
+        write(text)
+        code, says_it = told(["--config", path, "--check"])
+        want(f"a fault of a configuration is told: {what}", code == 2 and says in says_it)
+    want("a configuration that is not there is told", told(["--config", path + "x", "--check"]) == (2, f"zoned: {path}x: cannot be read\n"))
+    write(good)
+    with subprocess.Popen([ZONED, "--config", path, "--nsid", "here"], stderr=subprocess.PIPE, text=True) as host:
+        want("it is ready by its configuration", wait_for(port) and len(children(host.pid)) == 2)
+        want("a network of the configuration may not ask", udp(query("www.example.com"), 0.5, port, "127.0.0.9") is None)
+        write(good + f'"example.org" = "{zone}"\n')
+        host.send_signal(signal.SIGHUP)
+        time.sleep(0.7)
+        want("a reload serves a zone more of the configuration", answers(udp(query("www.example.org"), 2, port)) == 1)
+        for _ in range(2):
+            write("no-option = 1\n" + good)
+            host.send_signal(signal.SIGHUP)
+            time.sleep(0.7)
+        want("a configuration with a fault is not taken, and the old one goes on", answers(udp(query("www.example.org"), 2, port)) == 1)
+        host.send_signal(signal.SIGTERM)
+        said = host.communicate(timeout=10)[1]
+        want("what was wrong is told, and it ends", host.returncode == 0 and said.count("there is no option") == 2)
+
+
 def main():
     folder = tempfile.mkdtemp()
     os.chmod(folder, 0o755)
@@ -489,6 +537,7 @@ def main():
     want("the second ends", other.returncode == 0)
     open(zone, "w").write(SOA_AND_NS + WWW % 1)
     try_joined(folder, PORT + 2)
+    try_configuration(folder, zone, PORT + 2)
     try_limits(zone, PORT + 2, path)
     try_workers(zone, PORT + 2, path)
     try_privileges(zone, PORT + 2)

@@ -82,6 +82,13 @@ uint32_t zone_service_set_max_udp(zone_service *service, uint16_t size, uint8_t 
 uint32_t zone_service_set_rate_limit(zone_service *service, uint32_t rate, uint32_t slip, uint8_t *fault, size_t room, size_t *length);
 uint32_t zone_service_set_identifier(zone_service *service, const uint8_t *text, size_t len, uint8_t *fault, size_t room, size_t *length);
 
+/* Reads a configuration file in TOML 1.1, of which a host makes what it likes: puts its settings to the front of out, the name and the value of each with a zero
+ * behind both, in the order of their names; *written is how many bytes they are. A text is one value, a whole number that is not negative its digits, an
+ * array one value for each item, and a table one, KEY=VALUE, for each member. names are the options that there are, each with a zero behind it. DONE; or FAULT
+ * or MEMORY, and a text in fault, as above: with the line where the file is no TOML, has a name of no option, or a value of another kind; or where out has no room. */
+uint32_t zone_service_read_settings(const uint8_t *names, size_t names_len, const uint8_t *text, size_t len, uint8_t *out, size_t room, size_t *written,
+                                    uint8_t *fault, size_t fault_room, size_t *length);
+
 /* Answers a message that came from an address (4 or 16 bytes, the first one highest) and port, over a stream or as a datagram, at a moment
  * in seconds since 1970. DONE where it has replies: they are written to the front of out, each behind its length in two bytes (RFC 1035
  * section 4.2.2), as many as there is room for; *written is how many bytes they take, and *waiting how many replies are left for

@@ -7,6 +7,7 @@ ghost use Rattle.name_lists.specs.Counts.{Counts};
 ghost use Rattle.served_zones.specs.ServedZones.{AreJoined, IsLoadedAs};
 ghost use Rattle.served_zones.specs.declared.parents.Loaded.{Loaded};
 ghost use Rattle.server_counters.specs.Exposition.{exposition_of};
+ghost use Rattle.server_settings.specs.Settings.{IsConfiguration};
 ghost use Rattle.zone_service.specs.Counted.{AnswerCounted, AreCounted, StreamCounted, one_counted};
 ghost use Rattle.zone_service.specs.Exports.{AnswerTold, StreamTold, transport_of};
 ghost use Rattle.zone_service.specs.Frames.{ArePut};
@@ -25,6 +26,7 @@ use hickory_server::zone_handler::{ReplySigner, ZoneHandler};
 use name_lists::ListReport;
 use served_zones::handler::Handler;
 use server_counters::{Counters, exposition};
+use server_settings::configuration::{ConfigurationFault, configuration};
 use std::alloc::{AllocError, Global};
 
 /// A setting is not taken.
@@ -94,6 +96,38 @@ fn told_of_list(
     };
     *count = put_text(fault, text.as_bytes());
     DONE
+}
+
+/// Puts a text that says why something is not taken, as far as there is room.
+fn tell_fault(text: &str, fault: &mut [u8], count: &mut usize) -> u32
+    ensures told { result ≡ 7 }
+    ensures count { count.new ≤ length fault.new }
+{
+    *count = put_text(fault, text.as_bytes());
+    FAULT
+}
+
+/// Tells why a configuration file is not taken.
+fn told_of_configuration(
+    alloc: Global,
+    why: ConfigurationFault,
+    fault: &mut [u8],
+    count: &mut usize,
+) -> u32
+    ensures told { (result ≡ 0) → ⊥ }
+    ensures count { count.new ≤ length fault.new }
+{
+    *count = 0;
+    let is_memory = why.is_memory();
+    let text = format!(in alloc; "{why}");
+    drop(why);
+    match text {
+        Ok(text) => {
+            let number = tell_fault(text.as_str(), fault, count);
+            if is_memory { MEMORY } else { number }
+        }
+        Err(_) => MEMORY,
+    }
 }
 
 /// Makes a server in a box.
@@ -430,4 +464,34 @@ pub extern "C" fn zone_service_statistics(
     };
     *count = put_text(out, text.as_bytes());
     DONE
+}
+
+/// Reads a configuration file in TOML: puts its settings, the name and the value of each with the byte 0 behind both, and how many bytes they are. `names` are
+/// the options that there are, each with the byte 0 behind it.
+#[unsafe(no_mangle)]
+pub extern "C" fn zone_service_read_settings(
+    alloc: Global,
+    names: &[u8],
+    text: &[u8],
+    out: &mut [u8],
+    written: &mut usize,
+    fault: &mut [u8],
+    count: &mut usize,
+) -> u32
+    ensures settings { result ≡ 0 → IsConfiguration names.now text.now (take written.new out.new) }
+    ensures within { written.new ≤ length out.new }
+    ensures count { count.new ≤ length fault.new }
+{
+    *count = 0;
+    *written = 0;
+    match configuration(alloc, names, text) {
+        Ok(settings) => {
+            if settings.len() > out.len() {
+                return tell_fault("more settings than there is room for", fault, count);
+            }
+            *written = put_text(out, settings.as_slice());
+            DONE
+        }
+        Err(why) => told_of_configuration(alloc, why, fault, count),
+    }
 }
