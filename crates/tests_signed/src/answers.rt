@@ -38,6 +38,20 @@ fn serve(alloc: Global, server: &mut Signing, message: &Message) -> Result<Answe
     )?)
 }
 
+/// Puts what became of a message behind a text, and a point behind that.
+fn put_served(
+    alloc: Global,
+    served: Result<Answer, Fault>,
+    text: &mut String,
+) -> Result<(), Fault> {
+    let answer = served?;
+    let put = put_answer(alloc, &answer, text);
+    drop(answer);
+    put?;
+    text.push_str(".\n")?;
+    Ok(())
+}
+
 /// Serves the message of a line, and puts what becomes of it behind a text, and a point behind that. A comment is put there as it is.
 pub fn serve_line(
     alloc: Global,
@@ -50,8 +64,7 @@ pub fn serve_line(
         return Ok(());
     }
     let message = read_line(alloc, line)?;
-    let answer = serve(alloc, server, &message)?;
-    put_answer(alloc, &answer, text)?;
-    text.push_str(".\n")?;
-    Ok(())
+    let answer = serve(alloc, server, &message);
+    drop(message);
+    put_served(alloc, answer, text)
 }

@@ -39,19 +39,29 @@ fn answer<R: Print + Alloc<A = Global>>(
 }
 
 /// Serves the lines of the standard input, each before the next is read.
-fn serve<R: Print + Input + Alloc<A = Global>>(rt: &R) -> Result<(), Fault> {
-    let mut server = served(rt.alloc())?;
+fn serve_lines<R: Print + Input + Alloc<A = Global>>(
+    rt: &R,
+    server: &mut Signing,
+) -> Result<(), Fault> {
     let reader = match BufReader::new(rt.alloc(), rt.reader()) {
         Ok(reader) => reader,
         Err(e) => return Err(fault_of(&e)),
     };
     for line in reader.lines(rt.alloc()) {
         match line {
-            Ok(line) => answer(rt, &mut server, &line)?,
+            Ok(line) => answer(rt, server, &line)?,
             Err(e) => return Err(fault_of(&e)),
         }
     }
     Ok(())
+}
+
+/// The same by a server of its own.
+fn serve<R: Print + Input + Alloc<A = Global>>(rt: &R) -> Result<(), Fault> {
+    let mut server = served(rt.alloc())?;
+    let told = serve_lines(rt, &mut server);
+    drop(server);
+    told
 }
 
 /// Tells a fault, and gives the status.

@@ -1,7 +1,7 @@
 //! The zones of the server.
 
 use crate::fault::Fault;
-use hickory_server::access::AccessControl;
+use hickory_server::access::{AccessControl, IpNet};
 use hickory_server::proto::{LowerName, Name, NameError};
 use hickory_server::server::{Rules, Server};
 use hickory_server::store::file::{ZoneError, read_zone};
@@ -37,8 +37,14 @@ hmac-sha512:k512.example:MDEyMzQ1Njc4OWFiY2RlZjAxMjM0NTY3ODlhYmNkZWY=
 hmac-sha256-128:k128.example:MDEyMzQ1Njc4OWFiY2RlZjAxMjM0NTY3ODlhYmNkZWY=
 ";
 
+/// A zone that takes updates under keys.
+type Updatable = SqliteZoneHandler<TsigVerifier>;
+
+/// The zones of the server.
+type Zones = Catalog<LeftToServer, Updatable>;
+
 /// The server.
-pub type Signing = SignedServer<LeftToServer, SqliteZoneHandler<TsigVerifier>>;
+pub type Signing = SignedServer<LeftToServer, Updatable>;
 
 /// A name.
 fn name(alloc: Global, text: &str) -> Result<Name, Fault> {
@@ -58,32 +64,59 @@ fn zone(alloc: Global, text: &str, apex: &Name) -> Result<InMemoryZoneHandler, F
     }
 }
 
-/// Puts a zone into a catalog.
-fn put(
-    alloc: Global,
-    catalog: &mut Catalog<LeftToServer, SqliteZoneHandler<TsigVerifier>>,
-    apex: &Name,
-    zone: SqliteZoneHandler<TsigVerifier>,
-) -> Result<(), Fault> {
+/// The handlers of a zone.
+fn chain(alloc: Global, zone: Updatable) -> Result<Vec<Updatable>, Fault> {
     let mut chain = Vec::new(alloc);
     chain.push(zone)?;
-    match catalog.upsert(LowerName::new(alloc, apex)?, chain) {
-        Ok(_) => Ok(()),
-        Err(_) => Err(Fault::Memory),
+    Ok(chain)
+}
+
+/// The addresses of one network more.
+fn network(text: &str) -> Result<IpNet, Fault> {
+    Ok(text.parse()?)
+}
+
+/// The access list without 10.0.0.0/8.
+fn access(alloc: Global) -> Result<AccessControl, Fault> {
+    let denied = network("10.0.0.0/8")?;
+    let mut access = AccessControl::new(alloc);
+    let put = access.insert_deny(&[denied]);
+    match put {
+        Ok(()) => Ok(access),
+        Err(_) => {
+            drop(access);
+            Err(Fault::Memory)
+        }
+    }
+}
+
+/// The access list of 192.0.2.0/24 alone.
+fn transfers(alloc: Global) -> Result<AccessControl, Fault> {
+    let allowed = network("192.0.2.0/24")?;
+    let mut transfers = AccessControl::new(alloc);
+    match transfers.insert_allow(&[allowed]) {
+        Ok(()) => Ok(transfers),
+        Err(_) => {
+            drop(transfers);
+            Err(Fault::Memory)
+        }
     }
 }
 
 /// The rules of the server: 10.0.0.0/8 may not use it, 192.0.2.0/24 alone may have transfers, and a reply over UDP has at most 600 bytes.
 fn rules(alloc: Global) -> Result<Rules, Fault> {
-    let mut access = AccessControl::new(alloc);
-    access.insert_deny(&["10.0.0.0/8".parse()?])?;
-    let mut transfers = AccessControl::new(alloc);
-    transfers.insert_allow(&["192.0.2.0/24".parse()?])?;
-    Ok(Rules {
-        access,
-        transfers,
-        max_udp: 600,
-    })
+    let access = access(alloc)?;
+    match transfers(alloc) {
+        Ok(transfers) => Ok(Rules {
+            access,
+            transfers,
+            max_udp: 600,
+        }),
+        Err(e) => {
+            drop(access);
+            Err(e)
+        }
+    }
 }
 
 /// The keys of the server.
@@ -95,14 +128,63 @@ fn keys(alloc: Global) -> Result<Keys, Fault> {
     }
 }
 
+/// The zone at this name, which takes updates under the keys.
+fn updatable(alloc: Global, apex: &Name) -> Result<Updatable, Fault> {
+    let verifier = TsigVerifier { keys: keys(alloc)? };
+    match zone(alloc, ZONE, apex) {
+        Ok(zone) => Ok(SqliteZoneHandler::new(zone, AxfrPolicy::AllowAll, true, verifier)),
+        Err(e) => {
+            drop(verifier);
+            Err(e)
+        }
+    }
+}
+
+/// Puts the zone at this name into a catalog.
+fn put(alloc: Global, catalog: &mut Zones, apex: &Name) -> Result<(), Fault> {
+    let at = LowerName::new(alloc, apex)?;
+    let chain = chain(alloc, updatable(alloc, apex)?)?;
+    match catalog.upsert(at, chain) {
+        Ok(_) => Ok(()),
+        Err(_) => Err(Fault::Memory),
+    }
+}
+
+/// The zones of the server.
+fn zones(alloc: Global) -> Result<Zones, Fault> {
+    let apex = name(alloc, "example.com.")?;
+    let mut catalog = Catalog::new(alloc, LeftToServer);
+    let put = put(alloc, &mut catalog, &apex);
+    drop(apex);
+    match put {
+        Ok(()) => Ok(catalog),
+        Err(e) => {
+            drop(catalog);
+            Err(e)
+        }
+    }
+}
+
+/// The server without keys.
+fn plain(alloc: Global) -> Result<Server<LeftToServer, Updatable>, Fault> {
+    let rules = rules(alloc)?;
+    match zones(alloc) {
+        Ok(zones) => Ok(Server::new(alloc, rules, zones)?),
+        Err(e) => {
+            drop(rules);
+            Err(e)
+        }
+    }
+}
+
 /// A server of `example.com`, which takes updates under its keys.
 pub fn served(alloc: Global) -> Result<Signing, Fault> {
-    let apex = name(alloc, "example.com.")?;
-    let zone = zone(alloc, ZONE, &apex)?;
-    let verifier = TsigVerifier { keys: keys(alloc)? };
-    let updatable = SqliteZoneHandler::new(zone, AxfrPolicy::AllowAll, true, verifier);
-    let mut catalog = Catalog::new(alloc, LeftToServer);
-    put(alloc, &mut catalog, &apex, updatable)?;
-    let server = Server::new(alloc, rules(alloc)?, catalog)?;
-    Ok(SignedServer::new(alloc, server, keys(alloc)?)?)
+    let keys = keys(alloc)?;
+    match plain(alloc) {
+        Ok(server) => Ok(SignedServer::new(alloc, server, keys)?),
+        Err(e) => {
+            drop(keys);
+            Err(e)
+        }
+    }
 }
