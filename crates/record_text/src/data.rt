@@ -3,10 +3,14 @@
 mod field;
 mod fields;
 mod forms;
+mod gateway;
 mod hashes;
 mod hex_groups;
+mod host_identity;
 mod mnemonics;
 mod moment;
+mod nsap;
+mod ports;
 pub(crate) mod rest;
 pub(crate) mod table;
 mod types;

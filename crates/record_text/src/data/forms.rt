@@ -107,7 +107,7 @@ fn as_bytes(
     };
     let mut bytes = Vec::new(alloc);
     let behind = put_fields(alloc, row.fields, words, end, origin, &mut bytes)?;
-    put_rest(alloc, row.rest, behind, end, &mut bytes)?;
+    put_rest(alloc, row.rest, behind, end, origin, &mut bytes)?;
     Ok(RData::Unknown {
         code: record_type,
         bytes: Octets::from_vec(bytes),
