@@ -10,6 +10,7 @@ pub mod NoMoment
 pub mod NoRow
 pub mod OneLength
 pub mod PortsOnce
+pub mod PrefixesOnce
 pub mod RowSteps
 pub mod SameWords
 pub mod TypesOnce

@@ -19,7 +19,9 @@ use Rattle.record_text.specs.RecordText.AreFields.{none as no_fields, more as on
 use Rattle.record_text.specs.RecordText.AreStrings.{none as no_words, more as one_string}
 use Rattle.record_text.specs.RecordText.AreTypes.{none as no_names, more as one_type}
 use Rattle.record_text.specs.RecordText.IsData.{in_form}
-use Rattle.record_text.specs.RecordText.IsRest.{nothing, strings, hex, base64, types, service, ports, gateway, host}
+use Rattle.record_text.specs.RecordText.IsRest.{nothing, strings, hex, base64, types, service, ports, prefixes, gateway, host}
+use Rattle.record_text.specs.Prefixes.{ArePrefixes, SpellsPrefix}
+use Rattle.record_text.specs.Prefixes.ArePrefixes.{none as no_prefixes_here, more as one_prefix}
 use Rattle.record_text.specs.TypeTable.{TypeRow, row_of}
 
 pub fields_len : {origin : Option DomainName} {fields : List Field} {words : List Word} {octets : List ℕ} → AreFields origin fields words octets → length words ≡ length fields
@@ -125,6 +127,9 @@ no_service origin words none octets (service is) = none octets is
 pub no_ports : (origin : Option DomainName) (words : List Word) → HasNone (ArePortBits words) → HasNone (IsRest origin kind.Services words)
 no_ports origin words none octets (ports is) = none octets is
 
+pub no_prefixes : (origin : Option DomainName) (words : List Word) → HasNone (ArePrefixes words) → HasNone (IsRest origin kind.Prefixes words)
+no_prefixes origin words none octets (prefixes is) = none octets is
+
 pub no_gateway : (origin : Option DomainName) (words : List Word) → HasNone (IsGateway origin words) → HasNone (IsRest origin kind.Gateway words)
 no_gateway origin words none octets (gateway is) = none octets is
 
@@ -137,6 +142,7 @@ not_generic (base64 is) e = absurd (cc)
 not_generic (types is) e = absurd (cc)
 not_generic (service is) e = absurd (cc)
 not_generic (ports is) e = absurd (cc)
+not_generic (prefixes is) e = absurd (cc)
 not_generic (gateway is) e = absurd (cc)
 not_generic (host is) e = absurd (cc)
 
@@ -172,6 +178,20 @@ pub no_port_at : (words : List Word) (i : ℕ) (d : Word) → i < length words �
 no_port_at words i d below none numbers are =
     let at : (n : ℕ) × ((get_or words i d).quoted ≡ false) × SpellsPort (get_or words i d).bytes.now n = port_at are i d below in
     none at.0 (at.1, at.2)
+
+pub prefix_at : {words : List Word} {octets : List ℕ} → ArePrefixes words octets → (i : ℕ) (d : Word) → i < length words → (own : List ℕ) × ((get_or words i d).quoted ≡ false) × SpellsPrefix (get_or words i d).bytes.now own
+prefix_at no_prefixes_here i d below = absurd (omega arith)
+prefix_at (one_prefix {words = ws} {own = own} w before plain is) i d below = elim (cases_lt i (length ws)) [
+  | inl h ↦
+      let at : (o : List ℕ) × ((get_or ws i d).quoted ≡ false) × SpellsPrefix (get_or ws i d).bytes.now o = prefix_at before i d h in
+      subst (λ (x : Word). (o : List ℕ) × (x.quoted ≡ false) × SpellsPrefix x.bytes.now o) (sym (get_or_append_left ws (w ∷ []) d i h)) at
+  | inr h ↦ subst (λ (x : Word). (o : List ℕ) × (x.quoted ≡ false) × SpellsPrefix x.bytes.now o) (sym (get_or_push ws w d i (omega (arith, length_push ws w, below, h)))) (own, plain, is)
+]
+
+pub no_prefix_at : (words : List Word) (i : ℕ) (d : Word) → i < length words → ((get_or words i d).quoted ≡ false → HasNone (SpellsPrefix (get_or words i d).bytes.now)) → HasNone (ArePrefixes words)
+no_prefix_at words i d below none octets are =
+    let at : (o : List ℕ) × ((get_or words i d).quoted ≡ false) × SpellsPrefix (get_or words i d).bytes.now o = prefix_at are i d below in
+    none at.1 at.0 at.2
 
 -- words of which one stands for nothing of its field
 pub no_field : (origin : Option DomainName) (number : ℕ) (row : TypeRow) (words : List Word) (i : ℕ) (e : Field) (d : Word) → row_of number ≡ Some row → i < length row.fields → HasNone (IsField origin (get_or row.fields i e) (get_or words i d))

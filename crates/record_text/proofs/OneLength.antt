@@ -25,12 +25,15 @@ use Rattle.record_text.specs.RecordText.{AreFields, AreNames, ArePorts, AreStrin
 use Rattle.record_text.specs.RecordText.AreNames.{none as no_servers, more as one_server}
 use Rattle.record_text.specs.RecordText.ArePorts.{none as no_ports, more as one_port}
 use Rattle.record_text.proofs.PortsOnce.{port_once}
+use Rattle.record_text.proofs.PrefixesOnce.{prefix_once}
 use Rattle.record_text.specs.RecordText.IsField.{number8, number16, number32, named8, unnamed8, named16, unnamed16, time, name, string, text, ipv4, ipv6, type, moment, no_salt, salt, hash, eui48, eui64, locator64, no_gateway, nsap}
 use Rattle.record_text.specs.RecordText.AreFields.{none as no_fields, more as one_field}
 use Rattle.record_text.specs.RecordText.AreStrings.{none as no_words, more as one_string}
 use Rattle.record_text.specs.RecordText.AreTypes.{none as no_names, more as one_type}
 use Rattle.record_text.specs.RecordText.IsData.{in_form}
-use Rattle.record_text.specs.RecordText.IsRest.{nothing, strings, hex, base64, types, service, ports, gateway, host}
+use Rattle.record_text.specs.RecordText.IsRest.{nothing, strings, hex, base64, types, service, ports, prefixes, gateway, host}
+use Rattle.record_text.specs.Prefixes.{ArePrefixes, SpellsPrefix}
+use Rattle.record_text.specs.Prefixes.ArePrefixes.{none as no_prefixes, more as one_prefix}
 use Rattle.record_text.specs.TypeBitmaps.{bitmap, bitmap_len, windows}
 use Rattle.record_text.specs.TypeTable.{TypeRow}
 use Rattle.record_text.proofs.Digits.{group_octets}
@@ -165,6 +168,16 @@ module _ (bytes_once : BytesSpelledOnce) (strings_once : StringsSpelledOnce) (na
       let last : n ≡ m = port_once w.bytes.now n m is (subst (λ (v : Word). SpellsPort v.bytes.now m) (sym same.1) is') in
       rw (front, last) refl
 
+  prefixes_one : {words ws : List Word} {a b : List ℕ} → ArePrefixes words a → ArePrefixes ws b → words ≡ ws → a ≡ b
+  prefixes_one no_prefixes no_prefixes e = refl
+  prefixes_one no_prefixes (one_prefix {words = ws} w before plain is) e = absurd (no_push ws w e)
+  prefixes_one (one_prefix {words = ws} w before plain is) no_prefixes e = absurd (no_push ws w (sym e))
+  prefixes_one (one_prefix {words = ws} {octets = a} {own = x} w before plain is) (one_prefix {words = ws'} {octets = b} {own = y} w' before' plain' is') e =
+      let same = same_from_push ws ws' w w' e in
+      let front : a ≡ b = prefixes_one before before' same.0 in
+      let last : x ≡ y = prefix_once w.bytes.now x y is (subst (λ (v : Word). SpellsPrefix v.bytes.now y) (sym same.1) is') in
+      rw (front, last) refl
+
   base64_len : (base64_once : Base64Once) (words : List Word) (a b : List ℕ) → IsBase64 words a → IsBase64 words b → a ≡ b
   base64_len base64_once words a b one two = base64_once a b one.bytes two.bytes (sym one.encoded ∙ two.encoded)
 
@@ -194,6 +207,7 @@ module _ (bytes_once : BytesSpelledOnce) (strings_once : StringsSpelledOnce) (na
   rest_len base64_once origin rest words a b (types is) (types is') = ap length (is.written ∙ ap (λ (ts : List ℕ). windows ts 256) (types_one is.spelled is'.spelled refl) ∙ sym is'.written)
   rest_len base64_once origin rest words a b (service is) (service is') = ap length (service_once words a b is is')
   rest_len base64_once origin rest words a b (ports is) (ports is') = ap length (is.written ∙ ap (λ (ps : List ℕ). bitmap ps 0 (bitmap_len ps)) (ports_one is.spelled is'.spelled refl) ∙ sym is'.written)
+  rest_len base64_once origin rest words a b (prefixes is) (prefixes is') = ap length (prefixes_one is is' refl)
   rest_len base64_once origin rest words a b (gateway is) (gateway is') = gateway_len base64_once origin words a b is is'
   rest_len base64_once origin rest words a b (host {first = f} {second = g} {third = h} {servers = ws} is) (host is') = identity_len base64_once origin f g h ws a b is is'
 

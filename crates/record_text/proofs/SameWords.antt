@@ -21,8 +21,10 @@ use Rattle.record_text.specs.RecordText.AreFields.{none as no_fields, more as on
 use Rattle.record_text.specs.RecordText.AreStrings.{none as no_words, more as one_string}
 use Rattle.record_text.specs.RecordText.AreTypes.{none as no_names, more as one_type}
 use Rattle.record_text.specs.RecordText.IsData.{in_form as of_row}
-use Rattle.record_text.specs.RecordText.IsRest.{nothing, strings, hex, base64, types, service, ports, gateway, host}
+use Rattle.record_text.specs.RecordText.IsRest.{nothing, strings, hex, base64, types, service, ports, prefixes, gateway, host}
 use Rattle.record_text.specs.RecordText.SpellsData.{in_form, generic}
+use Rattle.record_text.specs.Prefixes.{ArePrefixes, SpellsPrefix}
+use Rattle.record_text.specs.Prefixes.ArePrefixes.{none as no_prefixes, more as one_prefix}
 use Rattle.record_text.specs.TypeTable.{TypeRow}
 use Rattle.service_text.specs.ServiceText.{ParametersOfWords}
 use Rattle.text_words.specs.declared.words.Word.{Word}
@@ -150,6 +152,13 @@ same_ports (one_port {words = ws} {ports = numbers} {port = number} w before pla
     subst (λ (os : List Word). ArePorts os (numbers ++ number ∷ [])) (sym parts.whole)
     (one_port parts.last (same_ports before parts.first parts.firsts) (sym parts.lasts.quoted ∙ plain) (subst (λ (t : List ℕ). SpellsPort t number) parts.lasts.bytes is))
 
+same_prefixes : {words : List Word} {octets : List ℕ} → ArePrefixes words octets → (others : List Word) → AreSameWords words others → ArePrefixes others octets
+same_prefixes no_prefixes others h = subst (λ (ws : List Word). ArePrefixes ws []) (none_left others h) no_prefixes
+same_prefixes (one_prefix {words = ws} {octets = octets} {own = own} w before plain is) others h =
+    let parts : CutLast ws w others = cut_last ws w others h in
+    subst (λ (os : List Word). ArePrefixes os (octets ++ own)) (sym parts.whole)
+    (one_prefix parts.last (same_prefixes before parts.first parts.firsts) (sym parts.lasts.quoted ∙ plain) (subst (λ (t : List ℕ). SpellsPrefix t own) parts.lasts.bytes is))
+
 same_base64 : (words others : List Word) (octets : List ℕ) → AreSameWords words others → IsBase64 words octets → IsBase64 others octets
 same_base64 words others octets h is = record {
   some = not_nil words others h is.some;
@@ -223,6 +232,7 @@ module _ (service_same : ParametersOfWords) where
   same_rest (types is) others h = types (record { types = is.types; spelled = same_types is.spelled others h; written = is.written })
   same_rest (service {words = words} is) others h = service (service_same words others _ is h)
   same_rest (ports is) others h = ports (record { ports = is.ports; spelled = same_ports is.spelled others h; written = is.written })
+  same_rest (prefixes is) others h = prefixes (same_prefixes is others h)
   same_rest {origin = origin} (gateway {words = words} is) others h = gateway (same_gateway origin words others _ h is)
   same_rest {origin = origin} (host {first = a} {second = b} {third = c} {servers = ws} is) others h = same_host origin a b c ws others _ h is
 

@@ -33,6 +33,7 @@ use Rattle.record_text.specs.Moments.{SpellsMoment}
 use Rattle.record_text.specs.declared.data.hex_groups.Group.TheVariants as group
 use Rattle.record_text.specs.Groups.{SpellsGroups, SpellsHexGroups, SpellsNsap}
 use Rattle.text_words.specs.Spelling.{IsNumber, IsString, Spells, any_byte, SpellsName, SpellsTime}
+use Rattle.record_text.specs.Prefixes.{ArePrefixes}
 use Rattle.record_text.specs.TypeBitmaps.{bitmap, bitmap_len, windows}
 use Rattle.record_text.specs.TypeTable.{TypeRow, rows, row_of}
 use Rattle.text_words.specs.Words.{AreWordsTo}
@@ -215,8 +216,8 @@ pub record IsIdentity (origin : Option DomainName) (first second third : Word) (
   pub together : octets ≡ length tag ∷ algorithm ∷ (to_be_bytes w16 (length key) ++ tag ++ key ++ named)
 
 -- What the words behind the fields stand for: none is left; character strings; hexadecimal digits; the encoding of octets in
--- base 64; a set of types; the parameters of a service; the ports of services; a gateway
--- with its key; or the identity of a host.
+-- base 64; a set of types; the parameters of a service; the ports of services; address
+-- prefixes; a gateway with its key; or the identity of a host.
 pub data IsRest (origin : Option DomainName) : Rest → List Word → List ℕ → Type 0 where
   nothing : IsRest origin rest.Nothing [] []
   strings : {words : List Word} {octets : List ℕ} → words ≢ [] → AreStrings words octets → IsRest origin rest.Strings words octets
@@ -225,6 +226,7 @@ pub data IsRest (origin : Option DomainName) : Rest → List Word → List ℕ �
   types : {words : List Word} {octets : List ℕ} → IsTypeSet words octets → IsRest origin rest.Types words octets
   service : {words : List Word} {octets : List ℕ} → AreServiceParameters words octets → IsRest origin rest.ServiceParameters words octets
   ports : {words : List Word} {octets : List ℕ} → ArePortBits words octets → IsRest origin rest.Services words octets
+  prefixes : {words : List Word} {octets : List ℕ} → ArePrefixes words octets → IsRest origin rest.Prefixes words octets
   gateway : {words : List Word} {octets : List ℕ} → IsGateway origin words octets → IsRest origin rest.Gateway words octets
   host : {first second third : Word} {servers : List Word} {octets : List ℕ} → IsIdentity origin first second third servers octets → IsRest origin rest.HostIdentity (first ∷ second ∷ third ∷ servers) octets
 

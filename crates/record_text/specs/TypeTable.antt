@@ -4,7 +4,7 @@ use Rattle.record_text.specs.declared.data.field.Field.{Field}
 use Rattle.record_text.specs.declared.data.field.Field.TheVariants.{Number8, Number16, Number32, Named8, Named16, Time, Name, String, Text, Ipv4, Ipv6, RecordType, Moment, Salt, Hash, Eui48, Eui64, Locator64, NoGateway, Nsap}
 use Rattle.record_text.specs.declared.data.field.Names.TheVariants.{Algorithms, Certificates, Digests, Protocols, Schemes}
 use Rattle.record_text.specs.declared.data.field.Rest.{Rest}
-use Rattle.record_text.specs.declared.data.field.Rest.TheVariants.{Nothing, Strings, Hex, Base64, Types, ServiceParameters, Services, Gateway, HostIdentity, Generic}
+use Rattle.record_text.specs.declared.data.field.Rest.TheVariants.{Nothing, Strings, Hex, Base64, Types, ServiceParameters, Services, Prefixes, Gateway, HostIdentity, Generic}
 
 -- A type: its number, its mnemonic, the fields that its data begin with, each of one word, and what all words behind them stand for.
 pub record TypeRow : Type 0 where
@@ -56,6 +56,7 @@ rows =
     ∷ row 39 (codes "DNAME") (Name ∷ []) Nothing  -- RFC 6672 section 2.1
     ∷ row 40 (codes "SINK") (Number8 ∷ Number8 ∷ Number8 ∷ []) Base64  -- IANA's registry
     ∷ row 41 (codes "OPT") [] Generic  -- RFC 6891 section 6.1
+    ∷ row 42 (codes "APL") [] Prefixes  -- RFC 3123 section 5
     ∷ row 43 (codes "DS") (Number16 ∷ Named8 Algorithms ∷ Named8 Digests ∷ []) Hex  -- RFC 4034 section 5.3
     ∷ row 44 (codes "SSHFP") (Number8 ∷ Number8 ∷ []) Hex  -- RFC 4255 section 3.2
     ∷ row 45 (codes "IPSECKEY") (Number8 ∷ []) Gateway  -- RFC 4025 section 3.1

@@ -11,6 +11,7 @@ mod mnemonics;
 mod moment;
 mod nsap;
 mod ports;
+mod prefixes;
 pub(crate) mod rest;
 pub(crate) mod table;
 mod types;

@@ -79,6 +79,8 @@ pub(crate) enum Rest {
     ServiceParameters,
     /// The ports of services, as the bits of a bitmap (RFC 1035 section 3.4.2).
     Services,
+    /// Address prefixes (RFC 3123).
+    Prefixes,
     /// A gateway, with the key to it (RFC 4025 section 2).
     Gateway,
     /// The identity of a host, with the servers where it is met (RFC 8005 section 5).

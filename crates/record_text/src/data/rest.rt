@@ -11,6 +11,7 @@ use crate::data::field::Rest;
 use crate::data::gateway::put_gateway;
 use crate::data::host_identity::put_host;
 use crate::data::ports::put_ports;
+use crate::data::prefixes::put_prefixes;
 use crate::data::types::put_types;
 use base64::DecodeAllocError;
 use base64::engine::general_purpose::STANDARD;
@@ -122,6 +123,7 @@ pub(crate) fn put_rest(
         (Rest::Types, _) => put_types(alloc, words, data),
         (Rest::ServiceParameters, _) => put_parameters(alloc, words, data),
         (Rest::Services, _) => put_ports(alloc, words, data),
+        (Rest::Prefixes, _) => put_prefixes(alloc, words, data),
         (Rest::Gateway, _) => put_gateway(alloc, words, end, origin, data),
         (Rest::HostIdentity, _) => put_host(alloc, words, end, origin, data),
         (Rest::Generic, None) => Err(fault_at(end, TextFault::MissingField)),

@@ -10,7 +10,7 @@ use hickory_wire::RecordType;
 use text_words::{TextError, TextFault, Word, number_of_digits};
 
 /// The types by their numbers (RFC 1035 section 3.2.2, IANA's registry).
-static ROWS: [Row; 82] = [
+static ROWS: [Row; 83] = [
     Row {
         number: 1,
         mnemonic: "A",
@@ -269,6 +269,12 @@ static ROWS: [Row; 82] = [
         mnemonic: "OPT",
         fields: &[],
         rest: Rest::Generic,
+    },
+    Row {
+        number: 42,
+        mnemonic: "APL",
+        fields: &[],
+        rest: Rest::Prefixes,
     },
     Row {
         number: 43,

@@ -11,8 +11,9 @@ use Rattle.text_words.specs.declared.error.TextError.TheVariants.{Memory}
 use Rattle.text_words.specs.declared.words.Word.{Word}
 use Rattle.text_words.specs.Spelling.{Puts}
 use Rattle.record_text.specs.RecordText.{ArePlain, ArePortBits, AreStrings, HasNone, IsBase64, IsGateway, IsRest, IsTypeSet, bytes_of}
-use Rattle.record_text.specs.RecordText.IsRest.{nothing, strings, hex, base64, types, service, ports, gateway}
-use Rattle.record_text.proofs.NoRow.{no_base64, no_gateway, no_hex, no_nothing, no_ports, no_service, no_strings, no_types, not_generic, some_hex, some_strings}
+use Rattle.record_text.specs.RecordText.IsRest.{nothing, strings, hex, base64, types, service, ports, prefixes, gateway}
+use Rattle.record_text.specs.Prefixes.{ArePrefixes}
+use Rattle.record_text.proofs.NoRow.{no_base64, no_gateway, no_hex, no_nothing, no_ports, no_prefixes, no_service, no_strings, no_types, not_generic, some_hex, some_strings}
 use Rattle.record_text.proofs.data.rest.put_rest.Goals as goal
 
 is_nil : (words : List Word) → None ≡ slice_get words 0 → words ≡ []
@@ -110,3 +111,10 @@ returns-in-Strings-None-clause-refused c = λ other. rw c.in-Strings-None.is-0 (
 
 pub returns-in-Hex-None-clause-refused : goal.returns-in-Hex-None-clause-refused
 returns-in-Hex-None-clause-refused c = λ other. rw c.in-Hex-None.is-0 (some_hex (option_copied c.args.origin) c.args.words.now (is_nil c.args.words.now c.in-Hex-None.ensures.value))
+
+pub returns-in-Prefixes-default-clause-put : goal.returns-in-Prefixes-default-clause-put
+returns-in-Prefixes-default-clause-put c =
+    rw c.in-Prefixes-default.is-0 (as_rest c.put_prefixes.result (ArePrefixes c.args.words.now) (IsRest (option_copied c.args.origin) kind.Prefixes c.args.words.now) c.args.data.now.items c.put_prefixes.new.data.items (λ octets is. prefixes is) c.put_prefixes.ensures.put)
+
+pub returns-in-Prefixes-default-clause-refused : goal.returns-in-Prefixes-default-clause-refused
+returns-in-Prefixes-default-clause-refused c = rw c.in-Prefixes-default.is-0 (refused c.put_prefixes.result (ArePrefixes c.args.words.now) (IsRest (option_copied c.args.origin) kind.Prefixes c.args.words.now) (no_prefixes (option_copied c.args.origin) c.args.words.now) c.put_prefixes.ensures.refused)
