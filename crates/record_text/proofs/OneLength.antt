@@ -1,11 +1,10 @@
 -- Words are data of one length at most, whichever octets they stand for.
-use Rattle.std.proofs.Common.{◌≡◌, ◌∙◌, ◌+◌, ◌*◌, ℕ, List, [], ◌∷◌, ◌++◌, length, Option, Some, Ok, Result, sym, ap, subst, refl, arith, length-append}
+use Rattle.std.proofs.Common.{◌≡◌, ◌∙◌, ◌+◌, ◌*◌, ℕ, List, [], ◌∷◌, ◌++◌, length, Option, Ok, Result, sym, ap, subst, refl, arith, length-append}
 use Rattle.std.proofs.NetLemmas.Theorems.{IsIpv4Text_unique, IsIpv6Text_unique}
 use Rattle.std.proofs.lemmas.List.{drop_at, take_at, same_from_push}
 use Rattle.std.specs.Net.Addr.{ipv4_octets, ipv6_octets}
 use Rattle.std.specs.Prelude.{drop, take}
 use Rattle.std.specs.Int.{w16, to_be_bytes}
-use Rattle.std.specs.Str.Parse.{digits_value}
 use Rattle.base64.specs.Engines.{standard}
 use Rattle.base64.specs.GeneralPurpose.{IsBytes, encode_of}
 use Rattle.hex.specs.Hex.{decode_of}
@@ -21,7 +20,7 @@ use Rattle.record_text.specs.declared.data.hex_groups.Group.TheVariants as group
 use Rattle.record_text.specs.Groups.{IsGroup, SpellsHexGroups, SpellsNsap, without_dots}
 use Rattle.record_text.specs.Groups.IsGroup.{octet, bits16}
 use Rattle.record_text.specs.Groups.SpellsHexGroups.{first, more as one_group}
-use Rattle.record_text.specs.RecordText.{AreFields, AreNames, ArePorts, AreStrings, AreTypes, IsBase64, IsData, IsField, IsGateway, IsIdentity, IsRest, IsRow, SpellsPort, SpellsType, bytes_of, gateway_fields}
+use Rattle.record_text.specs.RecordText.{AreFields, AreNames, ArePorts, AreStrings, AreTypes, IsBase64, IsData, IsField, IsGateway, IsIdentity, IsRest, IsRow, SpellsPort, SpellsType, bytes_of}
 use Rattle.record_text.specs.RecordText.AreNames.{none as no_servers, more as one_server}
 use Rattle.record_text.specs.RecordText.ArePorts.{none as no_ports, more as one_port}
 use Rattle.record_text.proofs.PortsOnce.{port_once}

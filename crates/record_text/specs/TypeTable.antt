@@ -1,7 +1,7 @@
 -- The types of records that have a form in text, one row a type: number, mnemonic, and what their data are made of. Beside each stands the section that says so.
 use Rattle.std.specs.Prelude.{ℕ, ◌==◌, List, [], ◌∷◌, codes, find, Option}
 use Rattle.record_text.specs.declared.data.field.Field.{Field}
-use Rattle.record_text.specs.declared.data.field.Field.TheVariants.{Number8, Number16, Number32, Named8, Named16, Time, Name, String, Text, Ipv4, Ipv6, RecordType, Moment, Salt, Hash, Eui48, Eui64, Locator64, NoGateway, Nsap}
+use Rattle.record_text.specs.declared.data.field.Field.TheVariants.{Number8, Number16, Number32, Named8, Named16, Time, Name, String, Text, Ipv4, Ipv6, RecordType, Moment, Salt, Hash, Eui48, Eui64, Locator64, Nsap}
 use Rattle.record_text.specs.declared.data.field.Names.TheVariants.{Algorithms, Certificates, Digests, Protocols, Schemes}
 use Rattle.record_text.specs.declared.data.field.Rest.{Rest}
 use Rattle.record_text.specs.declared.data.field.Rest.TheVariants.{Nothing, Strings, Hex, Base64, Types, ServiceParameters, Services, Prefixes, Gateway, HostIdentity, Generic}

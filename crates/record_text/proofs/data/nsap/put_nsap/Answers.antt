@@ -1,8 +1,7 @@
-use Rattle.std.proofs.Common.{◌≡◌, ◌∙◌, ◌-◌, ◌++◌, ℕ, Bool, true, false, List, [], Ok, length, take, drop, get_or, sym, ap, subst, refl}
+use Rattle.std.proofs.Common.{◌≡◌, ◌∙◌, ◌-◌, ℕ, Bool, true, false, List, [], Ok, length, take, drop, get_or, sym, ap, subst, refl}
 use Rattle.std.proofs.lemmas.List.{take_rest}
 use Rattle.std.specs.Prelude.{◌≢◌, ◌⊎◌, ◌==◌}
 use Rattle.hex.specs.Hex.{decode_of}
-use Rattle.text_words.specs.declared.words.Word.{Word}
 use Rattle.record_text.specs.Groups.{SpellsNsap, without_dots}
 use Rattle.record_text.specs.RecordText.IsField.{nsap}
 use Rattle.record_text.proofs.data.nsap.put_nsap.Goals as goal
