@@ -1,6 +1,7 @@
 pub mod DataLen
 pub mod Digits
 pub mod Formed
+pub mod Gateways
 pub mod GenericData
 pub mod HexGroups
 pub mod HexSteps
@@ -8,6 +9,8 @@ pub mod NoField
 pub mod NoMoment
 pub mod NoRow
 pub mod OneLength
+pub mod PortsOnce
+pub mod PrefixesOnce
 pub mod RowSteps
 pub mod SameWords
 pub mod TypesOnce

@@ -10,10 +10,10 @@ use Rattle.wire_names.specs.rr.domain.DomainName.{DomainName, name_len}
 use Rattle.record_text.specs.declared.data.field.Field.TheVariants as field
 use Rattle.record_text.specs.declared.data.field.Names.{Names}
 use Rattle.record_text.specs.declared.data.hex_groups.Group.TheVariants as group
-use Rattle.record_text.specs.Groups.{SpellsGroups, SpellsHexGroups}
+use Rattle.record_text.specs.Groups.{SpellsGroups, SpellsHexGroups, SpellsNsap}
 use Rattle.record_text.specs.Moments.{SpellsMoment}
 use Rattle.record_text.specs.RecordText.{HasNone, IsField, IsNamed, SpellsType}
-use Rattle.record_text.specs.RecordText.IsField.{number8, number16, number32, named8, unnamed8, named16, unnamed16, time, name, string, text, ipv4, ipv6, type, moment, no_salt, salt, hash, eui48, eui64, locator64}
+use Rattle.record_text.specs.RecordText.IsField.{number8, number16, number32, named8, unnamed8, named16, unnamed16, time, name, string, text, ipv4, ipv6, type, moment, no_salt, salt, hash, eui48, eui64, locator64, no_gateway, nsap}
 use Rattle.text_words.specs.declared.words.Word.{Word}
 use Rattle.text_words.specs.Spelling.{IsNumber, IsString, Spells, SpellsName, SpellsTime, any_byte}
 
@@ -85,3 +85,9 @@ no_eui64 w none origin octets (eui64 plain is) = none octets (plain, is)
 
 pub no_locator64 : (w : Word) → HasNone (λ octets. (w.quoted ≡ false) × SpellsHexGroups 58 group.Bits16 4 w.bytes.now octets) → (origin : Option DomainName) → HasNone (IsField origin field.Locator64 w)
 no_locator64 w none origin octets (locator64 plain is) = none octets (plain, is)
+
+pub no_dot : (w : Word) → (w.quoted ≡ false → w.bytes.now ≡ 46 ∷ [] → ⊥) → (origin : Option DomainName) → HasNone (IsField origin field.NoGateway w)
+no_dot w none origin octets (no_gateway plain is) = none plain is
+
+pub no_nsap : (w : Word) → HasNone (λ octets. (w.quoted ≡ false) × SpellsNsap w.bytes.now octets) → (origin : Option DomainName) → HasNone (IsField origin field.Nsap w)
+no_nsap w none origin octets (nsap plain is) = none octets (plain, is)

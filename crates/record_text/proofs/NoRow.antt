@@ -3,22 +3,25 @@ use Rattle.std.proofs.Common.{◌≡◌, ◌∙◌, ◌<◌, ℕ, false, List, [
 use Rattle.std.specs.Prelude.{◌≢◌}
 use Rattle.std.proofs.lemmas.Bool.{cases_lt}
 use Rattle.std.proofs.lemmas.List.{length_push, get_or_push, get_or_append_left, drop_at, length-append}
-use Rattle.base64.specs.Engines.{standard}
-use Rattle.base64.specs.GeneralPurpose.{IsBytes, encode_of}
 use Rattle.hex.specs.Hex.{decode_of}
 use Rattle.wire_names.specs.rr.domain.DomainName.{DomainName}
 use Rattle.record_text.specs.declared.data.field.Field.{Field}
+use Rattle.record_text.specs.declared.data.field.Field.TheVariants as field
 use Rattle.record_text.specs.declared.data.field.Rest.{Rest}
 use Rattle.record_text.specs.declared.data.field.Rest.TheVariants as kind
 use Rattle.service_text.specs.ServiceText.{AreServiceParameters}
 use Rattle.text_words.specs.declared.words.Word.{Word}
 use Rattle.text_words.specs.Spelling.{IsString}
-use Rattle.record_text.specs.RecordText.{AreFields, AreFieldsBefore, ArePlain, AreStrings, AreTypes, HasNone, IsData, IsField, IsRest, IsRow, IsTypeSet, SpellsType, bytes_of}
+use Rattle.record_text.specs.RecordText.{AreFields, AreFieldsBefore, AreNames, ArePlain, ArePortBits, ArePorts, AreStrings, AreTypes, HasNone, IsBase64, IsData, IsField, IsGateway, IsRest, IsRow, IsTypeSet, SpellsPort, SpellsType, bytes_of}
+use Rattle.record_text.specs.RecordText.AreNames.{none as no_servers, more as one_server}
+use Rattle.record_text.specs.RecordText.ArePorts.{none as no_ports_here, more as one_port}
 use Rattle.record_text.specs.RecordText.AreFields.{none as no_fields, more as one_field}
 use Rattle.record_text.specs.RecordText.AreStrings.{none as no_words, more as one_string}
 use Rattle.record_text.specs.RecordText.AreTypes.{none as no_names, more as one_type}
 use Rattle.record_text.specs.RecordText.IsData.{in_form}
-use Rattle.record_text.specs.RecordText.IsRest.{nothing, strings, hex, base64, types, service}
+use Rattle.record_text.specs.RecordText.IsRest.{nothing, strings, hex, base64, types, service, ports, prefixes, gateway, host}
+use Rattle.record_text.specs.Prefixes.{ArePrefixes, SpellsPrefix}
+use Rattle.record_text.specs.Prefixes.ArePrefixes.{none as no_prefixes_here, more as one_prefix}
 use Rattle.record_text.specs.TypeTable.{TypeRow, row_of}
 
 pub fields_len : {origin : Option DomainName} {fields : List Field} {words : List Word} {octets : List ℕ} → AreFields origin fields words octets → length words ≡ length fields
@@ -65,12 +68,12 @@ too_few origin fields words few behind octets (front, split, are) =
 pub none_of_fields : (origin : Option DomainName) (row : TypeRow) (words : List Word) → ((behind : List Word) → HasNone (AreFieldsBefore origin row.fields words behind)) → HasNone (IsRow origin row words)
 none_of_fields origin row words none octets is = none is.behind is.front_octets (is.front, is.in_order, is.fields)
 
-pub none_of_rest : (origin : Option DomainName) (row : TypeRow) (words behind : List Word) (octets : List ℕ) → AreFieldsBefore origin row.fields words behind octets → HasNone (IsRest row.rest behind) → HasNone (IsRow origin row words)
+pub none_of_rest : (origin : Option DomainName) (row : TypeRow) (words behind : List Word) (octets : List ℕ) → AreFieldsBefore origin row.fields words behind octets → HasNone (IsRest origin row.rest behind) → HasNone (IsRow origin row words)
 none_of_rest origin row words behind octets (front, split, are) none all is =
     let one : length front ≡ length row.fields = fields_len are in
     let two : length is.front ≡ length row.fields = fields_len is.fields in
     let same : behind ≡ is.behind = sym (drop_at front behind (length row.fields) one) ∙ ap (λ (ws : List Word). drop (length row.fields) ws) (sym split ∙ is.in_order) ∙ drop_at is.front is.behind (length row.fields) two in
-    none is.behind_octets (subst (λ (ws : List Word). IsRest row.rest ws is.behind_octets) (sym same) is.rest)
+    none is.behind_octets (subst (λ (ws : List Word). IsRest origin row.rest ws is.behind_octets) (sym same) is.rest)
 
 pub none_of_row : (origin : Option DomainName) (number : ℕ) (row : TypeRow) (words : List Word) → row_of number ≡ Some row → HasNone (IsRow origin row words) → HasNone (IsData origin number words)
 none_of_row origin number row words found none octets (in_form {row = other} found' is) =
@@ -103,41 +106,92 @@ no_type_at words i d below none numbers are =
     let at : (n : ℕ) × ((get_or words i d).quoted ≡ false) × SpellsType (get_or words i d).bytes.now n = type_at are i d below in
     none at.0 at.1 at.2
 
-pub no_nothing : (words : List Word) → words ≢ [] → HasNone (IsRest kind.Nothing words)
-no_nothing words some octets nothing = some refl
+pub no_nothing : (origin : Option DomainName) (words : List Word) → words ≢ [] → HasNone (IsRest origin kind.Nothing words)
+no_nothing origin words some octets nothing = some refl
 
-pub no_strings : (words : List Word) → HasNone (AreStrings words) → HasNone (IsRest kind.Strings words)
-no_strings words none octets (strings some are) = none octets are
+pub no_strings : (origin : Option DomainName) (words : List Word) → HasNone (AreStrings words) → HasNone (IsRest origin kind.Strings words)
+no_strings origin words none octets (strings some are) = none octets are
 
-pub no_hex : (words : List Word) → HasNone (λ octets. ArePlain words × (decode_of (bytes_of words) ≡ Ok octets)) → HasNone (IsRest kind.Hex words)
-no_hex words none octets (hex some plain is) = none octets (plain, is)
+pub no_hex : (origin : Option DomainName) (words : List Word) → HasNone (λ octets. ArePlain words × (decode_of (bytes_of words) ≡ Ok octets)) → HasNone (IsRest origin kind.Hex words)
+no_hex origin words none octets (hex some plain is) = none octets (plain, is)
 
-pub no_base64 : (words : List Word) → HasNone (λ octets. ArePlain words × IsBytes octets × (bytes_of words ≡ encode_of standard octets)) → HasNone (IsRest kind.Base64 words)
-no_base64 words none octets (base64 some plain bytes is) = none octets (plain, bytes, is)
+pub no_base64 : (origin : Option DomainName) (words : List Word) → HasNone (IsBase64 words) → HasNone (IsRest origin kind.Base64 words)
+no_base64 origin words none octets (base64 is) = none octets is
 
-pub no_types : (words : List Word) → HasNone (IsTypeSet words) → HasNone (IsRest kind.Types words)
-no_types words none octets (types is) = none octets is
+pub no_types : (origin : Option DomainName) (words : List Word) → HasNone (IsTypeSet words) → HasNone (IsRest origin kind.Types words)
+no_types origin words none octets (types is) = none octets is
 
-pub no_service : (words : List Word) → HasNone (AreServiceParameters words) → HasNone (IsRest kind.ServiceParameters words)
-no_service words none octets (service is) = none octets is
+pub no_service : (origin : Option DomainName) (words : List Word) → HasNone (AreServiceParameters words) → HasNone (IsRest origin kind.ServiceParameters words)
+no_service origin words none octets (service is) = none octets is
 
--- words stand behind the fields, but where nothing, types or parameters do
-pub some_words : {rest : Rest} {words : List Word} {octets : List ℕ} → IsRest rest words octets → rest ≢ kind.Nothing → rest ≢ kind.Types → rest ≢ kind.ServiceParameters → words ≢ []
-some_words nothing other than nor = absurd (other refl)
-some_words (strings some are) other than nor = some
-some_words (hex some plain is) other than nor = some
-some_words (base64 some plain bytes is) other than nor = some
-some_words (types is) other than nor = absurd (than refl)
-some_words (service is) other than nor = absurd (nor refl)
+pub no_ports : (origin : Option DomainName) (words : List Word) → HasNone (ArePortBits words) → HasNone (IsRest origin kind.Services words)
+no_ports origin words none octets (ports is) = none octets is
 
--- no words stand there in a form of the type, where it has none
-pub not_generic : {rest : Rest} {words : List Word} {octets : List ℕ} → IsRest rest words octets → rest ≢ kind.Generic
+pub no_prefixes : (origin : Option DomainName) (words : List Word) → HasNone (ArePrefixes words) → HasNone (IsRest origin kind.Prefixes words)
+no_prefixes origin words none octets (prefixes is) = none octets is
+
+pub no_gateway : (origin : Option DomainName) (words : List Word) → HasNone (IsGateway origin words) → HasNone (IsRest origin kind.Gateway words)
+no_gateway origin words none octets (gateway is) = none octets is
+
+-- no words stand there in a form of the type, where it has none, or without words, where it needs some
+pub not_generic : {origin : Option DomainName} {rest : Rest} {words : List Word} {octets : List ℕ} → IsRest origin rest words octets → rest ≢ kind.Generic
 not_generic nothing e = absurd (cc)
 not_generic (strings some are) e = absurd (cc)
 not_generic (hex some plain is) e = absurd (cc)
-not_generic (base64 some plain bytes is) e = absurd (cc)
+not_generic (base64 is) e = absurd (cc)
 not_generic (types is) e = absurd (cc)
 not_generic (service is) e = absurd (cc)
+not_generic (ports is) e = absurd (cc)
+not_generic (prefixes is) e = absurd (cc)
+not_generic (gateway is) e = absurd (cc)
+not_generic (host is) e = absurd (cc)
+
+pub some_strings : (origin : Option DomainName) (words : List Word) → words ≡ [] → HasNone (IsRest origin kind.Strings words)
+some_strings origin words empty octets (strings some are) = some empty
+
+pub some_hex : (origin : Option DomainName) (words : List Word) → words ≡ [] → HasNone (IsRest origin kind.Hex words)
+some_hex origin words empty octets (hex some plain is) = some empty
+
+-- the names of servers, and the ports of services
+pub name_at : {origin : Option DomainName} {words : List Word} {octets : List ℕ} → AreNames origin words octets → (i : ℕ) (d : Word) → i < length words → (own : List ℕ) × IsField origin field.Name (get_or words i d) own
+name_at no_servers i d below = absurd (omega arith)
+name_at {origin = origin} (one_server {words = ws} {own = own} {word = w} before one) i d below = elim (cases_lt i (length ws)) [
+  | inl h ↦
+      let at : (o : List ℕ) × IsField origin field.Name (get_or ws i d) o = name_at before i d h in
+      (at.0, subst (λ (x : Word). IsField origin field.Name x at.0) (sym (get_or_append_left ws (w ∷ []) d i h)) at.1)
+  | inr h ↦ (own, subst (λ (x : Word). IsField origin field.Name x own) (sym (get_or_push ws w d i (omega (arith, length_push ws w, below, h)))) one)
+]
+
+pub no_name_at : (origin : Option DomainName) (words : List Word) (i : ℕ) (d : Word) → i < length words → HasNone (IsField origin field.Name (get_or words i d)) → HasNone (AreNames origin words)
+no_name_at origin words i d below none octets are = let at : (own : List ℕ) × IsField origin field.Name (get_or words i d) own = name_at are i d below in none at.0 at.1
+
+pub port_at : {words : List Word} {numbers : List ℕ} → ArePorts words numbers → (i : ℕ) (d : Word) → i < length words → (port : ℕ) × ((get_or words i d).quoted ≡ false) × SpellsPort (get_or words i d).bytes.now port
+port_at no_ports_here i d below = absurd (omega arith)
+port_at (one_port {words = ws} {port = number} w before plain is) i d below = elim (cases_lt i (length ws)) [
+  | inl h ↦
+      let at : (n : ℕ) × ((get_or ws i d).quoted ≡ false) × SpellsPort (get_or ws i d).bytes.now n = port_at before i d h in
+      subst (λ (x : Word). (n : ℕ) × (x.quoted ≡ false) × SpellsPort x.bytes.now n) (sym (get_or_append_left ws (w ∷ []) d i h)) at
+  | inr h ↦ subst (λ (x : Word). (n : ℕ) × (x.quoted ≡ false) × SpellsPort x.bytes.now n) (sym (get_or_push ws w d i (omega (arith, length_push ws w, below, h)))) (number, plain, is)
+]
+
+pub no_port_at : (words : List Word) (i : ℕ) (d : Word) → i < length words → HasNone (λ port. ((get_or words i d).quoted ≡ false) × SpellsPort (get_or words i d).bytes.now port) → HasNone (ArePorts words)
+no_port_at words i d below none numbers are =
+    let at : (n : ℕ) × ((get_or words i d).quoted ≡ false) × SpellsPort (get_or words i d).bytes.now n = port_at are i d below in
+    none at.0 (at.1, at.2)
+
+pub prefix_at : {words : List Word} {octets : List ℕ} → ArePrefixes words octets → (i : ℕ) (d : Word) → i < length words → (own : List ℕ) × ((get_or words i d).quoted ≡ false) × SpellsPrefix (get_or words i d).bytes.now own
+prefix_at no_prefixes_here i d below = absurd (omega arith)
+prefix_at (one_prefix {words = ws} {own = own} w before plain is) i d below = elim (cases_lt i (length ws)) [
+  | inl h ↦
+      let at : (o : List ℕ) × ((get_or ws i d).quoted ≡ false) × SpellsPrefix (get_or ws i d).bytes.now o = prefix_at before i d h in
+      subst (λ (x : Word). (o : List ℕ) × (x.quoted ≡ false) × SpellsPrefix x.bytes.now o) (sym (get_or_append_left ws (w ∷ []) d i h)) at
+  | inr h ↦ subst (λ (x : Word). (o : List ℕ) × (x.quoted ≡ false) × SpellsPrefix x.bytes.now o) (sym (get_or_push ws w d i (omega (arith, length_push ws w, below, h)))) (own, plain, is)
+]
+
+pub no_prefix_at : (words : List Word) (i : ℕ) (d : Word) → i < length words → ((get_or words i d).quoted ≡ false → HasNone (SpellsPrefix (get_or words i d).bytes.now)) → HasNone (ArePrefixes words)
+no_prefix_at words i d below none octets are =
+    let at : (o : List ℕ) × ((get_or words i d).quoted ≡ false) × SpellsPrefix (get_or words i d).bytes.now o = prefix_at are i d below in
+    none at.1 at.0 at.2
 
 -- words of which one stands for nothing of its field
 pub no_field : (origin : Option DomainName) (number : ℕ) (row : TypeRow) (words : List Word) (i : ℕ) (e : Field) (d : Word) → row_of number ≡ Some row → i < length row.fields → HasNone (IsField origin (get_or row.fields i e) (get_or words i d))
@@ -145,7 +199,7 @@ pub no_field : (origin : Option DomainName) (number : ℕ) (row : TypeRow) (word
 no_field origin number row words i e d found below none = none_of_row origin number row words found (none_of_fields origin row words (none_at origin row.fields words i e d below none))
 
 -- words that are nothing that stands behind no fields
-pub no_rest : (origin : Option DomainName) (number : ℕ) (row : TypeRow) (words : List Word) → row_of number ≡ Some row → row.fields ≡ [] → HasNone (IsRest row.rest words) → HasNone (IsData origin number words)
+pub no_rest : (origin : Option DomainName) (number : ℕ) (row : TypeRow) (words : List Word) → row_of number ≡ Some row → row.fields ≡ [] → HasNone (IsRest origin row.rest words) → HasNone (IsData origin number words)
 no_rest origin number row words found no_fields_before none =
     none_of_row origin number row words found (none_of_rest origin row words words [] ([], refl, subst (λ (fs : List Field). AreFields origin fs [] []) (sym no_fields_before) no_fields) none)
 

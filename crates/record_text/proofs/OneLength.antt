@@ -4,6 +4,7 @@ use Rattle.std.proofs.NetLemmas.Theorems.{IsIpv4Text_unique, IsIpv6Text_unique}
 use Rattle.std.proofs.lemmas.List.{drop_at, take_at, same_from_push}
 use Rattle.std.specs.Net.Addr.{ipv4_octets, ipv6_octets}
 use Rattle.std.specs.Prelude.{drop, take}
+use Rattle.std.specs.Int.{w16, to_be_bytes}
 use Rattle.base64.specs.Engines.{standard}
 use Rattle.base64.specs.GeneralPurpose.{IsBytes, encode_of}
 use Rattle.hex.specs.Hex.{decode_of}
@@ -12,22 +13,30 @@ use Rattle.wire_names.specs.rr.domain.DomainName.{DomainName}
 use Rattle.wire_messages.specs.rr.RecordData.{character_string}
 use Rattle.wire_messages.specs.serialize.writing.FullForm.{name_octets}
 use Rattle.record_text.specs.declared.data.field.Field.{Field}
+use Rattle.record_text.specs.declared.data.field.Field.TheVariants as field
 use Rattle.record_text.specs.declared.data.field.Rest.{Rest}
 use Rattle.record_text.specs.declared.data.hex_groups.Group.{Group}
 use Rattle.record_text.specs.declared.data.hex_groups.Group.TheVariants as group
-use Rattle.record_text.specs.Groups.{IsGroup, SpellsHexGroups}
+use Rattle.record_text.specs.Groups.{IsGroup, SpellsHexGroups, SpellsNsap, without_dots}
 use Rattle.record_text.specs.Groups.IsGroup.{octet, bits16}
 use Rattle.record_text.specs.Groups.SpellsHexGroups.{first, more as one_group}
-use Rattle.record_text.specs.RecordText.{AreFields, AreStrings, AreTypes, IsData, IsField, IsRest, IsRow, SpellsType, bytes_of}
-use Rattle.record_text.specs.RecordText.IsField.{number8, number16, number32, named8, unnamed8, named16, unnamed16, time, name, string, text, ipv4, ipv6, type, moment, no_salt, salt, hash, eui48, eui64, locator64}
+use Rattle.record_text.specs.RecordText.{AreFields, AreNames, ArePorts, AreStrings, AreTypes, IsBase64, IsData, IsField, IsGateway, IsIdentity, IsRest, IsRow, SpellsPort, SpellsType, bytes_of}
+use Rattle.record_text.specs.RecordText.AreNames.{none as no_servers, more as one_server}
+use Rattle.record_text.specs.RecordText.ArePorts.{none as no_ports, more as one_port}
+use Rattle.record_text.proofs.PortsOnce.{port_once}
+use Rattle.record_text.proofs.PrefixesOnce.{prefix_once}
+use Rattle.record_text.specs.RecordText.IsField.{number8, number16, number32, named8, unnamed8, named16, unnamed16, time, name, string, text, ipv4, ipv6, type, moment, no_salt, salt, hash, eui48, eui64, locator64, no_gateway, nsap}
 use Rattle.record_text.specs.RecordText.AreFields.{none as no_fields, more as one_field}
 use Rattle.record_text.specs.RecordText.AreStrings.{none as no_words, more as one_string}
 use Rattle.record_text.specs.RecordText.AreTypes.{none as no_names, more as one_type}
 use Rattle.record_text.specs.RecordText.IsData.{in_form}
-use Rattle.record_text.specs.RecordText.IsRest.{nothing, strings, hex, base64, types, service}
-use Rattle.record_text.specs.TypeBitmaps.{windows}
+use Rattle.record_text.specs.RecordText.IsRest.{nothing, strings, hex, base64, types, service, ports, prefixes, gateway, host}
+use Rattle.record_text.specs.Prefixes.{ArePrefixes, SpellsPrefix}
+use Rattle.record_text.specs.Prefixes.ArePrefixes.{none as no_prefixes, more as one_prefix}
+use Rattle.record_text.specs.TypeBitmaps.{bitmap, bitmap_len, windows}
 use Rattle.record_text.specs.TypeTable.{TypeRow}
 use Rattle.record_text.proofs.Digits.{group_octets}
+use Rattle.record_text.proofs.Gateways.{before_key, behind_fields, told_of}
 use Rattle.record_text.proofs.NoRow.{fields_len}
 use Rattle.service_text.specs.ServiceText.{ParametersOnce}
 use Rattle.text_words.specs.declared.words.Word.{Word}
@@ -54,6 +63,9 @@ groups_len between kind count whole octets (one_group {count = n} {text = t} {oc
 decoded_once : (r : Result (List ℕ) FromHexError) (a b : List ℕ) → r ≡ Ok a → r ≡ Ok b → a ≡ b
 decoded_once r a b one two = cc
 
+nsap_once : (t a b : List ℕ) → SpellsNsap t a → SpellsNsap t b → a ≡ b
+nsap_once t a b one two = decoded_once (decode_of (without_dots (drop 2 t))) a b one.spelled two.spelled
+
 -- types are spelled once
 abbrev pub TypesOnce : Type 0
 TypesOnce = (word : List ℕ) (n m : ℕ) → SpellsType word n → SpellsType word m → n ≡ m
@@ -61,6 +73,11 @@ TypesOnce = (word : List ℕ) (n m : ℕ) → SpellsType word n → SpellsType w
 -- octets are encoded in one way
 abbrev pub Base64Once : Type 0
 Base64Once = (a b : List ℕ) → IsBytes a → IsBytes b → encode_of standard a ≡ encode_of standard b → a ≡ b
+
+host_len : (algorithm : ℕ) (tag key named : List ℕ) → length (length tag ∷ algorithm ∷ (to_be_bytes w16 (length key) ++ tag ++ key ++ named)) ≡ 4 + length tag + length key + length named
+host_len algorithm tag key named =
+    let two : length (to_be_bytes w16 (length key)) ≡ 2 = refl in
+    omega (arith, length-append (to_be_bytes w16 (length key) ++ tag ++ key) named, length-append (to_be_bytes w16 (length key) ++ tag) key, length-append (to_be_bytes w16 (length key)) tag, two)
 
 module _ (bytes_once : BytesSpelledOnce) (strings_once : StringsSpelledOnce) (names_once : NamesSpelledOnce) (types_once : TypesOnce) (service_once : ParametersOnce) where
   field_len : (origin : Option DomainName) (field : Field) (w : Word) (a b : List ℕ) → IsField origin field w a → IsField origin field w b → length a ≡ length b
@@ -91,6 +108,8 @@ module _ (bytes_once : BytesSpelledOnce) (strings_once : StringsSpelledOnce) (na
   field_len origin field w a b (eui48 p i) (eui48 q j) = groups_len 45 group.Octet 6 w.bytes.now a i ∙ sym (groups_len 45 group.Octet 6 w.bytes.now b j)
   field_len origin field w a b (eui64 p i) (eui64 q j) = groups_len 45 group.Octet 8 w.bytes.now a i ∙ sym (groups_len 45 group.Octet 8 w.bytes.now b j)
   field_len origin field w a b (locator64 p i) (locator64 q j) = groups_len 58 group.Bits16 4 w.bytes.now a i ∙ sym (groups_len 58 group.Bits16 4 w.bytes.now b j)
+  field_len origin field w a b (no_gateway p i) (no_gateway q j) = refl
+  field_len origin field w a b (nsap p i) (nsap q j) = ap length (nsap_once w.bytes.now a b i j)
 
   no_push : {X : Type 0} (xs : List X) (x : X) → [] ≡ xs ++ x ∷ [] → ⊥
   no_push [] x e = cc
@@ -128,13 +147,68 @@ module _ (bytes_once : BytesSpelledOnce) (strings_once : StringsSpelledOnce) (na
       let last : n ≡ m = types_once w.bytes.now n m is (subst (λ (v : Word). SpellsType v.bytes.now m) (sym same.1) is') in
       rw (front, last) refl
 
-  rest_len : (base64_once : Base64Once) (rest : Rest) (words : List Word) (a b : List ℕ) → IsRest rest words a → IsRest rest words b → length a ≡ length b
-  rest_len base64_once rest words a b nothing nothing = refl
-  rest_len base64_once rest words a b (strings some is) (strings some' is') = ap length (strings_one is is' refl)
-  rest_len base64_once rest words a b (hex some plain is) (hex some' plain' is') = ap length (decoded_once (decode_of (bytes_of words)) a b is is')
-  rest_len base64_once rest words a b (base64 some plain bytes is) (base64 some' plain' bytes' is') = ap length (base64_once a b bytes bytes' (sym is ∙ is'))
-  rest_len base64_once rest words a b (types is) (types is') = ap length (is.written ∙ ap (λ (ts : List ℕ). windows ts 256) (types_one is.spelled is'.spelled refl) ∙ sym is'.written)
-  rest_len base64_once rest words a b (service is) (service is') = ap length (service_once words a b is is')
+  names_one : {origin : Option DomainName} {words ws : List Word} {a b : List ℕ} → AreNames origin words a → AreNames origin ws b → words ≡ ws → length a ≡ length b
+  names_one no_servers no_servers e = refl
+  names_one no_servers (one_server {words = ws} {word = w} before one) e = absurd (no_push ws w e)
+  names_one (one_server {words = ws} {word = w} before one) no_servers e = absurd (no_push ws w (sym e))
+  names_one {origin = origin} (one_server {words = ws} {octets = a} {own = x} {word = w} before one) (one_server {words = ws'} {octets = b} {own = y} {word = w'} before' one') e =
+      let same = same_from_push ws ws' w w' e in
+      let front : length a ≡ length b = names_one before before' same.0 in
+      let last : length x ≡ length y = field_len origin field.Name w x y one (subst (λ (v : Word). IsField origin field.Name v y) (sym same.1) one') in
+      omega (arith, length-append a x, length-append b y)
+
+  ports_one : {words ws : List Word} {a b : List ℕ} → ArePorts words a → ArePorts ws b → words ≡ ws → a ≡ b
+  ports_one no_ports no_ports e = refl
+  ports_one no_ports (one_port {words = ws} w before plain is) e = absurd (no_push ws w e)
+  ports_one (one_port {words = ws} w before plain is) no_ports e = absurd (no_push ws w (sym e))
+  ports_one (one_port {words = ws} {ports = a} {port = n} w before plain is) (one_port {words = ws'} {ports = b} {port = m} w' before' plain' is') e =
+      let same = same_from_push ws ws' w w' e in
+      let front : a ≡ b = ports_one before before' same.0 in
+      let last : n ≡ m = port_once w.bytes.now n m is (subst (λ (v : Word). SpellsPort v.bytes.now m) (sym same.1) is') in
+      rw (front, last) refl
+
+  prefixes_one : {words ws : List Word} {a b : List ℕ} → ArePrefixes words a → ArePrefixes ws b → words ≡ ws → a ≡ b
+  prefixes_one no_prefixes no_prefixes e = refl
+  prefixes_one no_prefixes (one_prefix {words = ws} w before plain is) e = absurd (no_push ws w e)
+  prefixes_one (one_prefix {words = ws} w before plain is) no_prefixes e = absurd (no_push ws w (sym e))
+  prefixes_one (one_prefix {words = ws} {octets = a} {own = x} w before plain is) (one_prefix {words = ws'} {octets = b} {own = y} w' before' plain' is') e =
+      let same = same_from_push ws ws' w w' e in
+      let front : a ≡ b = prefixes_one before before' same.0 in
+      let last : x ≡ y = prefix_once w.bytes.now x y is (subst (λ (v : Word). SpellsPrefix v.bytes.now y) (sym same.1) is') in
+      rw (front, last) refl
+
+  base64_len : (base64_once : Base64Once) (words : List Word) (a b : List ℕ) → IsBase64 words a → IsBase64 words b → a ≡ b
+  base64_len base64_once words a b one two = base64_once a b one.bytes two.bytes (sym one.encoded ∙ two.encoded)
+
+  -- the octets of a gateway and its key
+  gateway_len : (base64_once : Base64Once) (origin : Option DomainName) (words : List Word) (a b : List ℕ) → IsGateway origin words a → IsGateway origin words b → length a ≡ length b
+  gateway_len base64_once origin words a b one two =
+      let fields : two.fields ≡ one.fields = told_of one.first one.begins.0 one.kind one.fields one.begins.1 one.typed one.told two in
+      let fronts : one.gateway.0 ≡ two.gateway.0 = before_key one.gateway two.gateway (sym fields) in
+      let keys : one.key ≡ two.key = behind_fields one.gateway two.gateway (sym fields) in
+      let own : length one.gateway_octets ≡ length two.gateway_octets = fields_one one.gateway.2 two.gateway.2 (sym fields) fronts in
+      let keyed : one.key_octets ≡ two.key_octets = base64_len base64_once one.key one.key_octets two.key_octets one.keyed (subst (λ (ws : List Word). IsBase64 ws two.key_octets) (sym keys) two.keyed) in
+      omega (arith, ap length one.together, ap length two.together, length-append one.gateway_octets one.key_octets, length-append two.gateway_octets two.key_octets, own, ap length keyed)
+
+  -- the octets of a host
+  identity_len : (base64_once : Base64Once) (origin : Option DomainName) (w1 w2 w3 : Word) (servers : List Word) (a b : List ℕ) → IsIdentity origin w1 w2 w3 servers a → IsIdentity origin w1 w2 w3 servers b → length a ≡ length b
+  identity_len base64_once origin w1 w2 w3 servers a b one two =
+      let tags : length one.tag ≡ length two.tag = ap length (decoded_once (decode_of w2.bytes.now) one.tag two.tag one.tagged.spelled two.tagged.spelled) in
+      let keys : length one.key ≡ length two.key = ap length (base64_once one.key two.key one.keyed.bytes two.keyed.bytes (sym one.keyed.encoded ∙ two.keyed.encoded)) in
+      let names : length one.named ≡ length two.named = names_one one.met two.met refl in
+      omega (arith, ap length one.together, ap length two.together, host_len one.algorithm one.tag one.key one.named, host_len two.algorithm two.tag two.key two.named, tags, keys, names)
+
+  rest_len : (base64_once : Base64Once) (origin : Option DomainName) (rest : Rest) (words : List Word) (a b : List ℕ) → IsRest origin rest words a → IsRest origin rest words b → length a ≡ length b
+  rest_len base64_once origin rest words a b nothing nothing = refl
+  rest_len base64_once origin rest words a b (strings some is) (strings some' is') = ap length (strings_one is is' refl)
+  rest_len base64_once origin rest words a b (hex some plain is) (hex some' plain' is') = ap length (decoded_once (decode_of (bytes_of words)) a b is is')
+  rest_len base64_once origin rest words a b (base64 is) (base64 is') = ap length (base64_len base64_once words a b is is')
+  rest_len base64_once origin rest words a b (types is) (types is') = ap length (is.written ∙ ap (λ (ts : List ℕ). windows ts 256) (types_one is.spelled is'.spelled refl) ∙ sym is'.written)
+  rest_len base64_once origin rest words a b (service is) (service is') = ap length (service_once words a b is is')
+  rest_len base64_once origin rest words a b (ports is) (ports is') = ap length (is.written ∙ ap (λ (ps : List ℕ). bitmap ps 0 (bitmap_len ps)) (ports_one is.spelled is'.spelled refl) ∙ sym is'.written)
+  rest_len base64_once origin rest words a b (prefixes is) (prefixes is') = ap length (prefixes_one is is' refl)
+  rest_len base64_once origin rest words a b (gateway is) (gateway is') = gateway_len base64_once origin words a b is is'
+  rest_len base64_once origin rest words a b (host {first = f} {second = g} {third = h} {servers = ws} is) (host is') = identity_len base64_once origin f g h ws a b is is'
 
   row_len : (base64_once : Base64Once) (origin : Option DomainName) (row : TypeRow) (words : List Word) (a b : List ℕ) → IsRow origin row words a → IsRow origin row words b → length a ≡ length b
   row_len base64_once origin row words a b one two =
@@ -145,7 +219,7 @@ module _ (bytes_once : BytesSpelledOnce) (strings_once : StringsSpelledOnce) (na
       let behinds : one.behind ≡ two.behind = sym (drop_at one.front one.behind (length row.fields) n) ∙ ap (λ (ws : List Word). drop (length row.fields) ws) whole ∙ drop_at two.front two.behind (length row.fields) m in
       let front : length one.front_octets ≡ length two.front_octets = fields_one one.fields two.fields refl fronts in
       let behind : length one.behind_octets ≡ length two.behind_octets =
-      rest_len base64_once row.rest one.behind one.behind_octets two.behind_octets one.rest (subst (λ (ws : List Word). IsRest row.rest ws two.behind_octets) (sym behinds) two.rest) in
+      rest_len base64_once origin row.rest one.behind one.behind_octets two.behind_octets one.rest (subst (λ (ws : List Word). IsRest origin row.rest ws two.behind_octets) (sym behinds) two.rest) in
       omega (arith, ap length one.together, ap length two.together, length-append one.front_octets one.behind_octets, length-append two.front_octets two.behind_octets)
 
   pub data_length : (base64_once : Base64Once) (origin : Option DomainName) (number : ℕ) (words : List Word) (a b : List ℕ) → IsData origin number words a → IsData origin number words b → length a ≡ length b

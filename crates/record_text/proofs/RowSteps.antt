@@ -28,10 +28,10 @@ of_fields origin number row words octets is none_left fields = in_form is record
   in_order = sym (append-nil words);
   together = sym (append-nil octets);
   fields = fields;
-  rest = subst (λ (r : Rest). IsRest r [] []) (sym none_left) nothing;
+  rest = subst (λ (r : Rest). IsRest origin r [] []) (sym none_left) nothing;
 }
 
-pub of_rest : (origin : Option DomainName) (number : ℕ) (row : TypeRow) (words : List Word) (octets : List ℕ) → row_of number ≡ Some row → row.fields ≡ [] → IsRest row.rest words octets → IsData origin number words octets
+pub of_rest : (origin : Option DomainName) (number : ℕ) (row : TypeRow) (words : List Word) (octets : List ℕ) → row_of number ≡ Some row → row.fields ≡ [] → IsRest origin row.rest words octets → IsData origin number words octets
 of_rest origin number row words octets is no_fields rest = in_form is record {
   front = [];
   behind = words;
@@ -65,7 +65,7 @@ more_fields origin fields words i d e field word old before after below within f
 
 -- what is put behind nothing by fields, and by what stands behind them, is a row's
 pub of_row : (origin : Option DomainName) (number : ℕ) (row : TypeRow) (words behind : List Word) (start middle all : List ℕ) → row_of number ≡ Some row → start ≡ [] → Puts (AreFieldsBefore origin row.fields words behind) start middle
-    → Puts (IsRest row.rest behind) middle all → IsData origin number words all
+    → Puts (IsRest origin row.rest behind) middle all → IsData origin number words all
 of_row origin number row words behind start middle all is empty front rest = in_form is record {
   front = front.2.0;
   behind = behind;

@@ -7,18 +7,24 @@ use Rattle.hex.specs.Hex.{decode_of}
 use Rattle.wire_names.specs.rr.domain.DomainName.{DomainName}
 use Rattle.wire_messages.specs.declared.rr.rdata.RData.{RData}
 use Rattle.record_text.specs.declared.data.field.Field.{Field}
+use Rattle.record_text.specs.declared.data.field.Field.TheVariants as field
 use Rattle.record_text.specs.declared.data.field.Rest.{Rest}
+use Rattle.record_text.specs.declared.data.field.Rest.TheVariants as kind
 use Rattle.record_text.specs.declared.data.hex_groups.Group.TheVariants as group
-use Rattle.record_text.specs.Groups.{SpellsGroups, SpellsHexGroups}
+use Rattle.record_text.specs.Groups.{SpellsGroups, SpellsHexGroups, SpellsNsap}
 use Rattle.record_text.specs.Moments.{SpellsMoment}
-use Rattle.record_text.specs.RecordText.{AreFields, ArePlain, AreStrings, AreTypes, BeginGeneric, IsData, IsField, IsGenericData, IsNamed, IsRest, IsRow, SpellsData, SpellsType, bytes_of}
-use Rattle.record_text.specs.RecordText.IsField.{number8, number16, number32, named8, unnamed8, named16, unnamed16, time, name, string, text, ipv4, ipv6, type, moment, no_salt, salt, hash, eui48, eui64, locator64}
+use Rattle.record_text.specs.RecordText.{AreFields, AreNames, ArePlain, ArePorts, AreStrings, AreTypes, BeginGeneric, IsBase64, IsData, IsField, IsGateway, IsGenericData, IsIdentity, IsKey, IsNamed, IsRest, IsRow, IsTag, SpellsData, SpellsPort, SpellsType, bytes_of}
+use Rattle.record_text.specs.RecordText.AreNames.{none as no_servers, more as one_server}
+use Rattle.record_text.specs.RecordText.ArePorts.{none as no_ports, more as one_port}
+use Rattle.record_text.specs.RecordText.IsField.{number8, number16, number32, named8, unnamed8, named16, unnamed16, time, name, string, text, ipv4, ipv6, type, moment, no_salt, salt, hash, eui48, eui64, locator64, no_gateway, nsap}
 use Rattle.record_text.specs.RecordText.AreFields.{none as no_fields, more as one_field}
 use Rattle.record_text.specs.RecordText.AreStrings.{none as no_words, more as one_string}
 use Rattle.record_text.specs.RecordText.AreTypes.{none as no_names, more as one_type}
 use Rattle.record_text.specs.RecordText.IsData.{in_form as of_row}
-use Rattle.record_text.specs.RecordText.IsRest.{nothing, strings, hex, base64, types, service}
+use Rattle.record_text.specs.RecordText.IsRest.{nothing, strings, hex, base64, types, service, ports, prefixes, gateway, host}
 use Rattle.record_text.specs.RecordText.SpellsData.{in_form, generic}
+use Rattle.record_text.specs.Prefixes.{ArePrefixes, SpellsPrefix}
+use Rattle.record_text.specs.Prefixes.ArePrefixes.{none as no_prefixes, more as one_prefix}
 use Rattle.record_text.specs.TypeTable.{TypeRow}
 use Rattle.service_text.specs.ServiceText.{ParametersOfWords}
 use Rattle.text_words.specs.declared.words.Word.{Word}
@@ -55,6 +61,8 @@ same_field origin field a b octets s (hash {octets = own} plain is short) = hash
 same_field origin field a b octets s (eui48 plain is) = eui48 (sym s.quoted ∙ plain) (subst (λ (t : List ℕ). SpellsHexGroups 45 group.Octet 6 t octets) s.bytes is)
 same_field origin field a b octets s (eui64 plain is) = eui64 (sym s.quoted ∙ plain) (subst (λ (t : List ℕ). SpellsHexGroups 45 group.Octet 8 t octets) s.bytes is)
 same_field origin field a b octets s (locator64 plain is) = locator64 (sym s.quoted ∙ plain) (subst (λ (t : List ℕ). SpellsHexGroups 58 group.Bits16 4 t octets) s.bytes is)
+same_field origin field a b octets s (no_gateway plain is) = no_gateway (sym s.quoted ∙ plain) (sym s.bytes ∙ is)
+same_field origin field a b octets s (nsap plain is) = nsap (sym s.quoted ∙ plain) (subst (λ (t : List ℕ). SpellsNsap t octets) s.bytes is)
 
 -- the same words, cut where the others are
 pub record Cut (front behind others : List Word) : Type 0 where
@@ -131,14 +139,102 @@ not_nil [] others h some e = some refl
 not_nil (w ∷ words) [] h some e = absurd h
 not_nil (w ∷ words) (o ∷ others) h some e = absurd (cc)
 
+same_names : {origin : Option DomainName} {words : List Word} {octets : List ℕ} → AreNames origin words octets → (others : List Word) → AreSameWords words others → AreNames origin others octets
+same_names {origin = origin} no_servers others h = subst (λ (ws : List Word). AreNames origin ws []) (none_left others h) no_servers
+same_names {origin = origin} (one_server {words = ws} {octets = octets} {own = own} {word = w} before one) others h =
+    let parts : CutLast ws w others = cut_last ws w others h in
+    subst (λ (os : List Word). AreNames origin os (octets ++ own)) (sym parts.whole) (one_server (same_names before parts.first parts.firsts) (same_field origin field.Name w parts.last own parts.lasts one))
+
+same_ports : {words : List Word} {numbers : List ℕ} → ArePorts words numbers → (others : List Word) → AreSameWords words others → ArePorts others numbers
+same_ports no_ports others h = subst (λ (ws : List Word). ArePorts ws []) (none_left others h) no_ports
+same_ports (one_port {words = ws} {ports = numbers} {port = number} w before plain is) others h =
+    let parts : CutLast ws w others = cut_last ws w others h in
+    subst (λ (os : List Word). ArePorts os (numbers ++ number ∷ [])) (sym parts.whole)
+    (one_port parts.last (same_ports before parts.first parts.firsts) (sym parts.lasts.quoted ∙ plain) (subst (λ (t : List ℕ). SpellsPort t number) parts.lasts.bytes is))
+
+same_prefixes : {words : List Word} {octets : List ℕ} → ArePrefixes words octets → (others : List Word) → AreSameWords words others → ArePrefixes others octets
+same_prefixes no_prefixes others h = subst (λ (ws : List Word). ArePrefixes ws []) (none_left others h) no_prefixes
+same_prefixes (one_prefix {words = ws} {octets = octets} {own = own} w before plain is) others h =
+    let parts : CutLast ws w others = cut_last ws w others h in
+    subst (λ (os : List Word). ArePrefixes os (octets ++ own)) (sym parts.whole)
+    (one_prefix parts.last (same_prefixes before parts.first parts.firsts) (sym parts.lasts.quoted ∙ plain) (subst (λ (t : List ℕ). SpellsPrefix t own) parts.lasts.bytes is))
+
+same_base64 : (words others : List Word) (octets : List ℕ) → AreSameWords words others → IsBase64 words octets → IsBase64 others octets
+same_base64 words others octets h is = record {
+  some = not_nil words others h is.some;
+  plain = same_plain words others h is.plain;
+  bytes = is.bytes;
+  encoded = sym (same_bytes words others h) ∙ is.encoded;
+}
+
+-- the first of the same words
+pub record FirstOf (w : Word) (others : List Word) : Type 0 where
+  pub first : Word
+  pub behind : List Word
+  pub whole : others ≡ first ∷ behind
+  pub same : SameWord w first
+
+first_of : (w : Word) (words others : List Word) → AreSameWords (w ∷ words) others → FirstOf w others
+first_of w words [] h = absurd h
+first_of w words (o ∷ others) h = record { first = o; behind = others; whole = refl; same = h.0 }
+
+same_gateway : (origin : Option DomainName) (words others : List Word) (octets : List ℕ) → AreSameWords words others → IsGateway origin words octets → IsGateway origin others octets
+same_gateway origin words others octets h is =
+    let parts : Cut is.gateway.0 is.key others = cut is.gateway.0 is.key others (subst (λ (ws : List Word). AreSameWords ws others) is.gateway.1 h) in
+    let begin : FirstOf is.first others = first_of is.first is.begins.0 others (subst (λ (ws : List Word). AreSameWords ws others) is.begins.1 h) in
+    record {
+      first = begin.first;
+      kind = is.kind;
+      fields = is.fields;
+      key = parts.last;
+      gateway_octets = is.gateway_octets;
+      key_octets = is.key_octets;
+      plain = sym begin.same.quoted ∙ is.plain;
+      typed = subst (λ (t : List ℕ). IsNumber t is.kind) begin.same.bytes is.typed;
+      told = is.told;
+      begins = (begin.behind, begin.whole);
+      gateway = (parts.first, parts.whole, same_fields is.gateway.2 parts.first parts.firsts);
+      keyed = same_base64 is.key parts.last is.key_octets parts.lasts is.keyed;
+      together = is.together;
+    }
+
+same_tag : (a b : Word) (tag : List ℕ) → SameWord a b → IsTag a tag → IsTag b tag
+same_tag a b tag s is = record { plain = sym s.quoted ∙ is.plain; spelled = subst (λ (t : List ℕ). decode_of t ≡ Ok tag) s.bytes is.spelled; some = is.some; short = is.short }
+
+same_key : (a b : Word) (key : List ℕ) → SameWord a b → IsKey a key → IsKey b key
+same_key a b key s is = record { plain = sym s.quoted ∙ is.plain; bytes = is.bytes; encoded = sym s.bytes ∙ is.encoded; some = is.some; short = is.short }
+
+same_identity : (origin : Option DomainName) (a b c d e f : Word) (servers others : List Word) (octets : List ℕ) → SameWord a d → SameWord b e → SameWord c f → AreSameWords servers others → IsIdentity origin a b c servers octets → IsIdentity origin d e f others octets
+same_identity origin a b c d e f servers others octets s t u h is = record {
+  algorithm = is.algorithm;
+  tag = is.tag;
+  key = is.key;
+  named = is.named;
+  coded = (sym s.quoted ∙ is.coded.0, subst (λ (x : List ℕ). IsNumber x is.algorithm) s.bytes is.coded.1, is.coded.2);
+  tagged = same_tag b e is.tag t is.tagged;
+  keyed = same_key c f is.key u is.keyed;
+  met = same_names is.met others h;
+  together = is.together;
+}
+
+same_host : (origin : Option DomainName) (a b c : Word) (servers others : List Word) (octets : List ℕ) → AreSameWords (a ∷ b ∷ c ∷ servers) others → IsIdentity origin a b c servers octets → IsRest origin kind.HostIdentity others octets
+same_host origin a b c servers [] octets h is = absurd h
+same_host origin a b c servers (d ∷ []) octets h is = absurd h.1
+same_host origin a b c servers (d ∷ e ∷ []) octets h is = absurd h.1.1
+same_host origin a b c servers (d ∷ e ∷ f ∷ others) octets h is = host (same_identity origin a b c d e f servers others octets h.0 h.1.0 h.1.1.0 h.1.1.1 is)
+
 module _ (service_same : ParametersOfWords) where
-  same_rest : {rest : Rest} {words : List Word} {octets : List ℕ} → IsRest rest words octets → (others : List Word) → AreSameWords words others → IsRest rest others octets
-  same_rest {rest = rest} nothing others h = subst (λ (ws : List Word). IsRest rest ws []) (none_left others h) nothing
+  same_rest : {origin : Option DomainName} {rest : Rest} {words : List Word} {octets : List ℕ} → IsRest origin rest words octets → (others : List Word) → AreSameWords words others → IsRest origin rest others octets
+  same_rest {origin = origin} {rest = rest} nothing others h = subst (λ (ws : List Word). IsRest origin rest ws []) (none_left others h) nothing
   same_rest {words = words} (strings some are) others h = strings (not_nil words others h some) (same_strings are others h)
   same_rest {words = words} (hex {octets = octets} some plain is) others h = hex (not_nil words others h some) (same_plain words others h plain) (subst (λ (t : List ℕ). decode_of t ≡ Ok octets) (same_bytes words others h) is)
-  same_rest {words = words} (base64 some plain bytes is) others h = base64 (not_nil words others h some) (same_plain words others h plain) bytes (sym (same_bytes words others h) ∙ is)
+  same_rest (base64 {words = words} is) others h = base64 (same_base64 words others _ h is)
   same_rest (types is) others h = types (record { types = is.types; spelled = same_types is.spelled others h; written = is.written })
   same_rest (service {words = words} is) others h = service (service_same words others _ is h)
+  same_rest (ports is) others h = ports (record { ports = is.ports; spelled = same_ports is.spelled others h; written = is.written })
+  same_rest (prefixes is) others h = prefixes (same_prefixes is others h)
+  same_rest {origin = origin} (gateway {words = words} is) others h = gateway (same_gateway origin words others _ h is)
+  same_rest {origin = origin} (host {first = a} {second = b} {third = c} {servers = ws} is) others h = same_host origin a b c ws others _ h is
 
   same_row : (origin : Option DomainName) (row : TypeRow) (words : List Word) (octets : List ℕ) → IsRow origin row words octets → (others : List Word) → AreSameWords words others → IsRow origin row others octets
   same_row origin row words octets is others h =

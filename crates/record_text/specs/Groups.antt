@@ -1,7 +1,8 @@
 -- What words of digits in base 16 and 32 spell: octets in groups of digits.
-use Rattle.std.specs.Prelude.{◌≡◌, ℕ, ◌+◌, ◌<◌, ◌≤◌, List, [], ◌∷◌, ◌++◌, length, drop}
+use Rattle.std.specs.Prelude.{◌≡◌, ◌≢◌, ℕ, ◌+◌, ◌<◌, ◌≤◌, ◌==◌, ◌⊎◌, not, List, [], ◌∷◌, ◌++◌, length, get_or, drop, filter, Ok}
 use Rattle.std.specs.Int.{w16, w64, to_be_bytes}
 use Rattle.std.specs.Str.Parse.{AllDigits, digits_value}
+use Rattle.hex.specs.Hex.{decode_of}
 use Rattle.record_text.specs.declared.data.hex_groups.Group.{Group}
 use Rattle.record_text.specs.declared.data.hex_groups.Group.TheVariants as group
 
@@ -29,3 +30,14 @@ pub data IsGroup : Group → List ℕ → List ℕ → Type 0 where
 pub data SpellsHexGroups (between : ℕ) (kind : Group) : ℕ → List ℕ → List ℕ → Type 0 where
   first : {text octets : List ℕ} → IsGroup kind text octets → SpellsHexGroups between kind 1 text octets
   more : {count : ℕ} {text octets piece own : List ℕ} → SpellsHexGroups between kind count text octets → IsGroup kind piece own → SpellsHexGroups between kind (count + 1) (text ++ between ∷ piece) (octets ++ own)
+
+-- a text without its dots
+abbrev pub without_dots : List ℕ → List ℕ
+without_dots text = filter (λ byte. not (byte == 46)) text
+
+-- An address of the OSI network layer (RFC 1706 section 5): 0x, and two hexadecimal digits for each octet, at least one, with dots anywhere among them.
+pub record SpellsNsap (text octets : List ℕ) : Type 0 where
+  pub zero : get_or text 0 0 ≡ 48
+  pub is_x : (get_or text 1 0 ≡ 120) ⊎ (get_or text 1 0 ≡ 88)
+  pub spelled : decode_of (without_dots (drop 2 text)) ≡ Ok octets
+  pub some : octets ≢ []

@@ -63,7 +63,72 @@ digests =
     ∷ mnemonic 4 (codes "SHA384")
     ∷ []
 
+-- protocols over IP (RFC 1010, IANA's registry), as BIND and the systems have them
+abbrev pub protocols : List NamedNumber
+protocols =
+    mnemonic 0 (codes "IP")
+    ∷ mnemonic 1 (codes "ICMP")
+    ∷ mnemonic 2 (codes "IGMP")
+    ∷ mnemonic 3 (codes "GGP")
+    ∷ mnemonic 6 (codes "TCP")
+    ∷ mnemonic 8 (codes "EGP")
+    ∷ mnemonic 12 (codes "PUP")
+    ∷ mnemonic 17 (codes "UDP")
+    ∷ mnemonic 20 (codes "HMP")
+    ∷ mnemonic 22 (codes "XNS-IDP")
+    ∷ mnemonic 27 (codes "RDP")
+    ∷ []
+
+-- services at ports below 256 (RFC 1010, IANA's registry), as the systems have them
+abbrev pub services : List NamedNumber
+services =
+    mnemonic 7 (codes "ECHO")
+    ∷ mnemonic 9 (codes "DISCARD")
+    ∷ mnemonic 11 (codes "SYSTAT")
+    ∷ mnemonic 13 (codes "DAYTIME")
+    ∷ mnemonic 15 (codes "NETSTAT")
+    ∷ mnemonic 17 (codes "QOTD")
+    ∷ mnemonic 19 (codes "CHARGEN")
+    ∷ mnemonic 20 (codes "FTP-DATA")
+    ∷ mnemonic 21 (codes "FTP")
+    ∷ mnemonic 22 (codes "SSH")
+    ∷ mnemonic 23 (codes "TELNET")
+    ∷ mnemonic 25 (codes "SMTP")
+    ∷ mnemonic 37 (codes "TIME")
+    ∷ mnemonic 43 (codes "WHOIS")
+    ∷ mnemonic 49 (codes "TACACS")
+    ∷ mnemonic 53 (codes "DOMAIN")
+    ∷ mnemonic 67 (codes "BOOTPS")
+    ∷ mnemonic 68 (codes "BOOTPC")
+    ∷ mnemonic 69 (codes "TFTP")
+    ∷ mnemonic 70 (codes "GOPHER")
+    ∷ mnemonic 79 (codes "FINGER")
+    ∷ mnemonic 80 (codes "HTTP")
+    ∷ mnemonic 80 (codes "WWW")
+    ∷ mnemonic 88 (codes "KERBEROS")
+    ∷ mnemonic 110 (codes "POP3")
+    ∷ mnemonic 111 (codes "SUNRPC")
+    ∷ mnemonic 113 (codes "AUTH")
+    ∷ mnemonic 119 (codes "NNTP")
+    ∷ mnemonic 123 (codes "NTP")
+    ∷ mnemonic 137 (codes "NETBIOS-NS")
+    ∷ mnemonic 138 (codes "NETBIOS-DGM")
+    ∷ mnemonic 139 (codes "NETBIOS-SSN")
+    ∷ mnemonic 143 (codes "IMAP2")
+    ∷ mnemonic 161 (codes "SNMP")
+    ∷ mnemonic 162 (codes "SNMP-TRAP")
+    ∷ mnemonic 179 (codes "BGP")
+    ∷ mnemonic 194 (codes "IRC")
+    ∷ []
+
+-- schemes of notification (RFC 9859 section 6.2)
+abbrev pub schemes : List NamedNumber
+schemes = mnemonic 1 (codes "NOTIFY") ∷ []
+
 abbrev pub mnemonics : Names → List NamedNumber
 mnemonics names.Algorithms = algorithms
 mnemonics names.Certificates = certificates
 mnemonics names.Digests = digests
+mnemonics names.Protocols = protocols
+mnemonics names.Services = services
+mnemonics names.Schemes = schemes

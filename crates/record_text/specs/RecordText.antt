@@ -1,5 +1,5 @@
 -- The data of a record as the words of a zone's text, and the octets that they stand for (RFC 1035 section 5.1, RFC 3597 section 5).
-use Rattle.std.specs.Prelude.{◌≡◌, ◌≢◌, ℕ, ◌^◌, ◌<◌, ◌≤◌, false, List, [], ◌∷◌, ◌++◌, length, map, codes, Any, All, Option, Some, Ok}
+use Rattle.std.specs.Prelude.{◌≡◌, ◌≢◌, ℕ, ◌^◌, ◌<◌, ◌≤◌, ◌==◌, if◌then◌else◌, false, List, [], ◌∷◌, ◌++◌, length, map, codes, Any, All, Option, Some, None, Ok}
 use Rattle.std.specs.Char.{to_ascii_lowercase}
 use Rattle.std.specs.Int.{w16, w32, to_be_bytes}
 use Rattle.std.specs.List.{flat_map}
@@ -20,6 +20,7 @@ use Rattle.wire_messages.specs.serialize.writing.RecordSize.{data_len}
 use Rattle.record_text.specs.declared.data.field.Field.{Field}
 use Rattle.record_text.specs.declared.data.field.Field.TheVariants as field
 use Rattle.record_text.specs.declared.data.field.Names.{Names}
+use Rattle.record_text.specs.declared.data.field.Names.TheVariants as names
 use Rattle.record_text.specs.declared.data.mnemonics.Mnemonic.{Mnemonic}
 use Rattle.record_text.specs.Mnemonics.{NamedNumber, mnemonics}
 use Rattle.record_text.specs.declared.data.field.Rest.{Rest}
@@ -30,9 +31,10 @@ use Rattle.text_words.specs.declared.words.TextKind.{TextKind}
 use Rattle.text_words.specs.declared.words.Word.{Word}
 use Rattle.record_text.specs.Moments.{SpellsMoment}
 use Rattle.record_text.specs.declared.data.hex_groups.Group.TheVariants as group
-use Rattle.record_text.specs.Groups.{SpellsGroups, SpellsHexGroups}
+use Rattle.record_text.specs.Groups.{SpellsGroups, SpellsHexGroups, SpellsNsap}
 use Rattle.text_words.specs.Spelling.{IsNumber, IsString, Spells, any_byte, SpellsName, SpellsTime}
-use Rattle.record_text.specs.TypeBitmaps.{windows}
+use Rattle.record_text.specs.Prefixes.{ArePrefixes}
+use Rattle.record_text.specs.TypeBitmaps.{bitmap, bitmap_len, windows}
 use Rattle.record_text.specs.TypeTable.{TypeRow, rows, row_of}
 use Rattle.text_words.specs.Words.{AreWordsTo}
 
@@ -97,6 +99,8 @@ pub data IsField (origin : Option DomainName) : Field → Word → List ℕ → 
   eui48 : {w : Word} {octets : List ℕ} → w.quoted ≡ false → SpellsHexGroups 45 group.Octet 6 w.bytes.now octets → IsField origin field.Eui48 w octets
   eui64 : {w : Word} {octets : List ℕ} → w.quoted ≡ false → SpellsHexGroups 45 group.Octet 8 w.bytes.now octets → IsField origin field.Eui64 w octets
   locator64 : {w : Word} {octets : List ℕ} → w.quoted ≡ false → SpellsHexGroups 58 group.Bits16 4 w.bytes.now octets → IsField origin field.Locator64 w octets
+  no_gateway : {w : Word} → w.quoted ≡ false → w.bytes.now ≡ 46 ∷ [] → IsField origin field.NoGateway w []
+  nsap : {w : Word} {octets : List ℕ} → w.quoted ≡ false → SpellsNsap w.bytes.now octets → IsField origin field.Nsap w octets
 
 -- words for the fields, one for each, and their octets one behind the other
 pub data AreFields (origin : Option DomainName) : List Field → List Word → List ℕ → Type 0 where
@@ -131,15 +135,100 @@ bytes_of words = flat_map (λ word. word.bytes.now) words
 abbrev pub ArePlain : List Word → Type 0
 ArePlain words = All (λ word. word.quoted ≡ false) words
 
+-- words in no quotes for the encoding of octets in base 64
+pub record IsBase64 (words : List Word) (octets : List ℕ) : Type 0 where
+  pub some : words ≢ []
+  pub plain : ArePlain words
+  pub bytes : IsBytes octets
+  pub encoded : bytes_of words ≡ encode_of standard octets
+
+-- A port: the mnemonic of a service, or else a number of 16 bits.
+pub data SpellsPort : List ℕ → ℕ → Type 0 where
+  named : {text : List ℕ} {port : ℕ} → IsNamed names.Services text port → SpellsPort text port
+  numbered : {text : List ℕ} {port : ℕ} → HasNone (IsNamed names.Services text) → IsNumber text port → port < 2 ^ 16 → SpellsPort text port
+
+-- ports, one a word
+pub data ArePorts : List Word → List ℕ → Type 0 where
+  none : ArePorts [] []
+  more : {words : List Word} {ports : List ℕ} {port : ℕ} (word : Word) → ArePorts words ports → word.quoted ≡ false → SpellsPort word.bytes.now port → ArePorts (words ++ word ∷ []) (ports ++ port ∷ [])
+
+-- the ports of services as octets: a bitmap, in which the first bit is port 0, up to the octet of the greatest (RFC 1035 section 3.4.2)
+pub record ArePortBits (words : List Word) (octets : List ℕ) : Type 0 where
+  pub ports : List ℕ
+  pub spelled : ArePorts words ports
+  pub written : octets ≡ bitmap ports 0 (bitmap_len ports)
+
+-- the fields by the type of a gateway: that type, an algorithm, and `.` for no gateway, an IPv4 address, an IPv6 address, or a name (RFC 4025 section 2.3)
+abbrev pub gateway_fields : ℕ → Option (List Field)
+gateway_fields kind =
+    if kind == 0 then Some (field.Number8 ∷ field.Number8 ∷ field.NoGateway ∷ [])
+    else if kind == 1 then Some (field.Number8 ∷ field.Number8 ∷ field.Ipv4 ∷ [])
+    else if kind == 2 then Some (field.Number8 ∷ field.Number8 ∷ field.Ipv6 ∷ [])
+    else if kind == 3 then Some (field.Number8 ∷ field.Number8 ∷ field.Name ∷ [])
+    else None
+
+-- a gateway and the key to it (RFC 4025 section 2): what the fields are, tells the first of them; behind them stands the key
+pub record IsGateway (origin : Option DomainName) (words : List Word) (octets : List ℕ) : Type 0 where
+  pub first : Word
+  pub kind : ℕ
+  pub fields : List Field
+  pub key : List Word
+  pub gateway_octets : List ℕ
+  pub key_octets : List ℕ
+  pub plain : first.quoted ≡ false
+  pub typed : IsNumber first.bytes.now kind
+  pub told : gateway_fields kind ≡ Some fields
+  pub begins : (others : List Word) × (words ≡ first ∷ others)
+  pub gateway : AreFieldsBefore origin fields words key gateway_octets
+  pub keyed : IsBase64 key key_octets
+  pub together : octets ≡ gateway_octets ++ key_octets
+
+-- names, one a word
+pub data AreNames (origin : Option DomainName) : List Word → List ℕ → Type 0 where
+  none : AreNames origin [] []
+  more : {words : List Word} {octets own : List ℕ} {word : Word} → AreNames origin words octets → IsField origin field.Name word own → AreNames origin (words ++ word ∷ []) (octets ++ own)
+
+-- a tag in hexadecimal digits, and a key in base 64
+pub record IsTag (word : Word) (tag : List ℕ) : Type 0 where
+  pub plain : word.quoted ≡ false
+  pub spelled : decode_of word.bytes.now ≡ Ok tag
+  pub some : 0 < length tag
+  pub short : length tag < 2 ^ 8
+
+pub record IsKey (word : Word) (key : List ℕ) : Type 0 where
+  pub plain : word.quoted ≡ false
+  pub bytes : IsBytes key
+  pub encoded : word.bytes.now ≡ encode_of standard key
+  pub some : 0 < length key
+  pub short : length key < 2 ^ 16
+
+-- The identity of a host (RFC 8005 sections 5 and 6): the words are an algorithm, a tag, a public key, and the names of servers. The octets are the length of the
+-- tag, the algorithm, the length of the key, and then these.
+pub record IsIdentity (origin : Option DomainName) (first second third : Word) (servers : List Word) (octets : List ℕ) : Type 0 where
+  pub algorithm : ℕ
+  pub tag : List ℕ
+  pub key : List ℕ
+  pub named : List ℕ
+  pub coded : (first.quoted ≡ false) × IsNumber first.bytes.now algorithm × (algorithm < 2 ^ 8)
+  pub tagged : IsTag second tag
+  pub keyed : IsKey third key
+  pub met : AreNames origin servers named
+  pub together : octets ≡ length tag ∷ algorithm ∷ (to_be_bytes w16 (length key) ++ tag ++ key ++ named)
+
 -- What the words behind the fields stand for: none is left; character strings; hexadecimal digits; the encoding of octets in
--- base 64; a set of types; or the parameters of a service.
-pub data IsRest : Rest → List Word → List ℕ → Type 0 where
-  nothing : IsRest rest.Nothing [] []
-  strings : {words : List Word} {octets : List ℕ} → words ≢ [] → AreStrings words octets → IsRest rest.Strings words octets
-  hex : {words : List Word} {octets : List ℕ} → words ≢ [] → ArePlain words → decode_of (bytes_of words) ≡ Ok octets → IsRest rest.Hex words octets
-  base64 : {words : List Word} {octets : List ℕ} → words ≢ [] → ArePlain words → IsBytes octets → bytes_of words ≡ encode_of standard octets → IsRest rest.Base64 words octets
-  types : {words : List Word} {octets : List ℕ} → IsTypeSet words octets → IsRest rest.Types words octets
-  service : {words : List Word} {octets : List ℕ} → AreServiceParameters words octets → IsRest rest.ServiceParameters words octets
+-- base 64; a set of types; the parameters of a service; the ports of services; address
+-- prefixes; a gateway with its key; or the identity of a host.
+pub data IsRest (origin : Option DomainName) : Rest → List Word → List ℕ → Type 0 where
+  nothing : IsRest origin rest.Nothing [] []
+  strings : {words : List Word} {octets : List ℕ} → words ≢ [] → AreStrings words octets → IsRest origin rest.Strings words octets
+  hex : {words : List Word} {octets : List ℕ} → words ≢ [] → ArePlain words → decode_of (bytes_of words) ≡ Ok octets → IsRest origin rest.Hex words octets
+  base64 : {words : List Word} {octets : List ℕ} → IsBase64 words octets → IsRest origin rest.Base64 words octets
+  types : {words : List Word} {octets : List ℕ} → IsTypeSet words octets → IsRest origin rest.Types words octets
+  service : {words : List Word} {octets : List ℕ} → AreServiceParameters words octets → IsRest origin rest.ServiceParameters words octets
+  ports : {words : List Word} {octets : List ℕ} → ArePortBits words octets → IsRest origin rest.Services words octets
+  prefixes : {words : List Word} {octets : List ℕ} → ArePrefixes words octets → IsRest origin rest.Prefixes words octets
+  gateway : {words : List Word} {octets : List ℕ} → IsGateway origin words octets → IsRest origin rest.Gateway words octets
+  host : {first second third : Word} {servers : List Word} {octets : List ℕ} → IsIdentity origin first second third servers octets → IsRest origin rest.HostIdentity (first ∷ second ∷ third ∷ servers) octets
 
 -- words for the data of a row: its fields, and what stands behind them
 pub record IsRow (origin : Option DomainName) (row : TypeRow) (words : List Word) (octets : List ℕ) : Type 0 where
@@ -150,7 +239,7 @@ pub record IsRow (origin : Option DomainName) (row : TypeRow) (words : List Word
   pub in_order : words ≡ front ++ behind
   pub together : octets ≡ front_octets ++ behind_octets
   pub fields : AreFields origin row.fields front front_octets
-  pub rest : IsRest row.rest behind behind_octets
+  pub rest : IsRest origin row.rest behind behind_octets
 
 -- The words are data of a type in its form, and these are their octets.
 pub data IsData (origin : Option DomainName) (number : ℕ) : List Word → List ℕ → Type 0 where

@@ -33,3 +33,7 @@ window_octets types window = with_len (window_len types window) where
 abbrev pub windows : List ℕ → ℕ → List ℕ
 windows types zero = []
 windows types (suc n) = windows types n ++ window_octets types n
+
+-- how many octets a bitmap has that goes to the octet of the greatest of some numbers
+abbrev pub bitmap_len : List ℕ → ℕ
+bitmap_len numbers = fold (λ len n. max len (n / 8 + 1)) 0 numbers

@@ -1,10 +1,10 @@
 -- The types of records that have a form in text, one row a type: number, mnemonic, and what their data are made of. Beside each stands the section that says so.
 use Rattle.std.specs.Prelude.{ℕ, ◌==◌, List, [], ◌∷◌, codes, find, Option}
 use Rattle.record_text.specs.declared.data.field.Field.{Field}
-use Rattle.record_text.specs.declared.data.field.Field.TheVariants.{Number8, Number16, Number32, Named8, Named16, Time, Name, String, Text, Ipv4, Ipv6, RecordType, Moment, Salt, Hash, Eui48, Eui64, Locator64}
-use Rattle.record_text.specs.declared.data.field.Names.TheVariants.{Algorithms, Certificates, Digests}
+use Rattle.record_text.specs.declared.data.field.Field.TheVariants.{Number8, Number16, Number32, Named8, Named16, Time, Name, String, Text, Ipv4, Ipv6, RecordType, Moment, Salt, Hash, Eui48, Eui64, Locator64, Nsap}
+use Rattle.record_text.specs.declared.data.field.Names.TheVariants.{Algorithms, Certificates, Digests, Protocols, Schemes}
 use Rattle.record_text.specs.declared.data.field.Rest.{Rest}
-use Rattle.record_text.specs.declared.data.field.Rest.TheVariants.{Nothing, Strings, Hex, Base64, Types, ServiceParameters, Generic}
+use Rattle.record_text.specs.declared.data.field.Rest.TheVariants.{Nothing, Strings, Hex, Base64, Types, ServiceParameters, Services, Prefixes, Gateway, HostIdentity, Generic}
 
 -- A type: its number, its mnemonic, the fields that its data begin with, each of one word, and what all words behind them stand for.
 pub record TypeRow : Type 0 where
@@ -29,6 +29,7 @@ rows =
     ∷ row 8 (codes "MG") (Name ∷ []) Nothing  -- RFC 1035 section 3.3.6
     ∷ row 9 (codes "MR") (Name ∷ []) Nothing  -- RFC 1035 section 3.3.8
     ∷ row 10 (codes "NULL") [] Generic  -- RFC 1035 section 3.3.10
+    ∷ row 11 (codes "WKS") (Ipv4 ∷ Named8 Protocols ∷ []) Services  -- RFC 1035 section 3.4.2
     ∷ row 12 (codes "PTR") (Name ∷ []) Nothing  -- RFC 1035 section 3.3.12
     ∷ row 13 (codes "HINFO") (String ∷ String ∷ []) Nothing  -- RFC 1035 section 3.3.2
     ∷ row 14 (codes "MINFO") (Name ∷ Name ∷ []) Nothing  -- RFC 1035 section 3.3.7
@@ -39,20 +40,26 @@ rows =
     ∷ row 19 (codes "X25") (String ∷ []) Nothing  -- RFC 1183 section 3.1
     ∷ row 20 (codes "ISDN") [] Strings  -- RFC 1183 section 3.2
     ∷ row 21 (codes "RT") (Number16 ∷ Name ∷ []) Nothing  -- RFC 1183 section 3.3
+    ∷ row 22 (codes "NSAP") (Nsap ∷ []) Nothing  -- RFC 1706 section 5
     ∷ row 23 (codes "NSAP-PTR") (Name ∷ []) Nothing  -- RFC 1348
     ∷ row 24 (codes "SIG") (RecordType ∷ Named8 Algorithms ∷ Number8 ∷ Time ∷ Moment ∷ Moment ∷ Number16 ∷ Name ∷ []) Base64  -- RFC 2535 section 4
     ∷ row 25 (codes "KEY") (Number16 ∷ Number8 ∷ Named8 Algorithms ∷ []) Base64  -- RFC 2535 section 3
     ∷ row 26 (codes "PX") (Number16 ∷ Name ∷ Name ∷ []) Nothing  -- RFC 2163 section 4
     ∷ row 27 (codes "GPOS") (String ∷ String ∷ String ∷ []) Nothing  -- RFC 1712
     ∷ row 28 (codes "AAAA") (Ipv6 ∷ []) Nothing  -- RFC 3596 section 2.1
+    ∷ row 31 (codes "EID") [] Hex  -- IANA's registry
+    ∷ row 32 (codes "NIMLOC") [] Hex  -- IANA's registry
     ∷ row 33 (codes "SRV") (Number16 ∷ Number16 ∷ Number16 ∷ Name ∷ []) Nothing  -- RFC 2782
     ∷ row 35 (codes "NAPTR") (Number16 ∷ Number16 ∷ String ∷ String ∷ String ∷ Name ∷ []) Nothing  -- RFC 3403 section 4.1
     ∷ row 36 (codes "KX") (Number16 ∷ Name ∷ []) Nothing  -- RFC 2230 section 3.1
     ∷ row 37 (codes "CERT") (Named16 Certificates ∷ Number16 ∷ Named8 Algorithms ∷ []) Base64  -- RFC 4398 section 2
     ∷ row 39 (codes "DNAME") (Name ∷ []) Nothing  -- RFC 6672 section 2.1
+    ∷ row 40 (codes "SINK") (Number8 ∷ Number8 ∷ Number8 ∷ []) Base64  -- IANA's registry
     ∷ row 41 (codes "OPT") [] Generic  -- RFC 6891 section 6.1
+    ∷ row 42 (codes "APL") [] Prefixes  -- RFC 3123 section 5
     ∷ row 43 (codes "DS") (Number16 ∷ Named8 Algorithms ∷ Named8 Digests ∷ []) Hex  -- RFC 4034 section 5.3
     ∷ row 44 (codes "SSHFP") (Number8 ∷ Number8 ∷ []) Hex  -- RFC 4255 section 3.2
+    ∷ row 45 (codes "IPSECKEY") (Number8 ∷ []) Gateway  -- RFC 4025 section 3.1
     ∷ row 46 (codes "RRSIG") (RecordType ∷ Named8 Algorithms ∷ Number8 ∷ Time ∷ Moment ∷ Moment ∷ Number16 ∷ Name ∷ []) Base64  -- RFC 4034 section 3.2
     ∷ row 47 (codes "NSEC") (Name ∷ []) Types  -- RFC 4034 section 4
     ∷ row 48 (codes "DNSKEY") (Number16 ∷ Number8 ∷ Named8 Algorithms ∷ []) Base64  -- RFC 4034 section 2.2
@@ -61,7 +68,9 @@ rows =
     ∷ row 51 (codes "NSEC3PARAM") (Number8 ∷ Number8 ∷ Number16 ∷ Salt ∷ []) Nothing  -- RFC 5155 section 4
     ∷ row 52 (codes "TLSA") (Number8 ∷ Number8 ∷ Number8 ∷ []) Hex  -- RFC 6698 section 2.2
     ∷ row 53 (codes "SMIMEA") (Number8 ∷ Number8 ∷ Number8 ∷ []) Hex  -- RFC 8162 section 2
+    ∷ row 55 (codes "HIP") [] HostIdentity  -- RFC 8005 section 6
     ∷ row 56 (codes "NINFO") [] Strings  -- IANA's registry
+    ∷ row 57 (codes "RKEY") (Number16 ∷ Number8 ∷ Named8 Algorithms ∷ []) Base64  -- IANA's registry
     ∷ row 58 (codes "TALINK") (Name ∷ Name ∷ []) Nothing  -- IANA's registry
     ∷ row 59 (codes "CDS") (Number16 ∷ Named8 Algorithms ∷ Named8 Digests ∷ []) Hex  -- RFC 7344 section 3.1
     ∷ row 60 (codes "CDNSKEY") (Number16 ∷ Number8 ∷ Named8 Algorithms ∷ []) Base64  -- RFC 7344 section 3.2
@@ -70,6 +79,9 @@ rows =
     ∷ row 63 (codes "ZONEMD") (Number32 ∷ Number8 ∷ Number8 ∷ []) Hex  -- RFC 8976 section 2.3
     ∷ row 64 (codes "SVCB") (Number16 ∷ Name ∷ []) ServiceParameters  -- RFC 9460 section 2.1
     ∷ row 65 (codes "HTTPS") (Number16 ∷ Name ∷ []) ServiceParameters  -- RFC 9460 section 9
+    ∷ row 66 (codes "DSYNC") (RecordType ∷ Named8 Schemes ∷ Number16 ∷ Name ∷ []) Nothing  -- RFC 9859 section 2.2
+    ∷ row 67 (codes "HHIT") [] Base64  -- RFC 9886 section 5
+    ∷ row 68 (codes "BRID") [] Base64  -- RFC 9886 section 5
     ∷ row 99 (codes "SPF") [] Strings  -- RFC 4408 section 3.1.1
     ∷ row 104 (codes "NID") (Number16 ∷ Locator64 ∷ []) Nothing  -- RFC 6742 section 2.1
     ∷ row 105 (codes "L32") (Number16 ∷ Ipv4 ∷ []) Nothing  -- RFC 6742 section 2.2
@@ -86,6 +98,8 @@ rows =
     ∷ row 256 (codes "URI") (Number16 ∷ Number16 ∷ Text ∷ []) Nothing  -- RFC 7553 section 4
     ∷ row 257 (codes "CAA") (Number8 ∷ String ∷ Text ∷ []) Nothing  -- RFC 8659 section 4.1.1
     ∷ row 258 (codes "AVC") [] Strings  -- IANA's registry
+    ∷ row 261 (codes "RESINFO") [] Strings  -- RFC 9606 section 5
+    ∷ row 262 (codes "WALLET") [] Strings  -- IANA's registry
     ∷ row 32768 (codes "TA") (Number16 ∷ Named8 Algorithms ∷ Named8 Digests ∷ []) Hex  -- IANA's registry
     ∷ row 32769 (codes "DLV") (Number16 ∷ Named8 Algorithms ∷ Named8 Digests ∷ []) Hex  -- RFC 4431
     ∷ []

@@ -3,10 +3,15 @@
 mod field;
 mod fields;
 mod forms;
+mod gateway;
 mod hashes;
 mod hex_groups;
+mod host_identity;
 mod mnemonics;
 mod moment;
+mod nsap;
+mod ports;
+mod prefixes;
 pub(crate) mod rest;
 pub(crate) mod table;
 mod types;

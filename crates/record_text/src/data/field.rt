@@ -9,6 +9,12 @@ pub(crate) enum Names {
     Certificates,
     /// Algorithms of digests (RFC 4034 appendix A.2).
     Digests,
+    /// Protocols over IP (RFC 1035 section 3.4.2).
+    Protocols,
+    /// Services at ports below 256 (RFC 1035 section 3.4.2).
+    Services,
+    /// Schemes of notification (RFC 9859 section 2.1).
+    Schemes,
 }
 
 /// A field that one word of the text stands for.
@@ -50,6 +56,10 @@ pub(crate) enum Field {
     Eui64,
     /// The identifier of a node, or a locator, of 64 bits (RFC 6742 section 2.1.2).
     Locator64,
+    /// The dot that stands where there is no gateway, for no bytes (RFC 4025 section 3.1).
+    NoGateway,
+    /// An address of the OSI network layer (RFC 1706 section 5).
+    Nsap,
 }
 
 /// What the words stand for that are left behind the fields.
@@ -67,6 +77,14 @@ pub(crate) enum Rest {
     Types,
     /// The parameters of a service (RFC 9460 section 2.1).
     ServiceParameters,
+    /// The ports of services, as the bits of a bitmap (RFC 1035 section 3.4.2).
+    Services,
+    /// Address prefixes (RFC 3123).
+    Prefixes,
+    /// A gateway, with the key to it (RFC 4025 section 2).
+    Gateway,
+    /// The identity of a host, with the servers where it is met (RFC 8005 section 5).
+    HostIdentity,
     /// Bytes in the form that is one for all types, which is the only one of the type (RFC 3597 section 5).
     Generic,
 }

@@ -1,6 +1,6 @@
 //! Fields that one word stands for, as bytes.
 
-ghost use Rattle.std.specs.Prelude.{◌≡◌, ◌≢◌, ◌<◌, ◌^◌, false, List, IfErr, IfOk, OnErr, OnOk, Option};
+ghost use Rattle.std.specs.Prelude.{◌≡◌, ◌≢◌, ◌<◌, ◌^◌, false, List, [], ◌∷◌, IfErr, IfOk, OnErr, OnOk, Option};
 ghost use Rattle.std.specs.Option.{option_copied};
 ghost use Rattle.std.specs.Net.Grammar.{IsIpv4Text, IsIpv6Text};
 ghost use Rattle.wire_names.specs.rr.domain.DomainName.{DomainName};
@@ -16,6 +16,7 @@ use crate::data::hashes::{put_hash, put_salt};
 use crate::data::hex_groups::{put_eui48, put_eui64, put_locator64};
 use crate::data::mnemonics::{put_named8, put_named16};
 use crate::data::moment::moment;
+use crate::data::nsap::put_nsap;
 use crate::data::table::type_of;
 use hickory_wire::Name;
 use std::alloc::Global;
@@ -55,7 +56,7 @@ pub(crate) fn ipv6(word: &Word<'_>) -> Result<Ipv6Addr, TextError>
 }
 
 /// The number of 8 bits that a word is.
-fn number8(word: &Word<'_>) -> Result<u8, TextError>
+pub(crate) fn number8(word: &Word<'_>) -> Result<u8, TextError>
     ensures spelled { IfOk result (λ n. (word.now.quoted ≡ false) × IsNumber word.now.bytes.now n × (n < 2 ^ 8)) }
     ensures refused { OnErr result (HasNone (λ n. (word.now.quoted ≡ false) × IsNumber word.now.bytes.now n × (n < 2 ^ 8))) }
 {
@@ -116,7 +117,7 @@ fn put_time(word: &Word<'_>, data: &mut Vec<u8>) -> Result<(), TextError>
     Ok(())
 }
 
-fn put_name(
+pub(crate) fn put_name(
     alloc: Global,
     word: &Word<'_>,
     origin: Option<&Name>,
@@ -167,6 +168,22 @@ fn put_moment(word: &Word<'_>, data: &mut Vec<u8>) -> Result<(), TextError>
     Ok(())
 }
 
+/// Asks whether a word is the dot that stands where there is no gateway, for no bytes.
+fn no_gateway(word: &Word<'_>) -> Result<(), TextError>
+    ensures dot { OnOk result ((word.now.quoted ≡ false) × (word.now.bytes.now ≡ 46 ∷ [])) }
+    ensures refused { OnErr result ((word.now.quoted ≡ false) → (word.now.bytes.now ≡ 46 ∷ []) → ⊥) }
+{
+    let bad = word.fault(TextFault::BadName);
+    if word.quoted {
+        return Err(bad);
+    }
+    if word.bytes == b".".as_slice() {
+        Ok(())
+    } else {
+        Err(bad)
+    }
+}
+
 /// Puts the bytes of a field behind others.
 pub(crate) fn put_field(
     alloc: Global,
@@ -197,6 +214,8 @@ pub(crate) fn put_field(
         Field::Eui48 => put_eui48(word, data),
         Field::Eui64 => put_eui64(word, data),
         Field::Locator64 => put_locator64(word, data),
+        Field::NoGateway => no_gateway(word),
+        Field::Nsap => put_nsap(alloc, word, data),
     }
 }
 

@@ -89,7 +89,7 @@ fn strings(alloc: Global, words: &[Word<'_>]) -> Result<Items<Octets>, TextError
     Ok(strings)
 }
 
-/// Data of a type that has no form of its own, as bytes.
+/// Data of a type that has no form of its own, as bytes, which may be none.
 fn as_bytes(
     alloc: Global,
     record_type: RecordType,
@@ -107,7 +107,10 @@ fn as_bytes(
     };
     let mut bytes = Vec::new(alloc);
     let behind = put_fields(alloc, row.fields, words, end, origin, &mut bytes)?;
-    put_rest(alloc, row.rest, behind, end, &mut bytes)?;
+    put_rest(alloc, row.rest, behind, end, origin, &mut bytes)?;
+    if bytes.is_empty() {
+        return Ok(RData::Update0(record_type));
+    }
     Ok(RData::Unknown {
         code: record_type,
         bytes: Octets::from_vec(bytes),

@@ -1,4 +1,4 @@
-//! Mnemonics of numbers: algorithms, types of certificates, and algorithms of digests.
+//! Mnemonics of numbers: of algorithms, types of certificates, digests, protocols, services and schemes of notification.
 
 ghost use Rattle.std.specs.Prelude.{◌≡◌, ◌≢◌, Any, Option, map, IfErr, IfNone, IfSome, OnOk};
 ghost use Rattle.wire_names.specs.rr.domain.DomainName.{DomainName};
@@ -179,6 +179,212 @@ static DIGESTS: [Mnemonic; 7] = [
     },
 ];
 
+/// Protocols over IP (RFC 1010, IANA's registry), as BIND and the systems have them.
+static PROTOCOLS: [Mnemonic; 11] = [
+    Mnemonic {
+        number: 0,
+        letters: "IP",
+    },
+    Mnemonic {
+        number: 1,
+        letters: "ICMP",
+    },
+    Mnemonic {
+        number: 2,
+        letters: "IGMP",
+    },
+    Mnemonic {
+        number: 3,
+        letters: "GGP",
+    },
+    Mnemonic {
+        number: 6,
+        letters: "TCP",
+    },
+    Mnemonic {
+        number: 8,
+        letters: "EGP",
+    },
+    Mnemonic {
+        number: 12,
+        letters: "PUP",
+    },
+    Mnemonic {
+        number: 17,
+        letters: "UDP",
+    },
+    Mnemonic {
+        number: 20,
+        letters: "HMP",
+    },
+    Mnemonic {
+        number: 22,
+        letters: "XNS-IDP",
+    },
+    Mnemonic {
+        number: 27,
+        letters: "RDP",
+    },
+];
+
+/// Services at ports below 256 (RFC 1010, IANA's registry), as the systems have them.
+static SERVICES: [Mnemonic; 37] = [
+    Mnemonic {
+        number: 7,
+        letters: "ECHO",
+    },
+    Mnemonic {
+        number: 9,
+        letters: "DISCARD",
+    },
+    Mnemonic {
+        number: 11,
+        letters: "SYSTAT",
+    },
+    Mnemonic {
+        number: 13,
+        letters: "DAYTIME",
+    },
+    Mnemonic {
+        number: 15,
+        letters: "NETSTAT",
+    },
+    Mnemonic {
+        number: 17,
+        letters: "QOTD",
+    },
+    Mnemonic {
+        number: 19,
+        letters: "CHARGEN",
+    },
+    Mnemonic {
+        number: 20,
+        letters: "FTP-DATA",
+    },
+    Mnemonic {
+        number: 21,
+        letters: "FTP",
+    },
+    Mnemonic {
+        number: 22,
+        letters: "SSH",
+    },
+    Mnemonic {
+        number: 23,
+        letters: "TELNET",
+    },
+    Mnemonic {
+        number: 25,
+        letters: "SMTP",
+    },
+    Mnemonic {
+        number: 37,
+        letters: "TIME",
+    },
+    Mnemonic {
+        number: 43,
+        letters: "WHOIS",
+    },
+    Mnemonic {
+        number: 49,
+        letters: "TACACS",
+    },
+    Mnemonic {
+        number: 53,
+        letters: "DOMAIN",
+    },
+    Mnemonic {
+        number: 67,
+        letters: "BOOTPS",
+    },
+    Mnemonic {
+        number: 68,
+        letters: "BOOTPC",
+    },
+    Mnemonic {
+        number: 69,
+        letters: "TFTP",
+    },
+    Mnemonic {
+        number: 70,
+        letters: "GOPHER",
+    },
+    Mnemonic {
+        number: 79,
+        letters: "FINGER",
+    },
+    Mnemonic {
+        number: 80,
+        letters: "HTTP",
+    },
+    Mnemonic {
+        number: 80,
+        letters: "WWW",
+    },
+    Mnemonic {
+        number: 88,
+        letters: "KERBEROS",
+    },
+    Mnemonic {
+        number: 110,
+        letters: "POP3",
+    },
+    Mnemonic {
+        number: 111,
+        letters: "SUNRPC",
+    },
+    Mnemonic {
+        number: 113,
+        letters: "AUTH",
+    },
+    Mnemonic {
+        number: 119,
+        letters: "NNTP",
+    },
+    Mnemonic {
+        number: 123,
+        letters: "NTP",
+    },
+    Mnemonic {
+        number: 137,
+        letters: "NETBIOS-NS",
+    },
+    Mnemonic {
+        number: 138,
+        letters: "NETBIOS-DGM",
+    },
+    Mnemonic {
+        number: 139,
+        letters: "NETBIOS-SSN",
+    },
+    Mnemonic {
+        number: 143,
+        letters: "IMAP2",
+    },
+    Mnemonic {
+        number: 161,
+        letters: "SNMP",
+    },
+    Mnemonic {
+        number: 162,
+        letters: "SNMP-TRAP",
+    },
+    Mnemonic {
+        number: 179,
+        letters: "BGP",
+    },
+    Mnemonic {
+        number: 194,
+        letters: "IRC",
+    },
+];
+
+/// Schemes of notification (RFC 9859 section 6.2).
+static SCHEMES: [Mnemonic; 1] = [Mnemonic {
+    number: 1,
+    letters: "NOTIFY",
+}];
+
 /// The mnemonics of numbers.
 fn table_of(names: Names) -> &'static [Mnemonic]
     ensures { map mnemonic_view result.now ≡ mnemonics names }
@@ -187,6 +393,9 @@ fn table_of(names: Names) -> &'static [Mnemonic]
         Names::Algorithms => &ALGORITHMS,
         Names::Certificates => &CERTIFICATES,
         Names::Digests => &DIGESTS,
+        Names::Protocols => &PROTOCOLS,
+        Names::Services => &SERVICES,
+        Names::Schemes => &SCHEMES,
     }
 }
 
@@ -202,7 +411,7 @@ fn number_called(table: &[Mnemonic], letters: &[u8]) -> Option<u8>
 }
 
 /// The number that a mnemonic names, the letters of which may have any case.
-fn number_named(names: Names, letters: &[u8]) -> Option<u8>
+pub(crate) fn number_named(names: Names, letters: &[u8]) -> Option<u8>
     ensures named { IfSome result (IsNamed names letters.now) }
     ensures none { IfNone result (HasNone (IsNamed names letters.now)) }
 {

@@ -1,18 +1,22 @@
 //! What the words behind the fields stand for.
 
 ghost use Rattle.std.specs.Prelude.{◌≡◌, ◌≢◌, IfErr, IfOk, OnOk};
-ghost use Rattle.base64.specs.Engines.{standard};
-ghost use Rattle.base64.specs.GeneralPurpose.{IsBytes, encode_of};
+ghost use Rattle.std.specs.Option.{option_copied};
 ghost use Rattle.hex.specs.Hex.{decode_of};
 ghost use Rattle.text_words.specs.declared.error.TextError.TheVariants.{Memory};
 ghost use Rattle.text_words.specs.Spelling.{Puts};
-ghost use Rattle.record_text.specs.RecordText.{AreStrings, ArePlain, HasNone, IsRest, bytes_of};
+ghost use Rattle.record_text.specs.RecordText.{AreStrings, ArePlain, HasNone, IsBase64, IsRest, bytes_of};
 
 use crate::data::field::Rest;
+use crate::data::gateway::put_gateway;
+use crate::data::host_identity::put_host;
+use crate::data::ports::put_ports;
+use crate::data::prefixes::put_prefixes;
 use crate::data::types::put_types;
 use base64::DecodeAllocError;
 use base64::engine::general_purpose::STANDARD;
 use hex::FromHexError;
+use hickory_wire::Name;
 use service_text::put_parameters;
 use std::alloc::Global;
 use text_words::{TextError, TextFault, Word, fault_at, put_string};
@@ -65,11 +69,19 @@ fn put_hex(alloc: Global, words: &[Word<'_>], data: &mut Vec<u8>) -> Result<(), 
     Ok(())
 }
 
-/// Puts the bytes behind others whose encoding in base 64 the words are.
-fn put_base64(alloc: Global, words: &[Word<'_>], data: &mut Vec<u8>) -> Result<(), TextError>
-    ensures put { OnOk result (ArePlain words.now × Puts (λ octets. IsBytes octets × (bytes_of words.now ≡ encode_of standard octets)) «data».old.items «data».new.items) }
-    ensures refused { IfErr result (λ e. e ≢ Memory → HasNone (λ octets. ArePlain words.now × IsBytes octets × (bytes_of words.now ≡ encode_of standard octets))) }
+/// Puts the bytes behind others whose encoding in base 64 the words are. `end` is the place where a word is missing.
+pub(crate) fn put_base64(
+    alloc: Global,
+    words: &[Word<'_>],
+    end: usize,
+    data: &mut Vec<u8>,
+) -> Result<(), TextError>
+    ensures put { OnOk result (Puts (IsBase64 words.now) «data».old.items «data».new.items) }
+    ensures refused { IfErr result (λ e. e ≢ Memory → HasNone (IsBase64 words.now)) }
 {
+    if words.is_empty() {
+        return Err(fault_at(end, TextFault::MissingField));
+    }
     let text = joined(alloc, words, TextFault::BadBase64)?;
     match STANDARD.decode(alloc, text.as_slice()) {
         Ok(bytes) => {
@@ -98,10 +110,11 @@ pub(crate) fn put_rest(
     rest: Rest,
     words: &[Word<'_>],
     end: usize,
+    origin: Option<&Name>,
     data: &mut Vec<u8>,
 ) -> Result<(), TextError>
-    ensures put { OnOk result (Puts (IsRest rest words.now) «data».old.items «data».new.items) }
-    ensures refused { IfErr result (λ e. e ≢ Memory → HasNone (IsRest rest words.now)) }
+    ensures put { OnOk result (Puts (IsRest (option_copied origin.entry) rest words.now) «data».old.items «data».new.items) }
+    ensures refused { IfErr result (λ e. e ≢ Memory → HasNone (IsRest (option_copied origin.entry) rest words.now)) }
 {
     match (rest, words.first()) {
         (Rest::Nothing, None) => Ok(()),
@@ -109,12 +122,15 @@ pub(crate) fn put_rest(
         (Rest::Generic, Some(word)) => Err(word.fault(TextFault::NoTextForm)),
         (Rest::Types, _) => put_types(alloc, words, data),
         (Rest::ServiceParameters, _) => put_parameters(alloc, words, data),
+        (Rest::Services, _) => put_ports(alloc, words, data),
+        (Rest::Prefixes, _) => put_prefixes(alloc, words, data),
+        (Rest::Gateway, _) => put_gateway(alloc, words, end, origin, data),
+        (Rest::HostIdentity, _) => put_host(alloc, words, end, origin, data),
         (Rest::Generic, None) => Err(fault_at(end, TextFault::MissingField)),
         (Rest::Strings, None) => Err(fault_at(end, TextFault::MissingField)),
         (Rest::Hex, None) => Err(fault_at(end, TextFault::MissingField)),
-        (Rest::Base64, None) => Err(fault_at(end, TextFault::MissingField)),
         (Rest::Strings, Some(_)) => put_strings(words, data),
         (Rest::Hex, Some(_)) => put_hex(alloc, words, data),
-        (Rest::Base64, Some(_)) => put_base64(alloc, words, data),
+        (Rest::Base64, _) => put_base64(alloc, words, end, data),
     }
 }

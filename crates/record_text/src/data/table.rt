@@ -10,7 +10,7 @@ use hickory_wire::RecordType;
 use text_words::{TextError, TextFault, Word, number_of_digits};
 
 /// The types by their numbers (RFC 1035 section 3.2.2, IANA's registry).
-static ROWS: [Row; 69] = [
+static ROWS: [Row; 83] = [
     Row {
         number: 1,
         mnemonic: "A",
@@ -80,6 +80,12 @@ static ROWS: [Row; 69] = [
         rest: Rest::Generic,
     },
     Row {
+        number: 11,
+        mnemonic: "WKS",
+        fields: &[Field::Ipv4, Field::Named8(Names::Protocols)],
+        rest: Rest::Services,
+    },
+    Row {
         number: 12,
         mnemonic: "PTR",
         fields: &[Field::Name],
@@ -140,6 +146,12 @@ static ROWS: [Row; 69] = [
         rest: Rest::Nothing,
     },
     Row {
+        number: 22,
+        mnemonic: "NSAP",
+        fields: &[Field::Nsap],
+        rest: Rest::Nothing,
+    },
+    Row {
         number: 23,
         mnemonic: "NSAP-PTR",
         fields: &[Field::Name],
@@ -189,6 +201,18 @@ static ROWS: [Row; 69] = [
         rest: Rest::Nothing,
     },
     Row {
+        number: 31,
+        mnemonic: "EID",
+        fields: &[],
+        rest: Rest::Hex,
+    },
+    Row {
+        number: 32,
+        mnemonic: "NIMLOC",
+        fields: &[],
+        rest: Rest::Hex,
+    },
+    Row {
         number: 33,
         mnemonic: "SRV",
         fields: &[
@@ -235,10 +259,22 @@ static ROWS: [Row; 69] = [
         rest: Rest::Nothing,
     },
     Row {
+        number: 40,
+        mnemonic: "SINK",
+        fields: &[Field::Number8, Field::Number8, Field::Number8],
+        rest: Rest::Base64,
+    },
+    Row {
         number: 41,
         mnemonic: "OPT",
         fields: &[],
         rest: Rest::Generic,
+    },
+    Row {
+        number: 42,
+        mnemonic: "APL",
+        fields: &[],
+        rest: Rest::Prefixes,
     },
     Row {
         number: 43,
@@ -255,6 +291,12 @@ static ROWS: [Row; 69] = [
         mnemonic: "SSHFP",
         fields: &[Field::Number8, Field::Number8],
         rest: Rest::Hex,
+    },
+    Row {
+        number: 45,
+        mnemonic: "IPSECKEY",
+        fields: &[Field::Number8],
+        rest: Rest::Gateway,
     },
     Row {
         number: 46,
@@ -324,10 +366,26 @@ static ROWS: [Row; 69] = [
         rest: Rest::Hex,
     },
     Row {
+        number: 55,
+        mnemonic: "HIP",
+        fields: &[],
+        rest: Rest::HostIdentity,
+    },
+    Row {
         number: 56,
         mnemonic: "NINFO",
         fields: &[],
         rest: Rest::Strings,
+    },
+    Row {
+        number: 57,
+        mnemonic: "RKEY",
+        fields: &[
+            Field::Number16,
+            Field::Number8,
+            Field::Named8(Names::Algorithms),
+        ],
+        rest: Rest::Base64,
     },
     Row {
         number: 58,
@@ -384,6 +442,29 @@ static ROWS: [Row; 69] = [
         mnemonic: "HTTPS",
         fields: &[Field::Number16, Field::Name],
         rest: Rest::ServiceParameters,
+    },
+    Row {
+        number: 66,
+        mnemonic: "DSYNC",
+        fields: &[
+            Field::RecordType,
+            Field::Named8(Names::Schemes),
+            Field::Number16,
+            Field::Name,
+        ],
+        rest: Rest::Nothing,
+    },
+    Row {
+        number: 67,
+        mnemonic: "HHIT",
+        fields: &[],
+        rest: Rest::Base64,
+    },
+    Row {
+        number: 68,
+        mnemonic: "BRID",
+        fields: &[],
+        rest: Rest::Base64,
     },
     Row {
         number: 99,
@@ -478,6 +559,18 @@ static ROWS: [Row; 69] = [
     Row {
         number: 258,
         mnemonic: "AVC",
+        fields: &[],
+        rest: Rest::Strings,
+    },
+    Row {
+        number: 261,
+        mnemonic: "RESINFO",
+        fields: &[],
+        rest: Rest::Strings,
+    },
+    Row {
+        number: 262,
+        mnemonic: "WALLET",
         fields: &[],
         rest: Rest::Strings,
     },

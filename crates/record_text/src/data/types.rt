@@ -57,7 +57,12 @@ fn window_len(types: &[u16], window: u16) -> u16
 }
 
 /// Puts bytes of a bitmap behind others, the first of them that of this type.
-fn put_bitmap(types: &[u16], first: u16, len: u16, data: &mut Vec<u8>) -> Result<(), AllocError>
+pub(crate) fn put_bitmap(
+    types: &[u16],
+    first: u16,
+    len: u16,
+    data: &mut Vec<u8>,
+) -> Result<(), AllocError>
     requires { first + 8 * len ≤ 65536 }
     ensures { OnOk result («data».new.items ≡ «data».old.items ++ bitmap types.now first len) }
 {

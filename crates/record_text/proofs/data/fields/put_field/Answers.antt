@@ -1,5 +1,5 @@
-use Rattle.std.proofs.Common.{ℕ, List, Result, Ok, Err, Option}
-use Rattle.std.specs.Prelude.{◌≢◌, IfErr, OnOk}
+use Rattle.std.proofs.Common.{◌≡◌, ℕ, false, List, [], ◌∷◌, Result, Ok, Err, Option, sym, append-nil}
+use Rattle.std.specs.Prelude.{◌≢◌, IfErr, OnErr, OnOk}
 use Rattle.std.specs.Option.{option_copied}
 use Rattle.wire_names.specs.rr.domain.DomainName.{DomainName}
 use Rattle.text_words.specs.declared.error.TextError.{TextError}
@@ -10,8 +10,8 @@ use Rattle.text_words.specs.declared.words.Word.{Word}
 use Rattle.text_words.specs.Spelling.{Spells, any_byte}
 use Rattle.text_words.specs.Spelling.{IsString, Puts}
 use Rattle.record_text.specs.RecordText.{HasNone, IsField}
-use Rattle.record_text.specs.RecordText.IsField.{string, text}
-use Rattle.record_text.proofs.NoField.{no_string, no_text}
+use Rattle.record_text.specs.RecordText.IsField.{no_gateway, string, text}
+use Rattle.record_text.proofs.NoField.{no_dot, no_string, no_text}
 use Rattle.record_text.proofs.data.fields.put_field.Goals as goal
 
 at : (r : Result (Unit {0}) TextError) (field : Field) (word : Word) (old new : List ℕ) (origin : Option DomainName) → OnOk r ((o : Option DomainName) → Puts (IsField o field word) old new) → OnOk r (Puts (IsField origin field word) old new)
@@ -141,3 +141,23 @@ returns-in-String-clause-refused c = rw c.in-String.is (refused_string c.put_str
 
 pub returns-in-Text-clause-refused : goal.returns-in-Text-clause-refused
 returns-in-Text-clause-refused c = rw c.in-Text.is (refused_text c.put_spelled.result c.args.word.now (option_copied c.args.origin) c.put_spelled.ensures.refused)
+
+pub returns-in-Nsap-clause-put : goal.returns-in-Nsap-clause-put
+returns-in-Nsap-clause-put c = rw c.in-Nsap.is (at c.put_nsap.result field.Nsap c.args.word.now c.args.data.now.items c.put_nsap.new.data.items (option_copied c.args.origin) c.put_nsap.ensures.put)
+
+pub returns-in-Nsap-clause-refused : goal.returns-in-Nsap-clause-refused
+returns-in-Nsap-clause-refused c = rw c.in-Nsap.is (refused_at c.put_nsap.result field.Nsap c.args.word.now (option_copied c.args.origin) c.put_nsap.ensures.refused)
+
+as_dot : (r : Result (Unit {0}) TextError) (word : Word) (old : List ℕ) (origin : Option DomainName) → OnOk r ((word.quoted ≡ false) × (word.bytes.now ≡ 46 ∷ [])) → OnOk r (Puts (IsField origin field.NoGateway word) old old)
+as_dot (Ok done) word old origin h = ([], sym (append-nil old), no_gateway h.0 h.1)
+as_dot (Err e) word old origin h = h
+
+refused_dot : (r : Result (Unit {0}) TextError) (word : Word) (origin : Option DomainName) → OnErr r ((word.quoted ≡ false) → (word.bytes.now ≡ 46 ∷ []) → ⊥) → IfErr r (λ e. e ≢ Memory → HasNone (IsField origin field.NoGateway word))
+refused_dot (Ok done) word origin h = h
+refused_dot (Err e) word origin h = λ other. no_dot word h origin
+
+pub returns-in-NoGateway-clause-put : goal.returns-in-NoGateway-clause-put
+returns-in-NoGateway-clause-put c = rw c.in-NoGateway.is (as_dot c.no_gateway.result c.args.word.now c.args.data.now.items (option_copied c.args.origin) c.no_gateway.ensures.dot)
+
+pub returns-in-NoGateway-clause-refused : goal.returns-in-NoGateway-clause-refused
+returns-in-NoGateway-clause-refused c = rw c.in-NoGateway.is (refused_dot c.no_gateway.result c.args.word.now (option_copied c.args.origin) c.no_gateway.ensures.refused)

@@ -99,4 +99,4 @@ returns-in_err-strings-in-TXT-len1-up-clause-refused c =
     let p = err_from_is_err_and c.from_residual-in_err-strings-in-TXT-len1-up.result c.from_residual-in_err-strings-in-TXT-len1-up.ensures.1 in
     let same : 16 ≡ c.args.record_type = search rules in
     rw (p.1, p.2) (λ other. under (option_copied c.args.origin) 16 c.args.record_type c.args.words.now same
-    (no_rest (option_copied c.args.origin) 16 (row 16 (codes "TXT") [] Strings) c.args.words.now refl refl (no_strings c.args.words.now (c.in_err-strings-in-TXT-len1-up.ensures.refused other))))
+    (no_rest (option_copied c.args.origin) 16 (row 16 (codes "TXT") [] Strings) c.args.words.now refl refl (no_strings (option_copied c.args.origin) c.args.words.now (c.in_err-strings-in-TXT-len1-up.ensures.refused other))))
