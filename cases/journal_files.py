@@ -34,6 +34,11 @@ def update(zone, records, key=None, opcode=5, required=()):
     return header + name(zone) + struct.pack(">HH", SOA, IN) + b"".join(required) + b"".join(records) + signature
 
 
+def said(record):
+    """An entry of a snapshot: a message with this one answer."""
+    return struct.pack(">HHHHHH", 0, 0x8000, 0, 1, 0, 0) + record
+
+
 def journal(entries, behind=b"\0"):
     return b"".join(b"\1" + struct.pack(">I", len(it)) + it for it in entries) + behind
 
@@ -43,6 +48,14 @@ TWO = update("example.com", [record("www.example.com", A, IN, 300, bytes([192, 0
 TAKEN = update("example.com", [record("www.example.com", A, NONE, 0, bytes([192, 0, 2, 1])), record("note.example.com", ANY_TYPE, ANY, 0, b"")])
 OTHER = update("example.net", [record("www.example.net", A, IN, 300, bytes([192, 0, 2, 1]))])
 QUERY = update("example.com", [], opcode=0)
+
+SOA_DATA = name("ns1.example.com") + name("hostmaster.example.com") + struct.pack(">IIIII", 9, 7200, 900, 1209600, 3600)
+SNAPSHOT = [
+    said(record("example.com", NS, IN, 3600, name("ns1.example.com"))),
+    said(record("example.com", SOA, IN, 3600, SOA_DATA)),
+    said(record("ns1.example.com", A, IN, 3600, bytes([192, 0, 2, 53]))),
+    said(record("quoted.example.com", TXT, IN, 60, b"\3a\"b\1\\")),
+]
 
 FILES = {
     "none.journal": b"",
@@ -54,6 +67,7 @@ FILES = {
     "no_gate.journal": journal([ADDED], b""),
     "open.journal": journal([ADDED], b"\1"),
     "generation.journal": journal([(7).to_bytes(8, "big"), ADDED]),
+    "compacted.journal": journal([(7).to_bytes(8, "big"), *SNAPSHOT, b"", TWO]),
     "generation_late.journal": journal([ADDED, (7).to_bytes(8, "big")]),
     "other_zone.journal": journal([ADDED, OTHER]),
     "query.journal": journal([QUERY, ADDED]),

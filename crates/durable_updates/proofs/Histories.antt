@@ -106,8 +106,8 @@ module _ {V D : Type 0} (by : Ghosts V) (disks : DiskGhosts D) where
         → InStep base before life old → Took requests (Ok told) old new → (is_open : Bool) → InStep base before (after_answer {T = T} life requests (Ok told) is_open) new
     taken life requests told old new step took is_open = record {
       redone = λ read.
-          subst (λ (l : List (List ℕ)). Redone l base new.zone.zone) (sym (bytes_more before life.acknowledged requests))
-          (more (before ++ bytes_of life.acknowledged) (bytes_of requests) base old.zone.zone new.zone.zone (step.redone (front_read life.acknowledged requests read)) (took.made (back_read life.acknowledged requests read)));
+          subst (λ (l : List (List ℕ)). Redone l base new.zone.zone) (sym (bytes_more [] life.acknowledged requests))
+          (more (bytes_of life.acknowledged) (bytes_of requests) base old.zone.zone new.zone.zone (step.redone (front_read life.acknowledged requests read)) (took.made (back_read life.acknowledged requests read)));
       journal_is = by_journal step.journal_is took.journals.opened;
     }
       where
@@ -134,7 +134,7 @@ module _ {V D : Type 0} (by : Ghosts V) (disks : DiskGhosts D) where
     denied : {T : Type 0} (life : Life) (requests : List ReceivedRequest) (fault : UpdateFault) (old new : Server V D)
         → InStep base before life old → Took {T = T} requests (Err fault) old new → (is_open : Bool) → new.journal.is_open ≡ is_open → InStep base before (after_answer {T = T} life requests (Err fault) is_open) new
     denied life requests fault old new step took true is = record {
-      redone = λ read. subst (λ (z : UpdatableZone V). Redone (before ++ bytes_of life.acknowledged) base z.zone) (sym took.kept) (step.redone read);
+      redone = λ read. subst (λ (z : UpdatableZone V). Redone (bytes_of life.acknowledged) base z.zone) (sym took.kept) (step.redone read);
       journal_is = by_journal took.journals.refused;
     }
       where
@@ -143,7 +143,7 @@ module _ {V D : Type 0} (by : Ghosts V) (disks : DiskGhosts D) where
         by_journal (inl same) = subst (λ (j : JournalState D). IsOpen disks (before ++ bytes_of life.acknowledged) life.in_doubt j ⊎ IsFailed disks (before ++ bytes_of life.acknowledged) life.in_doubt j) (sym same) step.journal_is
         by_journal (inr failed) = true_not_false new.journal.is_open is failed.1
     denied life requests fault old new step took false is = record {
-      redone = λ read. subst (λ (z : UpdatableZone V). Redone (before ++ bytes_of life.acknowledged) base z.zone) (sym took.kept) (step.redone read);
+      redone = λ read. subst (λ (z : UpdatableZone V). Redone (bytes_of life.acknowledged) base z.zone) (sym took.kept) (step.redone read);
       journal_is = by_journal step.journal_is took.journals.refused;
     }
       where
@@ -227,12 +227,12 @@ module _ {V D : Type 0} (by : Ghosts V) (disks : DiskGhosts D) where
       read_after earlier (accepted requests all.answers.judged) all.answers.written server.journal.is_open (all_read most first old earlier so_far) (accepted_read requests all.answers.judged read)
 
   -- a server that has started
-  pub started : (base : MemoryZone) (file : List ℕ) (server : Server V D) (s : Starts by disks base file server) → StandsFor file (contents s.found.entries.items) × InStep base (contents s.found.entries.items) unused server
+  pub started : (base : MemoryZone) (file : List ℕ) (server : Server V D) (s : Starts by disks base file server) → StandsFor file (contents s.found.entries.items) × InStep server.zone.zone (contents s.found.entries.items) unused server
   started base file server s =
       let E : List (List ℕ) = contents s.found.entries.items in (
         subst (λ f. StandsFor f (contents s.found.entries.items)) s.opens.there (s.opens.recovers.found s.opens.clean),
         record {
-          redone = λ read. subst (λ (l : List (List ℕ)). Redone l base server.zone.zone) (sym (append-nil (contents s.found.entries.items))) s.redone;
+          redone = λ read. refl;
           journal_is = inl (record {
             takes = ap (λ (j : JournalState D). j.is_open) s.journal;
             none = refl;
@@ -257,18 +257,18 @@ module _ {V D : Type 0} (by : Ghosts V) (disks : DiskGhosts D) where
   one_life most some base lives file life next so_far (while_starting opens left) =
       ((so_far.0, opens.recovers.crash opens.clean so_far.0 (subst (λ f. StandsFor f so_far.0) (sym opens.there) so_far.1) next left, (so_far.0, so_far.2, inl (sym (append-nil so_far.0)))), omega arith)
   one_life most some base lives file life next so_far (between_requests {first = first} {server = server} s serves left) =
-      let step = goes_on base (contents s.found.entries.items) most first server life (started base file first s).1 serves in
-      (left_by lives life (contents s.found.entries.items) next (recovered base lives file first so_far s) (left_between base (contents s.found.entries.items) life server step next left), few most some first server life serves)
+      let step = goes_on first.zone.zone (contents s.found.entries.items) most first server life (started base file first s).1 serves in
+      (left_by lives life (contents s.found.entries.items) next (recovered base lives file first so_far s) (left_between first.zone.zone (contents s.found.entries.items) life server step next left), few most some first server life serves)
   one_life most some base lives file life next so_far (within_request {life = earlier} {first = first} {old = old} {new = new} r now answer context s serves read one left) =
-      let step = goes_on base (contents s.found.entries.items) most first old earlier (started base file first s).1 serves in (
+      let step = goes_on first.zone.zone (contents s.found.entries.items) most first old earlier (started base file first s).1 serves in (
         left_by lives (cut_short earlier (r ∷ [])) (contents s.found.entries.items) next (recovered base lives file first so_far s)
-            (left_within base (contents s.found.entries.items) earlier (r ∷ []) answer old new step (took_one r now answer context old new one) next left),
+            (left_within first.zone.zone (contents s.found.entries.items) earlier (r ∷ []) answer old new step (took_one r now answer context old new one) next left),
         few_doubted most earlier.in_doubt (r ∷ []) (few most some first old earlier serves) some,
       )
   one_life most some base lives file life next so_far (within_batch {life = earlier} {first = first} {old = old} {new = new} requests told s serves read at_most all left) =
-      let step = goes_on base (contents s.found.entries.items) most first old earlier (started base file first s).1 serves in (
+      let step = goes_on first.zone.zone (contents s.found.entries.items) most first old earlier (started base file first s).1 serves in (
         left_by lives (cut_short earlier (accepted requests all.answers.judged)) (contents s.found.entries.items) next (recovered base lives file first so_far s)
-            (left_within base (contents s.found.entries.items) earlier (accepted requests all.answers.judged) all.answers.written old new step (took_all requests told old new all) next left),
+            (left_within first.zone.zone (contents s.found.entries.items) earlier (accepted requests all.answers.judged) all.answers.written old new step (took_all requests told old new all) next left),
         few_doubted most earlier.in_doubt (accepted requests all.answers.judged) (few most some first old earlier serves) (accepted_few most requests all.answers.judged at_most),
       )
 
@@ -286,6 +286,12 @@ module _ {V D : Type 0} (by : Ghosts V) (disks : DiskGhosts D) where
         stands = all.0;
         few_in_doubt = all.1;
         served = λ first server life s serves.
-            let start = started base file first s in
-            (contents s.found.entries.items, start.0, recovered base lives file first all.0 s, s.redone, (goes_on base (contents s.found.entries.items) most first server life start.1 serves).redone (all_read most first server life serves));
+            let start = started base file first s in (
+              contents s.found.entries.items,
+              start.0,
+              recovered base lives file first all.0 s,
+              s.redone,
+              more (contents s.found.entries.items) (bytes_of life.acknowledged) base first.zone.zone server.zone.zone s.redone
+                  ((goes_on first.zone.zone (contents s.found.entries.items) most first server life start.1 serves).redone (all_read most first server life serves)),
+            );
       }

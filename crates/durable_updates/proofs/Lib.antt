@@ -5,3 +5,5 @@ pub mod Entries
 pub mod Untouched
 pub mod Histories
 pub mod Sameness
+pub mod Recalled
+pub mod Compactions

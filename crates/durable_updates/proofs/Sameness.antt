@@ -201,10 +201,10 @@ module _ (identity : Identity) (same_type : OfOneType) where
   change_left o rs z false h = h
 
   -- two zones of one origin that have the same records, with one SOA
-  record Alike (a b : MemoryZone) : Type 0 where
-    origin : a.origin ≡ b.origin
-    records : SameZone (zone_records a.sets) (zone_records b.sets)
-    soa : HoldsIn HasOneSoa a
+  pub record Alike (a b : MemoryZone) : Type 0 where
+    pub origin : a.origin ≡ b.origin
+    pub records : SameZone (zone_records a.sets) (zone_records b.sets)
+    pub soa : HoldsIn HasOneSoa a
 
   left_alike : (one other : Outcome) (a b x y : MemoryZone) → Alike a b → SameOutcome one other → OneSoaLeft a.origin one → Leaves one a x → Leaves other b y → Alike x y
   left_alike (Ok one) (Ok other) a b x y alike same left p q =
@@ -234,7 +234,7 @@ module _ (identity : Identity) (same_type : OfOneType) where
       ok_is : {m n : Message × Cursor} → ◌≡◌ {A = Result (Message × Cursor) DecodeError} (Ok m) (Ok n) → m ≡ n
       ok_is e = cc
 
-  redone_alike : (entries : List (List ℕ)) (a b x y : MemoryZone) → Alike a b → Redone entries a x → Redone entries b y → Alike x y
+  pub redone_alike : (entries : List (List ℕ)) (a b x y : MemoryZone) → Alike a b → Redone entries a x → Redone entries b y → Alike x y
   redone_alike [] a b x y alike p q = subst (λ v. Alike v y) (sym p) (subst (λ v. Alike a v) (sym q) alike)
   redone_alike (entry ∷ entries) a b x y alike p q =
       let first = p.1 in

@@ -1,7 +1,10 @@
 pub mod Batches
 pub mod Commits
+pub mod Compactions
 pub mod DurableUpdates
 pub mod Journalling
 pub mod Recorded
+pub mod Recovering
 pub mod Redone
 pub mod Runs
+pub mod Snapshots

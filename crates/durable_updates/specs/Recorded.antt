@@ -4,6 +4,7 @@ use Rattle.hickory_base.specs.requests.Requests.{ReceivedRequest}
 use Rattle.hickory_base.specs.zone_store.ZoneAnswers.{MemoryZone}
 use Rattle.sqlite_disk.specs.declared.Disk.{Ghosts as DiskGhosts}
 use Rattle.update_journal.specs.Frames.{IsBeforeOrAfter}
+use Rattle.update_journal.specs.Generations.{StandFor}
 use Rattle.update_journal.specs.JournalState.{JournalState}
 use Rattle.update_journal.specs.Read.{contents}
 use Rattle.update_journal.specs.Recovery.{Recovers}
@@ -13,6 +14,7 @@ use Rattle.update_journal.specs.declared.reading.Recovered.{Recovered}
 use Rattle.durable_updates.specs.Batches.{bytes_of}
 use Rattle.durable_updates.specs.Redone.{Redone}
 use Rattle.durable_updates.specs.Runs.{AreRead, Life}
+use Rattle.durable_updates.specs.Snapshots.{Recalls}
 
 module _ {D : Type 0} (disks : DiskGhosts D) where
   -- The journal takes entries, and these are on the disk.
@@ -26,14 +28,20 @@ module _ {D : Type 0} (disks : DiskGhosts D) where
     pub shut : journal.is_open ≡ false
     pub leaves : (c : List ℕ) → disks.may_leave journal.disk c → IsBeforeOrAfter entries (bytes_of in_doubt) c
 
-  -- On the disk are the entries from before and those of all requests that were acknowledged since; they make this zone of the first one.
+  -- On the disk are the entries from before and those of all requests that were acknowledged since; these make this zone of the one that was there then.
   pub record IsRecorded (base : MemoryZone) (before : List (List ℕ)) (life : Life) (zone : MemoryZone) (journal : JournalState D) : Type 0 where
-    pub redone : AreRead life.acknowledged → Redone (before ++ bytes_of life.acknowledged) base zone
+    pub redone : AreRead life.acknowledged → Redone (bytes_of life.acknowledged) base zone
     pub journal_is : IsOpen (before ++ bytes_of life.acknowledged) life.in_doubt journal ⊎ IsFailed (before ++ bytes_of life.acknowledged) life.in_doubt journal
 
-  -- So it is for some first zone and some requests, where the disk told no lie.
+  -- So it is for some requests and for the zone that the entries from before make of some first zone, where the disk told no lie.
   abbrev pub IsDurable : MemoryZone → JournalState D → Type 0
-  IsDurable zone journal = IsTrue (disks.is_clean journal.disk) → (base : MemoryZone) × (before : List (List ℕ)) × (life : Life) × IsRecorded base before life zone journal
+  IsDurable zone journal =
+      IsTrue (disks.is_clean journal.disk) → (first : MemoryZone) × (before : List (List ℕ)) × (base : MemoryZone) × (life : Life)
+      × Recalls before first base × IsRecorded base before life zone journal
+
+  -- A file that a journal may be compacted into: it takes no entry, or what it has is on the disk.
+  abbrev pub IsSpare : JournalState D → Type 0
+  IsSpare spare = IsTrue (disks.is_clean spare.disk) → (spare.is_open ≡ false) ⊎ ((entries : List (List ℕ)) × IsSettled disks.seen disks.may_leave spare entries)
 
   -- The zone is the one that the entries which were recovered from this disk make of the first.
   pub record IsRecovered (disk : D) (base new : MemoryZone) : Type 0 where
@@ -42,6 +50,18 @@ module _ {D : Type 0} (disks : DiskGhosts D) where
     pub recovers : Recovers disks.seen disks.may_leave disks.is_clean disk (Ok found) opened
     pub redone : Redone (contents found.entries.items) base new
 
+  -- The zone is the one that the entries which count of two recovered disks make of the first.
+  pub record AreRecovered (first second : D) (base new : MemoryZone) : Type 0 where
+    pub opened : D
+    pub other : D
+    pub entries : List (List ℕ)
+    pub stand : IsTrue (disks.is_clean opened) → IsTrue (disks.is_clean other) → StandFor (disks.seen first) (disks.seen second) entries
+    pub recalled : Recalls entries base new
+
   -- A recovery of this disk, or an attempt at it, has left the other.
   abbrev pub IsOpenedFrom : D → D → Type 0
   IsOpenedFrom disk opened = (result : Result Recovered JournalError) × Recovers disks.seen disks.may_leave disks.is_clean disk result opened
+
+  -- The disk is as it was, or as a recovery, or an attempt at it, has left it.
+  abbrev pub IsHandedBack : D → D → Type 0
+  IsHandedBack disk handed = (handed ≡ disk) ⊎ IsOpenedFrom disk handed

@@ -26,7 +26,7 @@ use update_journal::{Journal, JournalError};
 pub type UpdateAnswer = (Result<bool, UpdateFault>, Option<TSigResponseContext>);
 
 /// The sets of a zone by name and type.
-type Sets = BTreeMap<RrKey, Rc<RecordSet>>;
+pub(crate) type Sets = BTreeMap<RrKey, Rc<RecordSet>>;
 
 /// What requests are answered once they are written, and the entries of those that are to be written.
 #[derive(Drop)]
@@ -36,7 +36,7 @@ struct Batch {
 }
 
 /// A copy of the zone's sets, which shares their records.
-fn copied_sets<V: Verifier>(zone: &SqliteZoneHandler<V>) -> Result<Sets, AllocError>
+pub(crate) fn copied_sets<V: Verifier>(zone: &SqliteZoneHandler<V>) -> Result<Sets, AllocError>
     ensures sets { IfOk result (λ sets. sets_of sets ≡ zone.now.zone.sets) }
     ensures zone { IsZone zone.now.zone.sets }
 {

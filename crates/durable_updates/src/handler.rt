@@ -8,10 +8,18 @@ ghost use Rattle.hickory_store.specs.TransferAnswers.{SearchedIn, TransferredAs}
 ghost use Rattle.durable_updates.specs.Batches.{AnswersBatch};
 ghost use Rattle.durable_updates.specs.DurableUpdates.{AnswersDurably};
 ghost use Rattle.sqlite_disk.specs.Disk.{Only};
-ghost use Rattle.durable_updates.specs.Recorded.{IsDurable, IsOpenedFrom, IsRecovered};
+ghost use Rattle.durable_updates.specs.Recorded.{AreRecovered, IsDurable, IsHandedBack, IsOpenedFrom, IsRecovered, IsSpare};
+ghost use Rattle.durable_updates.specs.Recovering.{counting};
+ghost use Rattle.durable_updates.specs.Snapshots.{Recalls};
+ghost use Rattle.hickory_base.specs.zone_store.ZoneAnswers.{MemoryZone};
+ghost use Rattle.update_journal.specs.Read.{contents};
+ghost use Rattle.update_journal.specs.Settled.{IsAtRest};
 
 use crate::batches::{UpdateAnswer, update_all_durably};
+use crate::compaction::{CompactError, Spare, compact_into};
+use crate::recovering::{TwoRecovered, recover_two};
 use crate::redoing::{RedoError, redo};
+use crate::snapshots::recall;
 use crate::updating::update_durably;
 use hickory_base::errors::{LookupError, UpdateFault};
 use hickory_base::server::{Request, RequestInfo};
@@ -25,7 +33,7 @@ use sqlite_disk::Disk;
 use std::alloc::{AllocError, Global};
 use std::marker::Model;
 use thiserror::Error;
-use update_journal::{Journal, JournalError, recover};
+use update_journal::{Journal, JournalError, generation, recover};
 
 /// Why the journal of a zone was not opened.
 #[derive(Debug, Drop, Error)]
@@ -46,17 +54,19 @@ pub enum OpenError {
 pub struct JournalledZone<V: Verifier, D: Disk + Drop> {
     zone: SqliteZoneHandler<V>,
     journal: Journal<D>,
+    spare: Option<Spare<D>>,
 }
 
 impl<V: Verifier, D: Disk + Drop> Model for JournalledZone<V, D> {
     ghost use Rattle.hickory_store.specs.UpdatableZone.{UpdatableZone};
-    ghost use Rattle.durable_updates.specs.Recorded.{IsDurable};
+    ghost use Rattle.std.specs.Prelude.{IfSome};
+    ghost use Rattle.durable_updates.specs.Recorded.{IsDurable, IsSpare};
 
     ghost Value = { UpdatableZone V };
 
     ghost view = { λ handler. handler.zone };
 
-    ghost invariant = { λ handler. IsDurable D.Disk handler.zone.zone handler.journal };
+    ghost invariant = { λ handler. IsDurable D.Disk handler.zone.zone handler.journal × IfSome handler.spare (λ s. IsSpare D.Disk s.journal) };
 }
 
 impl<V: Verifier, D: Disk + Drop> JournalledZone<V, D> {
@@ -88,13 +98,91 @@ impl<V: Verifier, D: Disk + Drop> JournalledZone<V, D> {
         }
     }
 
+    /// Opens the journal that two files are in turns, of which the one with the higher generation counts (the first where they have one),
+    /// and does its entries to `zone`, the zone that was there before the first of them; of a journal that was compacted the snapshot takes
+    /// the place of its records. `compact` goes from the one file to the other. Two empty files are a journal without entries. It takes
+    /// memory for both files twice and for the zone, and writes at most one byte to each, with one sync.
+    ///
+    /// With an error the files are handed back. They stand for the same entries.
+    pub fn open_two(
+        alloc: Global,
+        zone: SqliteZoneHandler<V>,
+        first: D,
+        second: D,
+    ) -> Result<JournalledZone<V, D>, (OpenError, D, D)>
+        requires usable { IsTrue (D.is_usable first) × IsTrue (D.is_usable second) }
+        // After a restart, what is read is what is on the disk.
+        requires restarted { Only (D.seen first) (D.may_leave first) × Only (D.seen second) (D.may_leave second) }
+        ensures recovered { IfOk result (λ handler. AreRecovered D.Disk first second zone.zone handler.zone) }
+        ensures others { IfOk result (λ handler. handler ≡ record zone { zone = handler.zone }) }
+        ensures err { IfErr result (λ e. IsHandedBack D.Disk first e.1 × IsHandedBack D.Disk second e.2) }
+    {
+        let mut zone = zone;
+        let mut first = first;
+        let mut second = second;
+        match recover_two(alloc, &mut first, &mut second) {
+            Err(error) => Err((OpenError::Journal(error), first, second)),
+            Ok(found) => match recall(&mut zone, alloc, found.entries()) {
+                Err(error) => Err((OpenError::Entries(error), first, second)),
+                Ok(()) => Ok(JournalledZone::of_two(zone, first, second, &found)),
+            },
+        }
+    }
+
+    /// A handler of the zone that the entries which count of two files make, with these files.
+    fn of_two(
+        zone: SqliteZoneHandler<V>,
+        first: D,
+        second: D,
+        found: &TwoRecovered,
+    ) -> JournalledZone<V, D>
+        requires first { IsTrue (D.is_clean first) → IsAtRest D.seen D.may_leave first found.now.first.end (contents found.now.first.entries.items) }
+        requires second { IsTrue (D.is_clean second) → IsAtRest D.seen D.may_leave second found.now.second.end (contents found.now.second.entries.items) }
+        requires recalled { (base : MemoryZone) × Recalls (contents (counting found.now).items) base zone.zone }
+        ensures { result ≡ zone }
+    {
+        let generation = generation(found.entries()).saturating_add(1);
+        let first = Journal::new(first, found.first.end);
+        let second = Journal::new(second, found.second.end);
+        if found.is_second {
+            JournalledZone::with_spare(zone, second, first, generation)
+        } else {
+            JournalledZone::with_spare(zone, first, second, generation)
+        }
+    }
+
+    /// A handler of a zone with its journal and a spare file.
+    fn with_spare(
+        zone: SqliteZoneHandler<V>,
+        journal: Journal<D>,
+        spare: Journal<D>,
+        generation: u64,
+    ) -> JournalledZone<V, D>
+        requires durable { IsDurable D.Disk zone.zone journal }
+        requires spare { IsSpare D.Disk spare }
+        ensures { result ≡ zone }
+    {
+        JournalledZone {
+            zone,
+            journal,
+            spare: Some(Spare {
+                journal: spare,
+                generation,
+            }),
+        }
+    }
+
     /// A handler of a zone with its journal: the zone is the one that the entries of the journal make of the first zone, as `redo`
     /// leaves it of what `recover` found.
     pub fn new(zone: SqliteZoneHandler<V>, journal: Journal<D>) -> JournalledZone<V, D>
         requires { IsDurable D.Disk zone.zone journal }
         ensures { result ≡ zone }
     {
-        JournalledZone { zone, journal }
+        JournalledZone {
+            zone,
+            journal,
+            spare: None,
+        }
     }
 
     /// The zone without its journal.
@@ -123,12 +211,43 @@ impl<V: Verifier, D: Disk + Drop> JournalledZone<V, D> {
         update_all_durably(&mut self.zone, &mut self.journal, alloc, requests)
     }
 
+    /// How long the journal is, in bytes.
+    pub fn journal_len(&self) -> usize {
+        self.journal.end()
+    }
+
+    /// Compacts the journal: writes the zone as it is now to the second file, with the next generation, which then is the journal's file;
+    /// what was it is the second one. It takes memory for the zone four times, and two or three syncs.
+    ///
+    /// A crash at any moment leaves the old file or the new one to count, whole. After an error the journal is in its file as before, and
+    /// takes updates as before; but after `Journal(Disk)` it takes no update any more, until it is opened again.
+    pub fn compact(&mut self, alloc: Global) -> Result<(), CompactError>
+        ensures { self.new ≡ self.old }
+    {
+        compact_into(&self.zone, &mut self.journal, &mut self.spare, alloc)
+    }
+
+    /// Compacts a journal that is longer than so many bytes, and tells whether it was.
+    pub fn compact_beyond(&mut self, alloc: Global, len: usize) -> Result<bool, CompactError>
+        ensures { self.new ≡ self.old }
+    {
+        if self.journal.end() <= len {
+            return Ok(false);
+        }
+        self.compact(alloc)?;
+        Ok(true)
+    }
+
     /// The zone and its journal, as they are after whatever was asked of the handler.
     pub fn into_parts(self) -> (SqliteZoneHandler<V>, Journal<D>)
         ensures zone { result.0 ≡ self }
         ensures durable { IsDurable D.Disk result.0.zone result.1 }
     {
-        let JournalledZone { zone, journal } = self;
+        let JournalledZone {
+            zone,
+            journal,
+            spare: _,
+        } = self;
         (zone, journal)
     }
 }

@@ -5,8 +5,10 @@ ghost use Rattle.hickory_base.specs.zone_store.ZoneAnswers.{MemoryZone};
 ghost use Rattle.hickory_base.specs.zone_store.ZoneSets.{zone_records};
 ghost use Rattle.hickory_store.specs.Identity.{SameZone};
 ghost use Rattle.hickory_store.specs.UpdateLaws.{HasOneSoa, HoldsIn};
+ghost use Rattle.durable_updates.specs.Compactions.{CompactionIsKept, fresh};
 ghost use Rattle.durable_updates.specs.Redone.{Redone, RedoesOne};
 ghost use Rattle.durable_updates.specs.Runs.{RunsAreKept};
+ghost use Rattle.durable_updates.specs.Snapshots.{IsSnapshot, Recalls};
 
 use hickory_store::sqlite::Verifier;
 use hickory_store::sqlite::laws::identities;
@@ -23,6 +25,26 @@ pub fn one_more()
 pub fn redone_once()
     ensures records { (entries : List (List ℕ)) (base new other : MemoryZone) → HoldsIn HasOneSoa base → Redone entries base new → Redone entries base other → SameZone (zone_records new.sets) (zone_records other.sets) }
     ensures soa { (entries : List (List ℕ)) (base new : MemoryZone) → HoldsIn HasOneSoa base → Redone entries base new → HoldsIn HasOneSoa new }
+{
+    identities();
+    record_comparisons();
+}
+
+/// The entries of a file, be it compacted or not, make one zone of a zone that has one SOA at its apex; and those of a file that was just
+/// compacted make the zone that it was compacted from.
+pub fn recalled_once()
+    ensures records { (entries : List (List ℕ)) (base new other : MemoryZone) → HoldsIn HasOneSoa base → Recalls entries base new → Recalls entries base other → SameZone (zone_records new.sets) (zone_records other.sets) }
+    ensures compacted { (generation : ℕ) (written : List (List ℕ)) (base zone new : MemoryZone) → IsSnapshot written zone → Recalls (fresh generation written) base new → SameZone (zone_records new.sets) (zone_records zone.sets) }
+    ensures soa { (entries : List (List ℕ)) (base new : MemoryZone) → HoldsIn HasOneSoa base → Recalls entries base new → HoldsIn HasOneSoa new }
+{
+    identities();
+    record_comparisons();
+}
+
+/// While a journal is compacted, a crash at any moment leaves the old file or the new one to count, and either makes the zone that was
+/// compacted.
+pub fn compaction_is_kept<D: Disk>()
+    ensures { CompactionIsKept D.Disk }
 {
     identities();
     record_comparisons();

@@ -2,12 +2,17 @@
 #![tactic(auto)]
 
 mod batches;
+mod compaction;
 mod handler;
 pub mod laws;
+mod recovering;
 mod redoing;
+mod snapshots;
 mod updating;
 
 pub use batches::{UpdateAnswer, update_all_durably};
+pub use compaction::CompactError;
 pub use handler::{JournalledZone, OpenError};
 pub use redoing::{RedoError, read_entry, redo};
+pub use snapshots::{SnapshotError, read_record, recall, recall_to, snapshot};
 pub use updating::update_durably;

@@ -1,6 +1,7 @@
 //! Doing a journal's entries again.
 
-ghost use Rattle.std.specs.Prelude.{◌≡◌, IfOk, OnOk};
+ghost use Rattle.std.specs.Prelude.{◌≡◌, ◌++◌, List, ℕ, IfOk, IfSome, OnOk};
+ghost use Rattle.hickory_base.specs.zone_store.ZoneAnswers.{soa_serial, zone_soa};
 ghost use Rattle.wire_reading.specs.serialize.reading.MessageReading.{Reads};
 ghost use Rattle.hickory_base.specs.requests.RequestReading.{message_of};
 ghost use Rattle.update_journal.specs.Read.{contents};
@@ -11,7 +12,7 @@ use hickory_base::server::Request;
 use hickory_base::update_request::UpdateRequest;
 use hickory_store::sqlite::{SqliteZoneHandler, Verifier};
 use hickory_wire::{ProtoError, Protocol, Record};
-use std::alloc::Global;
+use std::alloc::{AllocError, AllocFailed, Global};
 use std::net::{IpAddr, Ipv4Addr, SocketAddr};
 use thiserror::Error;
 
@@ -25,6 +26,18 @@ pub enum RedoError {
     /// Memory was refused.
     #[error("out of memory")]
     Memory,
+}
+
+impl From<AllocError> for RedoError {
+    fn from(_: AllocError) -> RedoError {
+        RedoError::Memory
+    }
+}
+
+impl<T: Drop> From<AllocFailed<T>> for RedoError {
+    fn from(_e: AllocFailed<T>) -> RedoError {
+        RedoError::Memory
+    }
 }
 
 /// Reads an entry: the request that its bytes begin with. Where that came from is not kept.
@@ -92,4 +105,30 @@ pub fn redo<V: Verifier>(
         rest = others;
     }
     Ok(())
+}
+
+/// Does entries again up to the first zone of a serial, and gives those behind that; `None` where no zone on the way has it, and then all
+/// are done. After an `Err` those of a front are done.
+pub(crate) fn redo_to<'e, V: Verifier>(
+    zone: &mut SqliteZoneHandler<V>,
+    alloc: Global,
+    entries: &'e [Vec<u8>],
+    serial: u32,
+) -> Result<Option<&'e [Vec<u8>]>, RedoError>
+    ensures redone { IfOk result (λ found. IfSome found (λ rest. (done : List (List ℕ)) × (contents entries.now ≡ done ++ contents rest.now) × Redone done zone.old.zone zone.new.zone × (soa_serial (zone_soa zone.new.zone) ≡ serial))) }
+    ensures others { zone.new ≡ record zone.old { zone = zone.new.zone } }
+{
+    let mut rest = entries;
+    while let [entry, others @ ..] = rest {
+        if zone.in_memory().serial() == serial {
+            return Ok(Some(rest));
+        }
+        redo_one(zone, alloc, entry)?;
+        rest = others;
+    }
+    if zone.in_memory().serial() == serial {
+        Ok(Some(rest))
+    } else {
+        Ok(None)
+    }
 }

@@ -8,7 +8,7 @@ use thiserror::Error;
 #[derive(Clone, Copy, Debug, PartialEq, Eq, Error)]
 pub enum Fault {
     /// The arguments are wrong.
-    #[error("usage: tests_durable PATH")]
+    #[error("usage: tests_durable [--two] PATH")]
     Usage,
     /// Memory was refused.
     #[error("no memory")]

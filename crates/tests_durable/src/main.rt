@@ -1,7 +1,9 @@
 //! Updates a zone with a journal as the lines of its input say: `tests_durable PATH` does the entries of the journal in this file to a zone of an SOA
 //! record alone, prints each record of the zone behind `= `, and then obeys the lines of the input. Each word of a line is a request in hex digits; a line
-//! of one word is updated by itself, and one of more as a batch. What the requests of a line are answered is printed before the next line is obeyed. The
-//! status is 0, 2 for wrong arguments, 3 without memory, 4 where input or output fail, and 5 where there is no journal.
+//! of one word is updated by itself, and one of more as a batch. What the requests of a line are answered is printed before the next line is obeyed.
+//! `tests_durable --two PATH` does the same with a journal in two files by turns, this one and `PATH-wal`; there a line `compact` compacts it, and a line
+//! `compact N` where it is longer than N bytes. The status is 0, 2 for wrong arguments, 3 without memory, 4 where input or output fail, and 5 where there
+//! is no journal.
 #![tactic(auto)]
 
 mod fault;
@@ -9,7 +11,7 @@ mod trusting;
 
 use crate::fault::Fault;
 use crate::trusting::Trusting;
-use durable_updates::{JournalledZone, OpenError, RedoError, UpdateAnswer};
+use durable_updates::{CompactError, JournalledZone, OpenError, RedoError, UpdateAnswer};
 use hex::FromHexError;
 use hickory_base::errors::UpdateFault;
 use hickory_base::server::Request;
@@ -99,6 +101,51 @@ fn obey<D: Disk + Drop>(
     }
 }
 
+/// What became of a compaction, in words.
+fn compaction(done: Result<bool, CompactError>) -> &'static str {
+    match done {
+        Ok(true) => "compacted",
+        Ok(false) => "short enough",
+        Err(CompactError::OneFile) => "one file",
+        Err(CompactError::Zone(_)) => "no snapshot",
+        Err(CompactError::Journal(_)) => "not compacted",
+    }
+}
+
+/// Compacts the journal, where it is longer than the number of bytes that may stand in the words.
+fn compact<D: Disk + Drop>(
+    alloc: Global,
+    zone: &mut JournalledZone<Trusting, D>,
+    limit: Option<&str>,
+) -> Result<bool, CompactError> {
+    match limit.and_then(|text| text.parse::<usize>().ok()) {
+        Some(len) => zone.compact_beyond(alloc, len),
+        None => match zone.compact(alloc) {
+            Ok(()) => Ok(true),
+            Err(e) => Err(e),
+        },
+    }
+}
+
+/// Obeys a line.
+fn obey_line<D: Disk + Drop>(
+    rt: &HostRuntime,
+    zone: &mut JournalledZone<Trusting, D>,
+    line: &str,
+) -> Result<(), Fault> {
+    let told = match line.strip_prefix("compact") {
+        Some(limit) => {
+            let told = compaction(compact(rt.alloc(), zone, limit.strip_prefix(" ")));
+            println!(rt; "{told}")
+        }
+        None => {
+            let requests = requests(rt.alloc(), line)?;
+            obey(rt, zone, requests.as_slice())
+        }
+    };
+    told.map_err(|_| Fault::Stream)
+}
+
 /// Obeys lines.
 fn obey_all<D: Disk + Drop>(
     rt: &HostRuntime,
@@ -106,10 +153,7 @@ fn obey_all<D: Disk + Drop>(
     lines: &str,
 ) -> Result<(), Fault> {
     for line in lines.lines() {
-        let requests = requests(rt.alloc(), line)?;
-        if obey(rt, zone, requests.as_slice()).is_err() {
-            return Err(Fault::Stream);
-        }
+        obey_line(rt, zone, line)?;
     }
     Ok(())
 }
@@ -152,6 +196,17 @@ fn fault_of(error: &OpenError) -> Fault {
     }
 }
 
+/// Prints a zone, and obeys lines.
+fn serve_zone<D: Disk + Drop>(
+    rt: &HostRuntime,
+    zone: JournalledZone<Trusting, D>,
+    lines: &str,
+) -> Result<(), Fault> {
+    let mut zone = zone;
+    print_zone(rt, zone.zone())?;
+    obey_all(rt, &mut zone, lines)
+}
+
 /// Opens the journal in a file, and obeys lines.
 fn serve(rt: &HostRuntime, path: &str, lines: &str) -> Result<(), Fault> {
     let first = first_zone(rt.alloc())?;
@@ -159,12 +214,23 @@ fn serve(rt: &HostRuntime, path: &str, lines: &str) -> Result<(), Fault> {
         return Err(Fault::Journal);
     };
     let Files { db, log: _ } = files;
-    let mut zone = match JournalledZone::open(rt.alloc(), first, db) {
-        Ok(zone) => zone,
-        Err((error, _)) => return Err(fault_of(&error)),
+    match JournalledZone::open(rt.alloc(), first, db) {
+        Ok(zone) => serve_zone(rt, zone, lines),
+        Err((error, _)) => Err(fault_of(&error)),
+    }
+}
+
+/// Opens the journal in two files, and obeys lines.
+fn serve_two(rt: &HostRuntime, path: &str, lines: &str) -> Result<(), Fault> {
+    let first = first_zone(rt.alloc())?;
+    let Ok(files) = open(rt, path, Unknown) else {
+        return Err(Fault::Journal);
     };
-    print_zone(rt, zone.zone())?;
-    obey_all(rt, &mut zone, lines)
+    let Files { db, log } = files;
+    match JournalledZone::open_two(rt.alloc(), first, db, log) {
+        Ok(zone) => serve_zone(rt, zone, lines),
+        Err((error, _, _)) => Err(fault_of(&error)),
+    }
 }
 
 /// The text of an input.
@@ -184,11 +250,12 @@ fn serve_input(rt: &HostRuntime) -> Result<(), Fault> {
         Ok(words) => words.skip(1).collect(alloc)?,
         Err(_) => return Err(Fault::Memory),
     };
-    let [path] = words.as_slice() else {
-        return Err(Fault::Usage);
-    };
     let lines = input(alloc, &mut rt.reader())?;
-    serve(rt, path, &lines)
+    match words.as_slice() {
+        [path] => serve(rt, path, &lines),
+        [option, path] if option.as_str() == "--two" => serve_two(rt, path, &lines),
+        _ => Err(Fault::Usage),
+    }
 }
 
 fn main(rt: HostRuntime) -> ExitCode {

@@ -1,10 +1,14 @@
 -- What a crash leaves in each step of adding entries.
-use Rattle.std.proofs.Common.{◌≡◌, ◌≢◌, ◌⊎◌, inl, inr, ℕ, ◌+◌, ◌<◌, List, [], ◌∷◌, ◌++◌, length, get_or, drop, sym, ◌∙◌, ap, subst, arith, append_assoc, length-append}
+use Rattle.std.proofs.Common.{◌≡◌, ◌≢◌, ◌⊎◌, inl, inr, ℕ, ◌+◌, ◌<◌, List, [], ◌∷◌, ◌++◌, length, get_or, drop, sym, ◌∙◌, ap, subst, refl, arith, append_assoc, length-append, Bool, true, false, OnErr, Result, Ok, Err}
+use Rattle.std.specs.Prelude.{IsFalse, IsTrue}
 use Rattle.std.specs.Int.{w32, to_be_bytes}
 use Rattle.std.proofs.lemmas.Bool.{cases_eq}
 use Rattle.sqlite_disk.specs.Disk.{Holds, Torn, Follows}
+use Rattle.update_journal.specs.Errors.{is_of_disk}
 use Rattle.update_journal.specs.Frames.{frames, AreSmall, IsBeforeOrAfter, StandsFor}
-use Rattle.update_journal.specs.Settled.{behind_gate, IsAtRest, IsOpened, IsStaged}
+use Rattle.update_journal.specs.JournalState.{JournalState}
+use Rattle.update_journal.specs.Settled.{behind_gate, IsAtRest, IsOpened, IsSettled, IsStaged}
+use Rattle.update_journal.specs.declared.error.JournalError.{JournalError}
 use Rattle.update_journal.proofs.Files.{kept, written, one_byte, one_byte_done}
 use Rattle.update_journal.proofs.Entries.{zero_not_one, stands_closed, stands_gate, opened_is, small_all, place_all}
 
@@ -88,3 +92,18 @@ module _ {D : Type 0} (seen : D → List ℕ) (may_leave : D → List ℕ → Ty
   cleared entries next s some torn holds =
       let first = first_is entries s some in
       (first.0, one_byte_done 0 [] first.0 1 0 (seen next) (λ i. 0) (subst (λ f. Torn 0 1 f (seen next)) first.1 torn) holds)
+
+-- what holds anyway holds after an error
+pub on_err : {T E P : Type 0} (result : Result T E) → P → OnErr result P
+on_err (Ok x) p = tt
+on_err (Err e) p = p
+
+-- entries were taken out, and then others were not added
+pub cleared_at_least : {D : Type 0} (seen : D → List ℕ) (may_leave : D → List ℕ → Type 0) (e : JournalError) (old cleared new : JournalState D) → (IsFalse (is_of_disk e) → new ≡ cleared) → (IsTrue (is_of_disk e) → new.is_open ≡ false)
+    → ((entries : List (List ℕ)) → IsSettled seen may_leave old entries → IsSettled seen may_leave cleared [])
+    → (new.is_open ≡ false) ⊎ ((before : List (List ℕ)) → IsSettled seen may_leave old before → IsSettled seen may_leave new before ⊎ IsSettled seen may_leave new [])
+cleared_at_least {D} seen may_leave e old cleared new unwritten failed emptied = by (is_of_disk e) refl
+  where
+    by : (b : Bool) → is_of_disk e ≡ b → (new.is_open ≡ false) ⊎ ((before : List (List ℕ)) → IsSettled seen may_leave old before → IsSettled seen may_leave new before ⊎ IsSettled seen may_leave new [])
+    by true is = inl (failed is)
+    by false is = inr (λ before s. inr (subst (λ (j : JournalState D). IsSettled seen may_leave j []) (sym (unwritten is)) (emptied before s)))

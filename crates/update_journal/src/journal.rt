@@ -1,6 +1,6 @@
 //! Adding entries to a journal.
 
-ghost use Rattle.std.specs.Prelude.{◌≡◌, ◌⊎◌, ◌^◌, ◌<◌, ◌≤◌, ◌++◌, ◌∷◌, [], ℕ, List, length, Err, IfErr, OnOk, IsTrue, IsFalse, true, false};
+ghost use Rattle.std.specs.Prelude.{◌≡◌, ◌⊎◌, ◌^◌, ◌<◌, ◌≤◌, ◌++◌, ◌∷◌, [], ℕ, List, length, Err, IfErr, OnErr, OnOk, IsTrue, IsFalse, true, false};
 ghost use Rattle.update_journal.specs.Frames.{AreTooLong, IsBeforeOrAfter, StandsFor};
 ghost use Rattle.update_journal.specs.Generations.{IsBeingReplaced, header};
 ghost use Rattle.update_journal.specs.Read.{contents};
@@ -151,7 +151,7 @@ impl<D: Disk> Journal<D> {
     /// the other file stays as it is until this one has all.
     ///
     /// After `Disk` the file stands for the entries from before, for none, or for all of the new ones, and the journal takes no
-    /// entry any more; it has to be recovered from its file. After another error it may have none.
+    /// entry any more; it has to be recovered from its file. After another error it has those from before, or none.
     pub fn replace(
         &mut self,
         alloc: Global,
@@ -160,6 +160,7 @@ impl<D: Disk> Journal<D> {
     ) -> Result<(), JournalError>
         ensures replaced { OnOk result ((before : List (List ℕ)) → IsSettled D.seen D.may_leave self.old before → IsSettled D.seen D.may_leave self.new (header generation ∷ contents entries.now)) }
         ensures opened { OnOk result ((self.old.is_open ≡ true) × (self.new.is_open ≡ true)) }
+        ensures kept { OnErr result ((self.new.is_open ≡ false) ⊎ ((before : List (List ℕ)) → IsSettled D.seen D.may_leave self.old before → IsSettled D.seen D.may_leave self.new before ⊎ IsSettled D.seen D.may_leave self.new [])) }
         ensures clean { D.is_clean self.new.disk ≡ D.is_clean self.old.disk }
         // Whatever the answer, a crash leaves the entries from before, or none, or all of the new ones.
         ensures crash { (before : List (List ℕ)) → IsSettled D.seen D.may_leave self.old before → (c : List ℕ) → D.may_leave self.new.disk c → IsBeingReplaced before (header generation ∷ contents entries.now) c }

@@ -1,6 +1,6 @@
 //! Whether a journal is whole.
 
-use crate::entries::{Entry, behind, entry_of, zone_of};
+use crate::entries::{Entry, Part, behind, entry_of, zone_of};
 use crate::fault::Fault;
 use hickory_wire::LowerName;
 use std::alloc::Global;
@@ -10,7 +10,7 @@ use update_journal::{Ending, generation};
 /// Whether an entry may stand in the journal of a zone.
 fn may_stand(entry: &Entry, zone: &Option<LowerName>) -> bool {
     match entry {
-        Entry::Generation(_) => true,
+        Entry::Generation(_) | Entry::Said(_) | Entry::SnapshotEnd => true,
         Entry::Update(_) => match (zone_of(entry), zone) {
             (Some(name), Some(zone)) => *name == *zone,
             _ => false,
@@ -21,11 +21,13 @@ fn may_stand(entry: &Entry, zone: &Option<LowerName>) -> bool {
 
 /// The zone of the first entry that is an update.
 fn first_zone(alloc: Global, entries: &[Vec<u8>]) -> Result<Option<LowerName>, Fault> {
+    let mut part = Part::First;
     for bytes in entries {
-        let entry = entry_of(alloc, bytes, 0, 0)?;
+        let entry = entry_of(alloc, bytes, part, 0)?;
         if let Some(name) = zone_of(&entry) {
             return Ok(Some(name.clone()?));
         }
+        part = part.behind(&entry);
     }
     Ok(None)
 }
@@ -33,6 +35,12 @@ fn first_zone(alloc: Global, entries: &[Vec<u8>]) -> Result<Option<LowerName>, F
 /// Prints that an entry may not stand there.
 fn print_wrong<R: Print>(rt: &R, file: &str, number: usize, place: usize) -> Result<(), Fault> {
     let told = println!(rt; "{file}: entry {number} at {place}: fault: no update of the zone");
+    told.map_err(|_| Fault::Write)
+}
+
+/// Prints that a snapshot has no end.
+fn print_cut<R: Print>(rt: &R, file: &str) -> Result<(), Fault> {
+    let told = println!(rt; "{file}: fault: the snapshot has no end");
     told.map_err(|_| Fault::Write)
 }
 
@@ -47,14 +55,20 @@ pub fn check_entries<R: Print + Alloc<A = Global>>(
     let mut wrong: usize = 0;
     let mut number: usize = 1;
     let mut place: usize = 0;
+    let mut part = Part::First;
     for bytes in entries {
-        let entry = entry_of(rt.alloc(), bytes, number, generation)?;
+        let entry = entry_of(rt.alloc(), bytes, part, generation)?;
         if !may_stand(&entry, &zone) {
             wrong = wrong.saturating_add(1);
             print_wrong(rt, file, number, place)?;
         }
         place = behind(place, bytes.len());
         number = number.saturating_add(1);
+        part = part.behind(&entry);
+    }
+    if part == Part::Snapshot {
+        wrong = wrong.saturating_add(1);
+        print_cut(rt, file)?;
     }
     Ok(wrong)
 }

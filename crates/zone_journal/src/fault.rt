@@ -15,6 +15,9 @@ pub enum Fault {
     /// The name of the apex is none.
     #[error("not the name of a zone")]
     Origin,
+    /// A serial is no number of 32 bits.
+    #[error("not a serial")]
+    Serial,
     /// Memory was refused.
     #[error("no memory")]
     Memory,
@@ -33,6 +36,18 @@ pub enum Fault {
     /// A zone file has no zone.
     #[error("{0}")]
     Zone(ZoneError),
+    /// The zone had this serial at no entry.
+    #[error("the zone has not this serial, before or behind any entry")]
+    NoSerial,
+    /// The files of a journal are not opened.
+    #[error("the files are not opened: one of them is no file, or is in use")]
+    Locked,
+    /// The zone has no snapshot.
+    #[error("the zone does not read back as it is")]
+    NoSnapshot,
+    /// The snapshot was not written.
+    #[error("the snapshot is not written")]
+    NotWritten,
     /// An entry is no update of the zone.
     #[error("{0}")]
     Entries(RedoError),
@@ -42,7 +57,7 @@ impl Fault {
     /// The status that tells it.
     pub fn status(self) -> u8 {
         match self {
-            Fault::Arguments | Fault::Origin => 2,
+            Fault::Arguments | Fault::Origin | Fault::Serial => 2,
             Fault::Memory => 3,
             Fault::Write => 4,
             _ => 5,

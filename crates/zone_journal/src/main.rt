@@ -1,24 +1,30 @@
 //! What stands in a journal of updates.
 //!
 //! `zone_journal list FILE` prints its entries with the records of their updates, `zone_journal check FILE` whether it is whole, and
-//! `zone_journal zone ORIGIN FILE --zone-file ZONE` the records of the zone at its end. `zone_journal --version` prints its name and
-//! version, and `zone_journal --help` how it is started. No file is written, and none is locked.
+//! `zone_journal zone ORIGIN FILE --zone-file ZONE` the records of the zone at its end, or at a serial behind `--serial`; with `--json`
+//! `list` prints an object of JSON for each entry. These write no file, and lock none. `zone_journal compact ORIGIN FILE --zone-file ZONE`
+//! locks FILE and FILE-wal, the two files of a journal, and compacts it. `zone_journal --version` prints its name and version, and
+//! `zone_journal --help` how it is started.
 //!
 //! The status is 0, 1 where bytes behind the entries count for nothing, 2 for wrong arguments, 3 without memory, 4 where the output fails,
 //! and 5 where the journal has a fault or a file is not taken, which is told on the standard error.
 #![tactic(auto)]
 
 mod checks;
+mod compaction;
 mod entries;
 mod fault;
+mod json;
 mod zone;
 
 use crate::checks::{check_entries, print_ending, status_of};
-use crate::entries::{behind, entry_of, print_entry};
+use crate::compaction::compact;
+use crate::entries::{Entry, Part, behind, entry_of, print_entry};
 use crate::fault::{Fault, fault_of_file};
+use crate::json::print_object;
 use crate::zone::{print_zone, with_entries, zone_of_file};
 use clap::error::ErrorKind;
-use clap::{Arg, ArgMatches, Command, Error};
+use clap::{Arg, ArgAction, ArgMatches, Command, Error};
 use hickory_wire::{Name, NameError};
 use std::alloc::{AllocError, Global};
 use std::process::ExitCode;
@@ -34,28 +40,59 @@ fn journal_argument<'a>(alloc: Global) -> Arg<'a> {
     Arg::new(alloc, "FILE").required(true).help("the journal")
 }
 
-/// The command that prints the zone.
-fn zone_command<'a>(alloc: Global) -> Result<Command<'a>, AllocError> {
-    let origin = Arg::new(alloc, "ORIGIN").required(true).help(
+/// The argument that names the apex.
+fn origin_argument<'a>(alloc: Global) -> Arg<'a> {
+    Arg::new(alloc, "ORIGIN").required(true).help(
         "the name of the zone's apex, with or without a dot at its end",
-    );
-    let zone_file = Arg::new(alloc, "zone-file")
+    )
+}
+
+/// The argument that names the zone file.
+fn zone_file_argument<'a>(alloc: Global) -> Arg<'a> {
+    Arg::new(alloc, "zone-file")
         .long("zone-file")
         .value_name("ZONE")
         .required(true)
-        .help("the zone file of before the first entry");
+        .help("the zone file of before the first entry")
+}
+
+/// The command that prints the entries.
+fn list_command<'a>(alloc: Global) -> Result<Command<'a>, AllocError> {
+    let json = Arg::new(alloc, "json")
+        .long("json")
+        .action(ArgAction::SetTrue)
+        .help("an object of JSON for each entry");
+    Command::new(alloc, "list")
+        .about("Prints its entries")
+        .arg(journal_argument(alloc))?
+        .arg(json)
+}
+
+/// The command that prints the zone.
+fn zone_command<'a>(alloc: Global) -> Result<Command<'a>, AllocError> {
+    let serial = Arg::new(alloc, "serial")
+        .long("serial")
+        .value_name("N")
+        .help("where it first has this serial, in the place of its end");
     Command::new(alloc, "zone")
         .about("Prints the records of the zone at its end")
-        .arg(origin)?
+        .arg(origin_argument(alloc))?
         .arg(journal_argument(alloc))?
-        .arg(zone_file)
+        .arg(zone_file_argument(alloc))?
+        .arg(serial)
+}
+
+/// The command that compacts.
+fn compact_command<'a>(alloc: Global) -> Result<Command<'a>, AllocError> {
+    Command::new(alloc, "compact")
+        .about("Compacts it, in FILE and FILE-wal by turns")
+        .arg(origin_argument(alloc))?
+        .arg(journal_argument(alloc))?
+        .arg(zone_file_argument(alloc))
 }
 
 /// The arguments that the program takes.
 fn command<'a>(alloc: Global) -> Result<Command<'a>, AllocError> {
-    let list = Command::new(alloc, "list")
-        .about("Prints its entries")
-        .arg(journal_argument(alloc))?;
     let check = Command::new(alloc, "check")
         .about("Tells whether it is whole")
         .arg(journal_argument(alloc))?;
@@ -63,9 +100,10 @@ fn command<'a>(alloc: Global) -> Result<Command<'a>, AllocError> {
         .version(VERSION)
         .about("Tells what stands in a journal of updates")
         .subcommand_required(true)
-        .subcommand(list)?
+        .subcommand(list_command(alloc)?)?
         .subcommand(check)?
-        .subcommand(zone_command(alloc)?)
+        .subcommand(zone_command(alloc)?)?
+        .subcommand(compact_command(alloc)?)
 }
 
 /// The name of the apex, with or without a dot at its end; the root is a dot alone.
@@ -106,27 +144,53 @@ fn bytes_of<R: Files + Alloc<A = Global>>(rt: &R, file: &str) -> Result<Vec<u8>,
     }
 }
 
+/// Prints an entry, in words or as JSON.
+fn print_one<R: Print + Alloc<A = Global>>(
+    rt: &R,
+    is_json: bool,
+    number: usize,
+    place: usize,
+    len: usize,
+    entry: &Entry,
+) -> Result<(), Fault> {
+    if is_json {
+        return print_object(rt, number, place, len, entry);
+    }
+    match print_entry(rt, number, place, len, entry) {
+        Ok(()) => Ok(()),
+        Err(_) => Err(Fault::Write),
+    }
+}
+
 /// Prints the entries.
-fn print_entries<R: Print + Alloc<A = Global>>(rt: &R, entries: &[Vec<u8>]) -> Result<(), Fault> {
+fn print_entries<R: Print + Alloc<A = Global>>(
+    rt: &R,
+    entries: &[Vec<u8>],
+    is_json: bool,
+) -> Result<(), Fault> {
     let generation = generation(entries);
     let mut number: usize = 1;
     let mut place: usize = 0;
+    let mut part = Part::First;
     for bytes in entries {
-        let entry = entry_of(rt.alloc(), bytes, number, generation)?;
-        if print_entry(rt, number, place, bytes.len(), &entry).is_err() {
-            return Err(Fault::Write);
-        }
+        let entry = entry_of(rt.alloc(), bytes, part, generation)?;
+        print_one(rt, is_json, number, place, bytes.len(), &entry)?;
         number = number.saturating_add(1);
         place = behind(place, bytes.len());
+        part = part.behind(&entry);
     }
     Ok(())
 }
 
 /// Lists a journal.
-fn list<R: Files + Print + Alloc<A = Global>>(rt: &R, file: &str) -> Result<u8, Fault> {
+fn list<R: Files + Print + Alloc<A = Global>>(
+    rt: &R,
+    file: &str,
+    is_json: bool,
+) -> Result<u8, Fault> {
     let bytes = bytes_of(rt, file)?;
     let found = read_entries(rt.alloc(), bytes.as_slice())?;
-    print_entries(rt, found.entries.as_slice())?;
+    print_entries(rt, found.entries.as_slice(), is_json)?;
     Ok(0)
 }
 
@@ -142,12 +206,13 @@ fn check<R: Files + Print + Alloc<A = Global>>(rt: &R, file: &str) -> Result<u8,
     }
 }
 
-/// Prints the zone at the end of a journal.
+/// Prints the zone at the end of a journal, or where it has a serial.
 fn print_end<R: Files + Print + Eprint + Alloc<A = Global>>(
     rt: &R,
     origin: &Name,
     file: &str,
     zone_file: &str,
+    serial: Option<u32>,
 ) -> u8 {
     let zone = match zone_of_file(rt, origin, zone_file) {
         Ok(zone) => zone,
@@ -160,12 +225,23 @@ fn print_end<R: Files + Print + Eprint + Alloc<A = Global>>(
     let Ok(found) = read_entries(rt.alloc(), bytes.as_slice()) else {
         return tell(rt, Fault::Memory);
     };
-    match with_entries(rt.alloc(), zone, found.entries.as_slice()) {
+    match with_entries(rt.alloc(), zone, found.entries.as_slice(), serial) {
         Ok(zone) => match print_zone(rt, &zone) {
             Ok(()) => 0,
             Err(_) => tell(rt, Fault::Write),
         },
         Err(fault) => tell_of_file(rt, file, fault),
+    }
+}
+
+/// The serial that is asked for, if one is.
+fn serial_of(matches: &ArgMatches<'_>) -> Result<Option<u32>, Fault> {
+    let Some(text) = matches.get_str("serial") else {
+        return Ok(None);
+    };
+    match text.parse::<u32>() {
+        Ok(serial) => Ok(Some(serial)),
+        Err(_) => Err(Fault::Serial),
     }
 }
 
@@ -179,17 +255,38 @@ fn run_zone<R: Files + Print + Eprint + Alloc<A = Global>>(
     else {
         return tell(rt, Fault::Arguments);
     };
+    let serial = match serial_of(matches) {
+        Ok(serial) => serial,
+        Err(fault) => return tell(rt, fault),
+    };
     match apex_of(rt.alloc(), text) {
-        Ok(origin) => print_end(rt, &origin, file, zone_file),
+        Ok(origin) => print_end(rt, &origin, file, zone_file, serial),
         Err(fault) => tell(rt, fault),
     }
 }
 
+/// Compacts the journal that the words of its command name, and gives the status.
+fn run_compact(rt: &HostRuntime, file: &str, matches: &ArgMatches<'_>) -> u8 {
+    let (Some(text), Some(zone_file)) = (matches.get_str("ORIGIN"), matches.get_str("zone-file"))
+    else {
+        return tell(rt, Fault::Arguments);
+    };
+    let origin = match apex_of(rt.alloc(), text) {
+        Ok(origin) => origin,
+        Err(fault) => return tell(rt, fault),
+    };
+    let zone = match zone_of_file(rt, &origin, zone_file) {
+        Ok(zone) => zone,
+        Err(fault) => return tell_of_file(rt, zone_file, fault),
+    };
+    match compact(rt, file, zone) {
+        Ok(()) => 0,
+        Err(fault) => tell_of_file(rt, file, fault),
+    }
+}
+
 /// Runs the program with these words, and gives its status.
-fn run_matches<R: Files + Print + Eprint + Alloc<A = Global>>(
-    rt: &R,
-    matches: &ArgMatches<'_>,
-) -> u8 {
+fn run_matches(rt: &HostRuntime, matches: &ArgMatches<'_>) -> u8 {
     let Some((name, matches)) = matches.subcommand() else {
         return tell(rt, Fault::Arguments);
     };
@@ -199,8 +296,11 @@ fn run_matches<R: Files + Print + Eprint + Alloc<A = Global>>(
     if name == "zone" {
         return run_zone(rt, file, matches);
     }
+    if name == "compact" {
+        return run_compact(rt, file, matches);
+    }
     let told = if name == "list" {
-        list(rt, file)
+        list(rt, file, matches.get_flag("json"))
     } else {
         check(rt, file)
     };
@@ -234,7 +334,7 @@ fn given_words<R: Env + Alloc<A = Global>>(rt: &R) -> Result<Vec<String>, Fault>
 }
 
 /// Runs the program, and gives its status.
-fn run<R: Files + Env + Print + Eprint + Alloc<A = Global>>(rt: &R) -> u8 {
+fn run(rt: &HostRuntime) -> u8 {
     let words = match given_words(rt) {
         Ok(words) => words,
         Err(fault) => return tell(rt, fault),

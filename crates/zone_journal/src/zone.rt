@@ -1,7 +1,7 @@
 //! The zone at the end of a journal.
 
 use crate::fault::{Fault, fault_of_file};
-use durable_updates::redo;
+use durable_updates::{recall, recall_to};
 use hickory_base::zone_store::{AxfrPolicy, RecordSet, ZoneType};
 use hickory_server::server::NoKeys;
 use hickory_server::store::file::read_zone;
@@ -12,7 +12,7 @@ use std::rt::Files;
 use std::{fs, io, str};
 
 /// A zone that nobody may change by a request, for the entries of a journal.
-type Zone = SqliteZoneHandler<NoKeys>;
+pub type Zone = SqliteZoneHandler<NoKeys>;
 
 /// The zone of a zone file.
 pub fn zone_of_file<R: Files + Alloc<A = Global>>(
@@ -37,12 +37,21 @@ pub fn zone_of_file<R: Files + Alloc<A = Global>>(
     Ok(SqliteZoneHandler::new(zone, AxfrPolicy::Deny, false, NoKeys))
 }
 
-/// Does the entries of a journal to a zone.
-pub fn with_entries(alloc: Global, zone: Zone, entries: &[Vec<u8>]) -> Result<Zone, Fault> {
+/// Does the entries of a journal to a zone: all, or those up to a serial.
+pub fn with_entries(
+    alloc: Global,
+    zone: Zone,
+    entries: &[Vec<u8>],
+    serial: Option<u32>,
+) -> Result<Zone, Fault> {
     let mut zone = zone;
-    match redo(&mut zone, alloc, entries) {
-        Ok(()) => Ok(zone),
-        Err(e) => Err(Fault::from(e)),
+    let Some(serial) = serial else {
+        recall(&mut zone, alloc, entries)?;
+        return Ok(zone);
+    };
+    match recall_to(&mut zone, alloc, entries, serial)? {
+        Some(_) => Ok(zone),
+        None => Err(Fault::NoSerial),
     }
 }
 

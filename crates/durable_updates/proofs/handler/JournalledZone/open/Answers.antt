@@ -8,6 +8,7 @@ use Rattle.durable_updates.specs.Recorded.{IsRecovered}
 use Rattle.durable_updates.specs.Redone.{Redone}
 use Rattle.durable_updates.specs.Runs.{Opens, Starts, unused}
 use Rattle.durable_updates.proofs.Histories.{started}
+use Rattle.durable_updates.proofs.Recalled.{recalls_all}
 use Rattle.durable_updates.proofs.handler.JournalledZone.open.Goals as goal
 
 pub new-requires-in-Ok-redo : goal.new-requires-in-Ok-redo
@@ -17,7 +18,7 @@ new-requires-in-Ok-redo g c = λ clean.
     let opens : Opens g.V.Verifier g.D.Disk (g.D.Disk.seen c.args.disk) (Ok c.in-Ok.found) c.recover.new.disk = record { disk = c.args.disk; there = refl; restarted = c.requires.restarted; recovers = c.in-Ok.ensures; clean = was } in
     let starts : Starts g.V.Verifier g.D.Disk c.args.zone.zone (g.D.Disk.seen c.args.disk) (record { zone = c.redo.new.zone; journal = c.new.result }) =
     record { opened = c.recover.new.disk; found = c.in-Ok.found; opens = opens; journal = c.new.ensures; redone = redone } in
-    (c.args.zone.zone, contents c.in-Ok.found.entries.items, unused, (started g.V.Verifier g.D.Disk c.args.zone.zone (g.D.Disk.seen c.args.disk) (record { zone = c.redo.new.zone; journal = c.new.result }) starts).1)
+    (c.args.zone.zone, contents c.in-Ok.found.entries.items, c.redo.new.zone.zone, unused, recalls_all (contents c.in-Ok.found.entries.items) c.args.zone.zone c.redo.new.zone.zone redone, (started g.V.Verifier g.D.Disk c.args.zone.zone (g.D.Disk.seen c.args.disk) (record { zone = c.redo.new.zone; journal = c.new.result }) starts).1)
 
 pub returns-in-Ok-redo-clause-recovered : goal.returns-in-Ok-redo-clause-recovered
 returns-in-Ok-redo-clause-recovered g c =

@@ -7,12 +7,15 @@ use Rattle.durable_updates.proofs.Committed.{in_step, of_the_zone}
 use Rattle.durable_updates.proofs.handler.JournalledZone.update_all.Goals as goal
 
 pub invariant_of-self : goal.invariant_of-self
-invariant_of-self g c = λ clean.
-    let was = c.self.invariant (subst IsTrue c.update_all_durably.ensures.clean clean) in
-    let next = in_step g.V.Verifier g.D.Disk (λ (told : Vec Told Global). told.items) c.args.requests.now
-    (record { zone = c.self.inside.zone; journal = c.self.inside.journal }) (record { zone = c.update_all_durably.new.zone; journal = c.update_all_durably.new.journal })
-    was.0 was.1 was.2 c.update_all_durably.result c.update_all_durably.ensures.served c.update_all_durably.ensures.memory was.3 in
-    (was.0, was.1, next.0, next.1)
+invariant_of-self g c = (
+  λ clean.
+      let was = c.self.invariant.0 (subst IsTrue c.update_all_durably.ensures.clean clean) in
+      let next = in_step g.V.Verifier g.D.Disk (λ (told : Vec Told Global). told.items) c.args.requests.now
+      (record { zone = c.self.inside.zone; journal = c.self.inside.journal }) (record { zone = c.update_all_durably.new.zone; journal = c.update_all_durably.new.journal })
+      was.2 was.1 was.3 c.update_all_durably.result c.update_all_durably.ensures.served c.update_all_durably.ensures.memory was.5 in
+      (was.0, was.1, was.2, next.0, was.4, next.1),
+  c.self.invariant.1,
+)
 
 pub returns-clause-answers : goal.returns-clause-answers
 returns-clause-answers g c =

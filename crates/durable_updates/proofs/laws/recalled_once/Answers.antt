@@ -1,0 +1,13 @@
+-- Entry by entry, behind the snapshot.
+use Rattle.hickory_store.proofs.DataTypes.{one_type}
+use Rattle.durable_updates.proofs.Recalled.{fresh_recalled, recalled_once}
+use Rattle.durable_updates.proofs.laws.recalled_once.Goals as goal
+
+pub returns-clause-records : goal.returns-clause-records
+returns-clause-records c = λ entries base new other soa p q. (recalled_once c.identities.ensures.records (one_type c.record_comparisons.ensures.rdata) entries base new other soa p q).0
+
+pub returns-clause-compacted : goal.returns-clause-compacted
+returns-clause-compacted c = fresh_recalled c.identities.ensures.records (one_type c.record_comparisons.ensures.rdata)
+
+pub returns-clause-soa : goal.returns-clause-soa
+returns-clause-soa c = λ entries base new soa p. (recalled_once c.identities.ensures.records (one_type c.record_comparisons.ensures.rdata) entries base new new soa p p).1

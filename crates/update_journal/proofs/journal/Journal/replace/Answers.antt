@@ -1,0 +1,9 @@
+-- Where the disk did not fail, the entries were taken out, and no more.
+use Rattle.std.proofs.Common.{ℕ, List}
+use Rattle.update_journal.proofs.Steps.{cleared_at_least, on_err}
+use Rattle.update_journal.proofs.journal.Journal.replace.Goals as goal
+
+pub returns-in_err-add-clause-kept : goal.returns-in_err-add-clause-kept
+returns-in_err-add-clause-kept g c =
+    on_err c.from_residual-in_err-add.result
+    (cleared_at_least g.D.Disk.seen g.D.Disk.may_leave c.in_err-add.field-0.0 c.args.self.now c.clear.new.self c.add.new.self c.in_err-add.ensures.unwritten (λ of_disk. (c.in_err-add.ensures.failed of_disk).1) c.in_ok-clear.ensures.cleared)
