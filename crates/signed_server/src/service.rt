@@ -7,7 +7,7 @@ ghost use Rattle.hickory_catalog.specs.Server.{server_of};
 ghost use Rattle.hickory_server.specs.declared.server.answer.Answer.{Answer as Outcome};
 ghost use Rattle.hickory_server.specs.declared.server.rules.Rules.{Rules as Ruled};
 ghost use Rattle.tsig.specs.Judging.{Judged};
-ghost use Rattle.signed_server.specs.ServedWithKeys.{AreRulesFor, IsForJudging, IsServed, LeavesWithKeys, ServedWithKeys, arrival, course_of, is_by_one_of};
+ghost use Rattle.signed_server.specs.ServedWithKeys.{AreRulesFor, CountsNoRecord, IsForJudging, IsRequestWithKeys, IsServed, LeavesWithKeys, ServedWithKeys, arrival, course_of, is_by_one_of};
 ghost use Rattle.signed_server.specs.SignedAnswers.{IsSent};
 ghost use Rattle.hickory_server.specs.ServedBy.{LeavesBytes};
 
@@ -55,11 +55,28 @@ fn course_of(judgement: &Judgement) -> Course
     }
 }
 
+/// Whether the header of a message counts no record in any section.
+fn counts_no_record(bytes: &[u8]) -> bool
+    ensures { IsTrue result ↔ CountsNoRecord bytes.now }
+{
+    match bytes {
+        [_, _, _, _, _, _, 0, 0, 0, 0, 0, 0, ..] => true,
+        _ => false,
+    }
+}
+
+/// Whether a message is one that the server judges where it may have a signature.
+fn is_request(keys: &Keys, rules: &Rules, bytes: &[u8], src: SocketAddr) -> bool
+    ensures { IsTrue result ↔ IsRequestWithKeys keys.now rules.now bytes.now src }
+{
+    !keys.is_empty() && rules.access.allow(src.ip()) && bytes.len() >= HEADER_LEN && bytes[2] < 128
+}
+
 /// Whether a message is judged.
 fn is_for_judging(keys: &Keys, rules: &Rules, bytes: &[u8], src: SocketAddr) -> bool
     ensures { IsTrue result ↔ IsForJudging keys.now rules.now bytes.now src }
 {
-    !keys.is_empty() && rules.access.allow(src.ip()) && bytes.len() >= HEADER_LEN && bytes[2] < 128
+    is_request(keys, rules, bytes, src) && !counts_no_record(bytes)
 }
 
 /// Whether two names are one, letter case aside.
@@ -233,7 +250,7 @@ impl<S: ReplySigner, H: ZoneHandler> SignedServer<S, H> {
     /// Serves one message, which came from this address over this transport, at this moment in seconds since 1970: what becomes of it.
     ///
     /// It is judged by the keys (RFC 8945 section 5.2), unless there is none, or its address may not use the server, or it has no header, or is itself a
-    /// response: then, and where it has no TSIG record, it is served as [`Server::serve`] serves it. Where its signature is good, it is served so too,
+    /// response, or counts no record behind its questions: then, and where it has no TSIG record, it is served as [`Server::serve`] serves it. Where its signature is good, it is served so too,
     /// TSIG record and all, by rules that let everybody have transfers where the key is one of `transfer_keys`, and every reply is signed over the bytes
     /// that leave, the first over the MAC of the request, and each further one of a transfer over the MAC of the one before it (sections 5.3 and 5.3.1).
     /// A reply that has no room for its TSIG record is replaced by the question alone, with TC and no error (section 5.3). The room is what the client
@@ -244,7 +261,7 @@ impl<S: ReplySigner, H: ZoneHandler> SignedServer<S, H> {
     /// that cannot be read, as one with a record behind its TSIG record, is unreadable, and has no reply.
     ///
     /// `Memory` says that the catalog is as before, and `MemoryAfterHandling` that the message was handled and its replies are missing. Where there are
-    /// keys, an unsigned message is read once more than by [`Server::serve`]. Here each byte of a signed one, and of each reply to it, is hashed once;
+    /// keys, an unsigned message that counts a record, as an OPT record, is read once more than by [`Server::serve`]. Here each byte of a signed one, and of each reply to it, is hashed once;
     /// handlers that take updates judge by themselves, and hash the message again.
     pub fn serve(
         &mut self,
