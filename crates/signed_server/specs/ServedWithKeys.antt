@@ -16,7 +16,7 @@ use Rattle.hickory_catalog.specs.Server.{Server}
 use Rattle.hickory_server.specs.Ruling.{IsResponse}
 use Rattle.hickory_server.specs.ServedBy.{BytesServed, LeavesBytes}
 use Rattle.hickory_server.specs.declared.server.answer.Answer.{Answer}
-use Rattle.hickory_server.specs.declared.server.answer.Answer.TheVariants.{Replies, Unreadable}
+use Rattle.hickory_server.specs.declared.server.answer.Answer.TheVariants.{Replies}
 use Rattle.hickory_server.specs.declared.server.rules.Rules.{Rules}
 use Rattle.hickory_server.specs.declared.server.serve.ServeError.{ServeError}
 use Rattle.hickory_server.specs.declared.server.serve.ServeError.TheVariants.{Memory, MemoryAfterHandling}
@@ -26,6 +26,7 @@ use Rattle.tsig.specs.declared.judgement.Judgement.TheVariants.{FormErr, Signed,
 use Rattle.tsig.specs.declared.judgement.Verdict.TheVariants.{BadKey, BadSig, BadTime, BadTrunc, Good}
 use Rattle.tsig.specs.declared.keys.Key.{Key}
 use Rattle.signed_server.specs.SignedAnswers.{IsRefused, IsSent}
+use Rattle.signed_server.specs.Unread.{IsUnread}
 use Rattle.signed_server.specs.declared.service.Course.{Course}
 use Rattle.signed_server.specs.declared.service.Course.TheVariants.{Plain, Refuse, Sign}
 
@@ -105,9 +106,9 @@ pub data ServedWithKeys {H : Type 0} (keys : List Key) (names : List DomainName)
   -- It has no TSIG record: it is served as by a server without keys.
   plain : {judgement : Judgement} → IsForJudging keys rules came.bytes came.source → Judged keys came.bytes came.now judgement → course_of judgement ≡ Plain
       → IsServed rules server came answer zones → ServedWithKeys keys names rules server came answer zones
-  -- It begins with no message that the zones could be asked for.
+  -- It begins with no message that the zones could be asked for: FORMERR for a TSIG that is not its last record, and else no reply.
   unreadable : {judgement : Judgement} {e : ProtoError} → IsForJudging keys rules came.bytes came.source → Judged keys came.bytes came.now judgement → IsFaultOf came.bytes e
-      → answer ≡ Unreadable → zones ≡ server.zones → ServedWithKeys keys names rules server came answer zones
+      → IsUnread came.bytes e answer → zones ≡ server.zones → ServedWithKeys keys names rules server came answer zones
   -- Its signature is good: it is served, by the rules for its key, and the replies are signed.
   good : {judgement : Judgement} {request : ReceivedRequest} {served : Answer} {theirs : Rules} → IsForJudging keys rules came.bytes came.source → Judged keys came.bytes came.now judgement
       → course_of judgement ≡ Sign → IsRequestOf came request → AreRulesFor (is_by_one_of names judgement) rules theirs → IsServed theirs server came served zones → IsSent keys judgement rules request came.now served answer

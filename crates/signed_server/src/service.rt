@@ -12,6 +12,7 @@ ghost use Rattle.signed_server.specs.SignedAnswers.{IsSent};
 ghost use Rattle.hickory_server.specs.ServedBy.{LeavesBytes};
 
 use crate::answers::{refused, sent};
+use crate::unread::unread;
 use hickory_base::access::AccessControl;
 use hickory_base::server::Request;
 use hickory_base::zone_store::ZoneHandler;
@@ -227,7 +228,7 @@ impl<S: ReplySigner, H: ZoneHandler> SignedServer<S, H> {
         match self.request.read_in_place(alloc, bytes, src, protocol) {
             Ok(()) => {}
             Err(ProtoError::Memory) => return Err(ServeError::Memory),
-            Err(_) => return Ok(Answer::Unreadable),
+            Err(fault) => return unread(alloc, bytes, fault),
         }
         let (keys, request) = (&self.keys, &self.request);
         let names = self.transfer_keys.as_slice();
@@ -257,8 +258,9 @@ impl<S: ReplySigner, H: ZoneHandler> SignedServer<S, H> {
     /// takes and the rules allow over UDP, and 65,535 bytes over a stream.
     ///
     /// Where the signature is bad, no zone is asked. The reply is NOTAUTH with BADKEY, BADSIG, BADTIME or BADTRUNC in its TSIG record; of these BADTIME,
-    /// with the server's time, and BADTRUNC are signed (section 5.2). It is FORMERR, without a TSIG record, where the TSIG record has no form. A message
-    /// that cannot be read, as one with a record behind its TSIG record, is unreadable, and has no reply.
+    /// with the server's time, and BADTRUNC are signed (section 5.2). It is FORMERR, without a TSIG record, where the TSIG record has no form, and a header
+    /// alone that says FORMERR where a record stands behind the TSIG record, or a TSIG record in another section (section 5.1). Any other message that
+    /// cannot be read is unreadable, and has no reply.
     ///
     /// `Memory` says that the catalog is as before, and `MemoryAfterHandling` that the message was handled and its replies are missing. Where there are
     /// keys, an unsigned message that counts a record, as an OPT record, is read once more than by [`Server::serve`]. Here each byte of a signed one, and of each reply to it, is hashed once;
