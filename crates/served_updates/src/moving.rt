@@ -41,6 +41,7 @@ pub enum MoveFault {
 }
 
 /// Why one zone cannot take updates.
+#[derive(Clone, Copy)]
 enum Unmoved {
     /// It is shared.
     Shared,

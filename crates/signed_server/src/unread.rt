@@ -31,7 +31,8 @@ fn is_misplaced(fault: DecodeError) -> bool
 fn header_of(bytes: &[u8]) -> Option<Header>
     ensures { MatchOption result (length bytes.now < 12) (HeaderAt bytes.now) }
 {
-    match BinDecoder::new(bytes).read_header() {
+    let mut decoder = BinDecoder::new(bytes);
+    match decoder.read_header() {
         Ok(header) => Some(header),
         Err(_) => None,
     }

@@ -69,7 +69,10 @@ pub fn see_zones(
 {
     for index in 0..grants.len() {
         if !is_loaded(loaded, &grants[index].apex) {
-            let place = arguments.get(index).map_or(0, |argument| argument.place);
+            let place = match arguments.get(index) {
+                Some(argument) => argument.place,
+                None => 0,
+            };
             return Err(Fault::UpdateZone { place });
         }
     }
