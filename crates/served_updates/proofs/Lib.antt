@@ -1,2 +1,3 @@
 mod Rules
+mod Searching
 mod Served

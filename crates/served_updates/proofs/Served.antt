@@ -1,20 +1,17 @@
 -- Handlers of zones with rules, and without.
-use Rattle.std.proofs.Common.{◌≡◌, ◌<◌, ◌+◌, ◌++◌, ◌∷◌, [], ℕ, List, length, get_or, take, refl, sym, ap, subst, ◌∙◌}
-use Rattle.std.proofs.lemmas.List.{take_more}
+use Rattle.std.proofs.Common.{◌≡◌, ◌<◌, ◌+◌, ◌++◌, ◌∷◌, [], ℕ, List, length, get_or, take, refl, sym, ap, subst, ◌∙◌, arith}
+use Rattle.std.proofs.lemmas.Grind.{common_steps}
+use Rattle.std.specs.List.{AllZip}
 use Rattle.either.specs.declared.Either.TheVariants.{Left, Right}
 use Rattle.hickory_catalog.specs.declared.catalog.Catalog.{Catalog}
 use Rattle.hickory_zone.specs.declared.zone_with_parent.ZoneWithParent.{ZoneWithParent}
 use Rattle.hickory_store.specs.BlockAnswers.{Blocklist}
 use Rattle.std.specs.Global.{Global}
 use Rattle.std.specs.declared.rc.Rc.{Rc}
-use Rattle.wire_names.specs.rr.domain.DomainName.{DomainName}
 use Rattle.tsig.specs.declared.keys.Key.{Key}
 use Rattle.update_policy.specs.declared.policy.Rule.{Rule}
-use Rattle.served_zones.specs.ServedZones.{Chain, ServedHandler}
-use Rattle.served_zones.specs.declared.parents.Loaded.{Loaded}
-use Rattle.served_updates.specs.Grants.{rules_for}
-use Rattle.served_updates.specs.Moved.{AreMoved, IsServedAs, Moves, TakesUpdates, UpdatedChain, UpdatedHandler, more}
-use Rattle.served_updates.specs.declared.grants.Grant.{Grant}
+use Rattle.served_zones.specs.ServedZones.{ServedHandler}
+use Rattle.served_updates.specs.Moved.{IsServedAs, TakesUpdates, UpdatedHandler}
 
 pub without_rules : (keys : List Key) (rules : List Rule) (before : ServedHandler) → rules ≡ [] → IsServedAs keys rules before (Right before)
 without_rules keys rules before none = subst (λ (r : List Rule). IsServedAs keys r before (Right before)) (sym none) refl
@@ -27,12 +24,16 @@ pub list_stays : (keys : List Key) (rules : List Rule) (list : Rc Blocklist Glob
 list_stays keys [] list = refl
 list_stays keys (rule ∷ rules) list = refl
 
--- zones that are moved, and one more
-pub moved_more : (keys : List Key) (grants : List Grant) (loaded : List Loaded) (i : ℕ) (d : Loaded) (old between left : List (DomainName × Chain)) (before middle after : List (DomainName × UpdatedChain)) → i < length loaded
-    → AreMoved keys grants (take i loaded) old between before middle → Moves keys (rules_for grants (get_or loaded i d).apex) (get_or loaded i d).apex between left middle after
-    → AreMoved keys grants (take (i + 1) loaded) old left before after
-moved_more keys grants loaded i d old between left before middle after inside so_far one =
-    subst (λ (l : List Loaded). AreMoved keys grants l old left before after) (sym (take_more loaded i d inside)) (more (get_or loaded i d) so_far one)
+-- one pair more
+pub zip_push : {A B : Type 0} (R : A → B → Type 0) (xs : List A) (ys : List B) (x : A) (y : B) → AllZip R xs ys → R x y → AllZip R (xs ++ x ∷ []) (ys ++ y ∷ [])
+zip_push R [] [] x y all one = (one, tt)
+zip_push R [] (z ∷ ys) x y all one = absurd all
+zip_push R (z ∷ xs) [] x y all one = absurd all
+zip_push R (z ∷ xs) (w ∷ ys) x y all one = (all.0, zip_push R xs ys x y all.1 one)
+
+-- one element more
+pub one_more : {X : Type 0} (xs : List X) (i : ℕ) (x : X) → i < length xs → x ≡ get_or xs i x → take (i + 1) xs ≡ take i xs ++ x ∷ []
+one_more xs i x inside is = grind (arith, common_steps)
 
 -- nothing but its zones changes of a catalog, over two steps
 pub zones_alone : {S H : Type 0} (first middle last : Catalog S H) → middle ≡ record first { zones = middle.zones } → last ≡ record middle { zones = last.zones }

@@ -17,7 +17,7 @@ use hickory_zone::ZoneWithParent;
 use served_zones::handler;
 use served_zones::parents::Loaded;
 use signed_server::LeftToServer;
-use std::alloc::{AllocError, Global};
+use std::alloc::{AllocError, AllocFailed, Global};
 use std::rc::Rc;
 use tsig::{Keys, TsigVerifier};
 use update_policy::Policy;
@@ -51,6 +51,12 @@ enum Unmoved {
 
 impl From<AllocError> for Unmoved {
     fn from(_e: AllocError) -> Unmoved {
+        Unmoved::Memory
+    }
+}
+
+impl<T: Drop> From<AllocFailed<T>> for Unmoved {
+    fn from(_e: AllocFailed<T>) -> Unmoved {
         Unmoved::Memory
     }
 }
@@ -140,6 +146,26 @@ fn move_zone(
     }
 }
 
+/// Moves the chain of a zone that was loaded, the one at this place among the zones.
+fn move_loaded(
+    alloc: Global,
+    keys: &Keys,
+    grants: &[Grant],
+    loaded: &Loaded,
+    place: usize,
+    zones: &mut handler::Zones,
+    made: &mut Zones,
+) -> Result<(), MoveFault>
+    ensures moved { OnOk result (Moves keys.now (rules_for grants.now loaded.now.apex) loaded.now.apex zones.old.zones zones.new.zones made.old.zones made.new.zones) }
+    ensures others { made.new ≡ record made.old { zones = made.new.zones } }
+{
+    match move_zone(alloc, keys, grants, &loaded.apex, zones, made) {
+        Ok(()) => Ok(()),
+        Err(Unmoved::Shared) => Err(MoveFault::Shared { place }),
+        Err(Unmoved::Memory) => Err(MoveFault::Memory),
+    }
+}
+
 /// Moves zones that were loaded from the catalog of a server without updates to that of a server with them, in their order, each with the rules that are of
 /// it: a zone that has one takes updates by these keys, and all others are served as they were. After an error some are moved.
 pub fn move_zones(
@@ -153,12 +179,10 @@ pub fn move_zones(
     ensures moved { OnOk result (AreMoved keys.now grants.now loaded.now zones.old.zones zones.new.zones made.old.zones made.new.zones) }
     ensures others { made.new ≡ record made.old { zones = made.new.zones } }
 {
-    for place in 0..loaded.len() {
-        match move_zone(alloc, keys, grants, &loaded[place].apex, zones, made) {
-            Ok(()) => {}
-            Err(Unmoved::Shared) => return Err(MoveFault::Shared { place }),
-            Err(Unmoved::Memory) => return Err(MoveFault::Memory),
-        }
+    let mut place = 0usize;
+    for zone in loaded {
+        move_loaded(alloc, keys, grants, zone, place, zones, made)?;
+        place = place.saturating_add(1);
     }
     Ok(())
 }

@@ -180,11 +180,12 @@ impl<V: Verifier> ZoneHandler for UpdatedZone<V> {
     }
 
     fn stored_answer(&self, request: &Request, options: LookupOptions) -> Option<StoredAnswer<'_>> {
-        match request.request_info() {
-            Ok(info) if self.asked_above(info.query).is_none() => {
-                self.zone.stored_answer(request, options)
-            }
-            _ => None,
+        let Ok(info) = request.request_info() else {
+            return None;
+        };
+        match self.asked_above(info.query) {
+            Some(_) => None,
+            None => self.zone.stored_answer(request, options),
         }
     }
 

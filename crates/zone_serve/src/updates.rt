@@ -9,7 +9,7 @@ ghost use Rattle.zone_serve.specs.Catalogs.{IsGrantOf, is_loaded};
 use crate::arguments::UpdateArgument;
 use crate::fault::Fault;
 use hickory_server::proto::Name;
-use served_updates::grants::{Grant, GrantFault, grant};
+use served_updates::grants::{Grant, GrantFault, zone_grant};
 use served_updates::moving::{MoveFault, Zones, move_zones};
 use served_zones::handler::Zones as FixedZones;
 use served_zones::parents::Loaded;
@@ -20,7 +20,7 @@ use tsig::Keys;
 fn grant_of(alloc: Global, keys: &Keys, argument: UpdateArgument<'_>) -> Result<Grant, Fault>
     ensures { IfOk result (IsGrantOf keys.now argument.entry) }
 {
-    match grant(alloc, keys, argument.zone, argument.rule) {
+    match zone_grant(alloc, keys, argument.zone, argument.rule) {
         Ok(grant) => Ok(grant),
         Err(GrantFault::Memory) => Err(Fault::Memory),
         Err(fault) => Err(Fault::Update {
