@@ -1,6 +1,6 @@
 //! Who may update which zones, from the arguments.
 
-ghost use Rattle.std.specs.Prelude.{◌≡◌, All, IfOk, IsTrue, OnOk};
+ghost use Rattle.std.specs.Prelude.{◌≡◌, ◌↔◌, All, IfOk, IsTrue, OnOk};
 ghost use Rattle.std.specs.List.{AllZip, list_any};
 ghost use Rattle.wire_names.specs.rr.domain.NameOrder.{name_eq};
 ghost use Rattle.served_updates.specs.Moved.{AreMoved};
@@ -59,7 +59,25 @@ fn is_loaded(loaded: &[Loaded], apex: &Name) -> bool
     loaded.iter().any(|zone| is_at(zone, apex))
 }
 
-/// That each rule is of a zone that was loaded.
+/// Whether each rule is of a zone that was loaded.
+fn are_of_zones(grants: &[Grant], loaded: &[Loaded]) -> bool
+    ensures { IsTrue result ↔ All (λ grant. IsTrue (is_loaded loaded.now grant.apex)) grants.now }
+{
+    grants.iter().all(|grant| is_loaded(loaded, &grant.apex))
+}
+
+/// The place of the argument whose rule is of no zone that was loaded.
+fn place_of_none(grants: &[Grant], loaded: &[Loaded], arguments: &[UpdateArgument<'_>]) -> usize {
+    match grants
+        .iter()
+        .position(|grant| !is_loaded(loaded, &grant.apex))
+    {
+        Some(index) => arguments.get(index).map_or(0, |argument| argument.place),
+        None => 0,
+    }
+}
+
+/// Sees that each rule is of a zone that was loaded.
 pub fn see_zones(
     grants: &[Grant],
     loaded: &[Loaded],
@@ -67,16 +85,11 @@ pub fn see_zones(
 ) -> Result<(), Fault>
     ensures { OnOk result (All (λ grant. IsTrue (is_loaded loaded.now grant.apex)) grants.now) }
 {
-    for index in 0..grants.len() {
-        if !is_loaded(loaded, &grants[index].apex) {
-            let place = match arguments.get(index) {
-                Some(argument) => argument.place,
-                None => 0,
-            };
-            return Err(Fault::UpdateZone { place });
-        }
+    if are_of_zones(grants, loaded) {
+        return Ok(());
     }
-    Ok(())
+    let place = place_of_none(grants, loaded, arguments);
+    Err(Fault::UpdateZone { place })
 }
 
 /// Moves the zones that were loaded into a catalog where those that have rules take updates by these keys.
