@@ -7,7 +7,7 @@
 The requests are made and signed here (RFC 8945 sections 4.3 and 5.1). `verify` looks up the request of every reply in the .in beside the file,
 and says of each reply whether it carries a MAC, and whether that is the one of the bytes (sections 5.3 and 5.3.1). A comment above a message
 begins with the word that is wanted of its replies: 'signed', with a MAC that verifies; 'bare', with a TSIG record without a MAC; 'plain', without
-a TSIG record; 'none', where there is no reply; or 'refused', where there is none or one without a MAC and without answers that says FORMERR or NOTAUTH.
+a TSIG record; 'malformed', where the one reply is the header of the request with FORMERR and nothing else (section 5.1); 'none', where there is no reply; or 'refused', where there is none or one without a MAC and without answers that says FORMERR or NOTAUTH.
 The last line is 'N passed, M failed'.
 """
 import glob
@@ -86,6 +86,12 @@ def signed(bytes_, algorithm="hmac-sha256", key=None, secret=SECRET, time=NOW, l
     return counted(bytes_, 1 + (1 if behind else 0)) + record(key, told, time, 300, mac, struct.unpack(">H", bytes_[:2])[0], **fields) + behind
 
 
+def moved(bytes_, place):
+    """A message whose last additional record is counted in the section whose count stands at a place."""
+    count = struct.unpack(">H", bytes_[place : place + 2])[0] + 1
+    return counted(bytes_[:place] + struct.pack(">H", count) + bytes_[place + 2 :], -1)
+
+
 WWW = query("www.example.com", A)
 BIG = "big.example.com"
 
@@ -132,8 +138,14 @@ FILES = {
         ("plain: a MAC of no byte, FORMERR", "udp 192.0.2.1", signed(WWW, length=0)),
         ("plain: a TSIG record of class IN, FORMERR", "udp 192.0.2.1", signed(WWW, kind=IN)),
         ("plain: a TSIG record with a TTL, FORMERR", "udp 192.0.2.1", signed(WWW, ttl=1)),
-        ("none: a record behind the TSIG record", "udp 192.0.2.1", signed(WWW, behind=opt(1232))),
-        ("none: two TSIG records", "udp 192.0.2.1", signed(signed(WWW))),
+        ("malformed: a record behind the TSIG record", "udp 192.0.2.1", signed(WWW, behind=opt(1232))),
+        ("malformed: two TSIG records", "udp 192.0.2.1", signed(signed(WWW))),
+        ("malformed: two TSIG records, over TCP", "tcp 192.0.2.1", signed(signed(WWW))),
+        ("malformed: a TSIG record among the answers, and no additional record", "udp 192.0.2.1", moved(signed(WWW), 6)),
+        ("malformed: a TSIG record among the authorities, and no additional record", "udp 192.0.2.1", moved(signed(WWW), 8)),
+        ("malformed: a TSIG record among the answers, and one that is last", "udp 192.0.2.1", signed(moved(signed(WWW), 6))),
+        ("malformed: a TSIG record in the update section of an update", "udp 192.0.2.1", moved(signed(update("two.example.com", (192, 0, 2, 10))), 8)),
+        ("none: a message that ends within its TSIG record", "udp 192.0.2.1", signed(WWW)[:-1]),
         ("none: an address that may not use the server", "udp 10.0.0.1", signed(WWW)),
         ("none: a response", "udp 192.0.2.1", signed(message(0x1234, 0x8000, (1, 0, 0, 0), question("www.example.com", A)))),
     ],
@@ -250,8 +262,10 @@ def standing(request, replies):
     return " and ".join(sorted(told))
 
 
-def is_wanted(word, found, replies):
+def is_wanted(word, found, request, replies):
     """Whether replies that stand so are what a comment wants."""
+    if word == "malformed":
+        return replies == [request[:2] + bytes([request[2] & 0x79 | 0x80, request[3] & 0x10 | 1]) + bytes(8)]
     if word != "refused":
         return found == word
     return found in ("none", "plain", "bare") and all(reply[3] & 15 in (1, 9) and reply[6:8] == b"\0\0" for reply in replies)
@@ -270,7 +284,7 @@ def verify(path):
                 transport, _, _, digits = asked[number]
                 found = standing(bytes.fromhex(digits), replies)
                 limit = 600 if transport == "udp" else 65535
-                is_well = is_wanted(wanted.split(":")[0], found, replies) and all(len(reply) <= limit for reply in replies)
+                is_well = is_wanted(wanted.split(":")[0], found, bytes.fromhex(digits), replies) and all(len(reply) <= limit for reply in replies)
                 passed, failed = passed + is_well, failed + (not is_well)
                 if not is_well:
                     print(f"FAILED {path}: {wanted}: {found}")

@@ -112,6 +112,13 @@ impl<V: Verifier> DynamicZone<V> {
         }
     }
 
+    /// The handler that takes its updates.
+    pub fn updatable(&self) -> &SqliteZoneHandler<V>
+        ensures { result.now ≡ self.now }
+    {
+        &self.updatable
+    }
+
     /// The handler that it was made of, with the zone as its updates left it.
     pub fn into_updatable(self) -> SqliteZoneHandler<V>
         ensures { result ≡ self }

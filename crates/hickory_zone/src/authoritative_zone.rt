@@ -70,6 +70,13 @@ impl AuthoritativeZone {
         })
     }
 
+    /// The zone that it was made of.
+    pub fn into_in_memory(self) -> InMemoryZoneHandler
+        ensures { result ≡ self }
+    {
+        self.zone
+    }
+
     /// What the zone replies to a question, whole.
     pub fn reply(&self, alloc: Global, query: &LowerQuery) -> Result<WholeReply, AllocError>
         ensures { IfOk result (RepliesTo (zone_of self.now) query.now) }

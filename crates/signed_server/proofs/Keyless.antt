@@ -10,11 +10,11 @@ use Rattle.signed_server.specs.ServedWithKeys.ServedWithKeys.{bad, good, plain, 
 pub as_served : {H : Type 0} (server : Server H) (names : List DomainName) (rules : Rules) (came : Arrival) (answer : Answer) (zones : List (DomainName × List H))
     → ServedWithKeys [] names rules server came answer zones → IsServed rules server came answer zones
 as_served server names rules came answer zones (unjudged for_nobody served) = served
-as_served server names rules came answer zones (plain judging judged course served) = absurd (judging.keyed refl)
-as_served server names rules came answer zones (unreadable judging judged fault is stays) = absurd (judging.keyed refl)
-as_served server names rules came answer zones (good judging judged course request theirs served sent) = absurd (judging.keyed refl)
-as_served server names rules came answer zones (bad judging judged course request refused is stays) = absurd (judging.keyed refl)
+as_served server names rules came answer zones (plain judging judged course served) = absurd (judging.request.keyed refl)
+as_served server names rules came answer zones (unreadable judging judged fault is stays) = absurd (judging.request.keyed refl)
+as_served server names rules came answer zones (good judging judged course request theirs served sent) = absurd (judging.request.keyed refl)
+as_served server names rules came answer zones (bad judging judged course request refused is stays) = absurd (judging.request.keyed refl)
 
 pub by_nobody : {H : Type 0} (server : Server H) (names : List DomainName) (rules : Rules) (came : Arrival) (answer : Answer) (zones : List (DomainName × List H))
     → IsServed rules server came answer zones → ServedWithKeys [] names rules server came answer zones
-by_nobody server names rules came answer zones served = unjudged (λ judging. judging.keyed refl) served
+by_nobody server names rules came answer zones served = unjudged (λ judging. judging.request.keyed refl) served

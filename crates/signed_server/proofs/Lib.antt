@@ -1,4 +1,5 @@
 mod Courses
+mod Errors
 mod Keyless
 mod Puts
 mod Verified

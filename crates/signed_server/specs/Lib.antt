@@ -2,3 +2,4 @@ pub mod Placeholders
 pub mod ServedWithKeys
 pub mod SignedAnswers
 pub mod SignedLaws
+pub mod Unread

@@ -1,5 +1,5 @@
 -- What becomes of a message at a server with keys (RFC 8945 section 5.2).
-use Rattle.std.specs.Prelude.{◌≡◌, ◌≤◌, ◌⊎◌, ℕ, Bool, true, false, List, [], length, Contains}
+use Rattle.std.specs.Prelude.{◌≡◌, ◌≤◌, ◌⊎◌, ℕ, Bool, true, false, List, [], get_or, length, Contains}
 use Rattle.std.specs.List.{list_any}
 use Rattle.std.specs.Net.Socket.{socket_ip}
 use Rattle.std.specs.declared.net.SocketAddr.{SocketAddr}
@@ -16,7 +16,7 @@ use Rattle.hickory_catalog.specs.Server.{Server}
 use Rattle.hickory_server.specs.Ruling.{IsResponse}
 use Rattle.hickory_server.specs.ServedBy.{BytesServed, LeavesBytes}
 use Rattle.hickory_server.specs.declared.server.answer.Answer.{Answer}
-use Rattle.hickory_server.specs.declared.server.answer.Answer.TheVariants.{Replies, Unreadable}
+use Rattle.hickory_server.specs.declared.server.answer.Answer.TheVariants.{Replies}
 use Rattle.hickory_server.specs.declared.server.rules.Rules.{Rules}
 use Rattle.hickory_server.specs.declared.server.serve.ServeError.{ServeError}
 use Rattle.hickory_server.specs.declared.server.serve.ServeError.TheVariants.{Memory, MemoryAfterHandling}
@@ -26,6 +26,7 @@ use Rattle.tsig.specs.declared.judgement.Judgement.TheVariants.{FormErr, Signed,
 use Rattle.tsig.specs.declared.judgement.Verdict.TheVariants.{BadKey, BadSig, BadTime, BadTrunc, Good}
 use Rattle.tsig.specs.declared.keys.Key.{Key}
 use Rattle.signed_server.specs.SignedAnswers.{IsRefused, IsSent}
+use Rattle.signed_server.specs.Unread.{IsUnread}
 use Rattle.signed_server.specs.declared.service.Course.{Course}
 use Rattle.signed_server.specs.declared.service.Course.TheVariants.{Plain, Refuse, Sign}
 
@@ -39,12 +40,24 @@ pub record Arrival : Type 0 where
 abbrev pub arrival : List ℕ → SocketAddr → Protocol → ℕ → Arrival
 arrival bytes source protocol now = record { bytes = bytes; source = source; protocol = protocol; now = now }
 
--- A message is judged where the server has a key, the message's address may use the server, and it is no shorter than a header and itself no response.
-pub record IsForJudging (keys : List Key) (rules : Rules) (bytes : List ℕ) (source : SocketAddr) : Type 0 where
+-- The message has a header, which counts no record in any of the three sections behind the questions (RFC 1035 section 4.1.1). So no TSIG is counted.
+pub record CountsNoRecord (bytes : List ℕ) : Type 0 where
+  pub whole : 12 ≤ length bytes
+  pub answers : (get_or bytes 6 0 ≡ 0) × (get_or bytes 7 0 ≡ 0)
+  pub authorities : (get_or bytes 8 0 ≡ 0) × (get_or bytes 9 0 ≡ 0)
+  pub additionals : (get_or bytes 10 0 ≡ 0) × (get_or bytes 11 0 ≡ 0)
+
+-- The server has a key, the message's address may use the server, and it is no shorter than a header and itself no response.
+pub record IsRequestWithKeys (keys : List Key) (rules : Rules) (bytes : List ℕ) (source : SocketAddr) : Type 0 where
   pub keyed : ¬ (keys ≡ [])
   pub allowed : IsAllowed rules.access.deny rules.access.allow (socket_ip source)
   pub whole : 12 ≤ length bytes
   pub no_response : ¬ (IsResponse bytes)
+
+-- A message is judged where it is such a request, and its header counts a record that may be a TSIG.
+pub record IsForJudging (keys : List Key) (rules : Rules) (bytes : List ℕ) (source : SocketAddr) : Type 0 where
+  pub request : IsRequestWithKeys keys rules bytes source
+  pub counts : ¬ (CountsNoRecord bytes)
 
 -- The request that begins the bytes of a message, as it stands there (RFC 1035 section 4.1) and as it is read.
 pub record IsRequestOf (came : Arrival) (request : ReceivedRequest) : Type 0 where
@@ -88,14 +101,14 @@ IsServed rules server came answer zones = BytesServed rules server came.bytes ca
 
 -- What becomes of a message at a server with keys, and the zones after it. Of the keys those of these names may have transfers from anywhere.
 pub data ServedWithKeys {H : Type 0} (keys : List Key) (names : List DomainName) (rules : Rules) (server : Server H) (came : Arrival) (answer : Answer) (zones : List (DomainName × List H)) : Type 0 where
-  -- It is not judged: it is served as by a server without keys, which gives it no reply where the server has a key.
+  -- It is not judged: it is served as by a server without keys, which gives it no reply where the server has a key and the message counts a record.
   unjudged : ¬ (IsForJudging keys rules came.bytes came.source) → IsServed rules server came answer zones → ServedWithKeys keys names rules server came answer zones
   -- It has no TSIG record: it is served as by a server without keys.
   plain : {judgement : Judgement} → IsForJudging keys rules came.bytes came.source → Judged keys came.bytes came.now judgement → course_of judgement ≡ Plain
       → IsServed rules server came answer zones → ServedWithKeys keys names rules server came answer zones
-  -- It begins with no message that the zones could be asked for.
+  -- It begins with no message that the zones could be asked for: FORMERR for a TSIG that is not its last record, and else no reply.
   unreadable : {judgement : Judgement} {e : ProtoError} → IsForJudging keys rules came.bytes came.source → Judged keys came.bytes came.now judgement → IsFaultOf came.bytes e
-      → answer ≡ Unreadable → zones ≡ server.zones → ServedWithKeys keys names rules server came answer zones
+      → IsUnread came.bytes e answer → zones ≡ server.zones → ServedWithKeys keys names rules server came answer zones
   -- Its signature is good: it is served, by the rules for its key, and the replies are signed.
   good : {judgement : Judgement} {request : ReceivedRequest} {served : Answer} {theirs : Rules} → IsForJudging keys rules came.bytes came.source → Judged keys came.bytes came.now judgement
       → course_of judgement ≡ Sign → IsRequestOf came request → AreRulesFor (is_by_one_of names judgement) rules theirs → IsServed theirs server came served zones → IsSent keys judgement rules request came.now served answer

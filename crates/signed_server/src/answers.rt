@@ -118,7 +118,7 @@ fn refusal_code(judgement: &Judgement) -> ResponseCode
 }
 
 /// The header of a reply of this code.
-fn refusal(request: &Metadata, code: ResponseCode) -> Metadata
+pub(crate) fn refusal(request: &Metadata, code: ResponseCode) -> Metadata
     ensures { result ≡ error_metadata request.now code }
 {
     let mut metadata = Metadata::response_from_request(request);

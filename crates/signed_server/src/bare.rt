@@ -32,7 +32,7 @@ fn edns_of(alloc: Global, message: &MessageRequest) -> Option<Edns>
 }
 
 /// The bytes of a message without records, but for its OPT record, within a limit.
-fn encoded<'a>(
+pub(crate) fn encoded<'a>(
     alloc: Global,
     metadata: Metadata,
     question: &'a [u8],

@@ -8,6 +8,7 @@ mod chains;
 mod laws;
 mod placeholders;
 mod service;
+mod unread;
 
 pub use laws::{served_without_keys, signed_replies};
 pub use placeholders::LeftToServer;

@@ -7,11 +7,12 @@ ghost use Rattle.hickory_catalog.specs.Server.{server_of};
 ghost use Rattle.hickory_server.specs.declared.server.answer.Answer.{Answer as Outcome};
 ghost use Rattle.hickory_server.specs.declared.server.rules.Rules.{Rules as Ruled};
 ghost use Rattle.tsig.specs.Judging.{Judged};
-ghost use Rattle.signed_server.specs.ServedWithKeys.{AreRulesFor, IsForJudging, IsServed, LeavesWithKeys, ServedWithKeys, arrival, course_of, is_by_one_of};
+ghost use Rattle.signed_server.specs.ServedWithKeys.{AreRulesFor, CountsNoRecord, IsForJudging, IsRequestWithKeys, IsServed, LeavesWithKeys, ServedWithKeys, arrival, course_of, is_by_one_of};
 ghost use Rattle.signed_server.specs.SignedAnswers.{IsSent};
 ghost use Rattle.hickory_server.specs.ServedBy.{LeavesBytes};
 
 use crate::answers::{refused, sent};
+use crate::unread::unread;
 use hickory_base::access::AccessControl;
 use hickory_base::server::Request;
 use hickory_base::zone_store::ZoneHandler;
@@ -55,11 +56,28 @@ fn course_of(judgement: &Judgement) -> Course
     }
 }
 
+/// Whether the header of a message counts no record in any section.
+fn counts_no_record(bytes: &[u8]) -> bool
+    ensures { IsTrue result ↔ CountsNoRecord bytes.now }
+{
+    match bytes {
+        [_, _, _, _, _, _, 0, 0, 0, 0, 0, 0, ..] => true,
+        _ => false,
+    }
+}
+
+/// Whether a message is one that the server judges where it may have a signature.
+fn is_request(keys: &Keys, rules: &Rules, bytes: &[u8], src: SocketAddr) -> bool
+    ensures { IsTrue result ↔ IsRequestWithKeys keys.now rules.now bytes.now src }
+{
+    !keys.is_empty() && rules.access.allow(src.ip()) && bytes.len() >= HEADER_LEN && bytes[2] < 128
+}
+
 /// Whether a message is judged.
 fn is_for_judging(keys: &Keys, rules: &Rules, bytes: &[u8], src: SocketAddr) -> bool
     ensures { IsTrue result ↔ IsForJudging keys.now rules.now bytes.now src }
 {
-    !keys.is_empty() && rules.access.allow(src.ip()) && bytes.len() >= HEADER_LEN && bytes[2] < 128
+    is_request(keys, rules, bytes, src) && !counts_no_record(bytes)
 }
 
 /// Whether two names are one, letter case aside.
@@ -210,7 +228,7 @@ impl<S: ReplySigner, H: ZoneHandler> SignedServer<S, H> {
         match self.request.read_in_place(alloc, bytes, src, protocol) {
             Ok(()) => {}
             Err(ProtoError::Memory) => return Err(ServeError::Memory),
-            Err(_) => return Ok(Answer::Unreadable),
+            Err(fault) => return unread(alloc, bytes, fault),
         }
         let (keys, request) = (&self.keys, &self.request);
         let names = self.transfer_keys.as_slice();
@@ -233,18 +251,19 @@ impl<S: ReplySigner, H: ZoneHandler> SignedServer<S, H> {
     /// Serves one message, which came from this address over this transport, at this moment in seconds since 1970: what becomes of it.
     ///
     /// It is judged by the keys (RFC 8945 section 5.2), unless there is none, or its address may not use the server, or it has no header, or is itself a
-    /// response: then, and where it has no TSIG record, it is served as [`Server::serve`] serves it. Where its signature is good, it is served so too,
+    /// response, or counts no record behind its questions: then, and where it has no TSIG record, it is served as [`Server::serve`] serves it. Where its signature is good, it is served so too,
     /// TSIG record and all, by rules that let everybody have transfers where the key is one of `transfer_keys`, and every reply is signed over the bytes
     /// that leave, the first over the MAC of the request, and each further one of a transfer over the MAC of the one before it (sections 5.3 and 5.3.1).
     /// A reply that has no room for its TSIG record is replaced by the question alone, with TC and no error (section 5.3). The room is what the client
     /// takes and the rules allow over UDP, and 65,535 bytes over a stream.
     ///
     /// Where the signature is bad, no zone is asked. The reply is NOTAUTH with BADKEY, BADSIG, BADTIME or BADTRUNC in its TSIG record; of these BADTIME,
-    /// with the server's time, and BADTRUNC are signed (section 5.2). It is FORMERR, without a TSIG record, where the TSIG record has no form. A message
-    /// that cannot be read, as one with a record behind its TSIG record, is unreadable, and has no reply.
+    /// with the server's time, and BADTRUNC are signed (section 5.2). It is FORMERR, without a TSIG record, where the TSIG record has no form, and a header
+    /// alone that says FORMERR where a record stands behind the TSIG record, or a TSIG record in another section (section 5.1). Any other message that
+    /// cannot be read is unreadable, and has no reply.
     ///
     /// `Memory` says that the catalog is as before, and `MemoryAfterHandling` that the message was handled and its replies are missing. Where there are
-    /// keys, an unsigned message is read once more than by [`Server::serve`]. Here each byte of a signed one, and of each reply to it, is hashed once;
+    /// keys, an unsigned message that counts a record, as an OPT record, is read once more than by [`Server::serve`]. Here each byte of a signed one, and of each reply to it, is hashed once;
     /// handlers that take updates judge by themselves, and hash the message again.
     pub fn serve(
         &mut self,

@@ -1,6 +1,6 @@
 //! Rules of who may update what.
 
-ghost use Rattle.std.specs.Prelude.{◌≡◌, ◌↔◌, ◌++◌, ◌∷◌, [], IsTrue, OnErr, OnOk};
+ghost use Rattle.std.specs.Prelude.{◌≡◌, ◌↔◌, ◌++◌, ◌∷◌, [], IfOk, IsTrue, OnErr, OnOk};
 ghost use Rattle.std.specs.List.{list_any};
 ghost use Rattle.update_policy.specs.Grants.{AreGranted, Grants, IsGranted, IsInScope, is_listed, is_of_types, is_ordinary};
 
@@ -32,6 +32,20 @@ pub enum Scope {
     OneName(Name),
     /// The name that the key has.
     OwnName,
+}
+
+impl Scope {
+    /// A copy.
+    fn copied(&self) -> Result<Scope, AllocError>
+        ensures { IfOk result (λ scope. scope ≡ self.now) }
+    {
+        match self {
+            Scope::Zone => Ok(Scope::Zone),
+            Scope::Subdomain(base) => Ok(Scope::Subdomain(base.clone()?)),
+            Scope::OneName(name) => Ok(Scope::OneName(name.clone()?)),
+            Scope::OwnName => Ok(Scope::OwnName),
+        }
+    }
 }
 
 /// A rule: under this key, records of these names and types may be updated.
@@ -95,6 +109,17 @@ fn is_of_types(types: &[RecordType], kind: RecordType) -> bool
 }
 
 impl Rule {
+    /// A copy.
+    pub fn copied(&self, alloc: Global) -> Result<Rule, AllocError>
+        ensures { IfOk result (λ rule. rule ≡ self.now) }
+    {
+        Ok(Rule {
+            key: self.key.clone()?,
+            scope: self.scope.copied()?,
+            types: Items::from_vec(Vec::from_slice(alloc, self.types.as_slice())?),
+        })
+    }
+
     /// Whether the rule is for records of this name and type in the zone, under this key.
     fn grants(&self, key: &Name, zone: &Name, name: &Name, kind: RecordType) -> bool
         ensures { IsTrue result ↔ Grants self.now key.now zone.now name.now kind }
@@ -129,6 +154,13 @@ impl Policy {
         Policy {
             rules: Vec::new(alloc),
         }
+    }
+
+    /// Whether there is no rule.
+    pub fn is_empty(&self) -> bool
+        ensures { IsTrue result ↔ (self.now ≡ []) }
+    {
+        self.rules.is_empty()
     }
 
     /// Adds a rule.

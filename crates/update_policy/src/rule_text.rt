@@ -1,6 +1,7 @@
 //! Rules as text.
 
-ghost use Rattle.std.specs.Prelude.{◌≡◌, IfOk, true};
+ghost use Rattle.std.specs.Prelude.{◌≡◌, ℕ, IfOk, List, length, map};
+ghost use Rattle.update_policy.specs.RuleTexts.{IsNameWord, IsRule, IsScope};
 
 use crate::policy::{Rule, Scope};
 use std::alloc::{AllocError, Global};
@@ -35,7 +36,7 @@ impl From<AllocError> for RuleTextError {
 
 /// The fully qualified name of a text.
 fn read_name(alloc: Global, text: &str) -> Result<Name, RuleTextError>
-    ensures { IfOk result (λ name. name.is_fqdn ≡ true) }
+    ensures { IfOk result (IsNameWord text.now) }
 {
     match Name::from_ascii(alloc, text) {
         Ok(mut name) => {
@@ -48,7 +49,9 @@ fn read_name(alloc: Global, text: &str) -> Result<Name, RuleTextError>
 }
 
 /// The types of words.
-fn read_types(alloc: Global, words: &[&str]) -> Result<Items<RecordType>, RuleTextError> {
+fn read_types(alloc: Global, words: &[&str]) -> Result<Items<RecordType>, RuleTextError>
+    ensures { IfOk result (λ types. length types ≡ length words.now) }
+{
     let mut types = Items::new(alloc);
     for word in words {
         match word.parse::<RecordType>() {
@@ -63,7 +66,9 @@ fn read_types(alloc: Global, words: &[&str]) -> Result<Items<RecordType>, RuleTe
 fn read_scope<'w, 't>(
     alloc: Global,
     words: &'w [&'t str],
-) -> Result<(Scope, &'w [&'t str]), RuleTextError> {
+) -> Result<(Scope, &'w [&'t str]), RuleTextError>
+    ensures { IfOk result (λ read. IsScope (map (λ word. word.now) words.now) read.0 (map (λ word. word.now) read.1.now)) }
+{
     match words {
         ["zone", types @ ..] => Ok((Scope::Zone, types)),
         ["self", types @ ..] => Ok((Scope::OwnName, types)),
@@ -74,17 +79,35 @@ fn read_scope<'w, 't>(
     }
 }
 
-/// The rule of a text `allow-update KEY [zone|subdomain NAME|name NAME|self] [TYPE..]`, with blanks between the words. Types are mnemonics in any
-/// letter case, or `TYPE` and a number. Names are fully qualified, whether or not they end in a dot.
-pub fn read_rule(alloc: Global, text: &str) -> Result<Rule, RuleTextError>
-    ensures { IfOk result (λ rule. rule.key.is_fqdn ≡ true) }
+/// The rule of words `KEY [zone|subdomain NAME|name NAME|self] [TYPE..]`.
+fn rule_of(alloc: Global, words: &[&str]) -> Result<Rule, RuleTextError>
+    ensures { IfOk result (IsRule (map (λ word. word.now) words.now)) }
 {
-    let words: Vec<&str> = text.split_whitespace().collect(alloc)?;
-    let ["allow-update", key, rest @ ..] = words.as_slice() else {
+    let [key, rest @ ..] = words else {
         return Err(RuleTextError::Form);
     };
     let key = read_name(alloc, key)?;
     let (scope, types) = read_scope(alloc, rest)?;
     let types = read_types(alloc, types)?;
     Ok(Rule { key, scope, types })
+}
+
+/// The rule of a text `allow-update KEY [zone|subdomain NAME|name NAME|self] [TYPE..]`, with blanks between the words. Types are mnemonics in any
+/// letter case, or `TYPE` and a number. Names are fully qualified, whether or not they end in a dot.
+pub fn read_rule(alloc: Global, text: &str) -> Result<Rule, RuleTextError>
+    ensures { IfOk result (λ rule. (words : List (List ℕ)) × IsRule words rule) }
+{
+    let words: Vec<&str> = text.split_whitespace().collect(alloc)?;
+    let ["allow-update", rest @ ..] = words.as_slice() else {
+        return Err(RuleTextError::Form);
+    };
+    rule_of(alloc, rest)
+}
+
+/// The rule of a text as [`read_rule`] takes it, without its first word.
+pub fn read_grant(alloc: Global, text: &str) -> Result<Rule, RuleTextError>
+    ensures { IfOk result (λ rule. (words : List (List ℕ)) × IsRule words rule) }
+{
+    let words: Vec<&str> = text.split_whitespace().collect(alloc)?;
+    rule_of(alloc, words.as_slice())
 }

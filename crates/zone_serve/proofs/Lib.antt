@@ -1,3 +1,4 @@
+mod Granted
 mod Loading
 mod Named
 mod Results

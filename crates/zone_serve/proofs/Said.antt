@@ -7,8 +7,9 @@ use Rattle.std.specs.List.{AllByRecursion, AllZip, filter}
 use Rattle.std.specs.Option.{option_to_list}
 use Rattle.access_control.specs.Access.{Network}
 use Rattle.access_control.specs.NetworkTexts.{IsNetworkText}
-use Rattle.zone_serve.specs.Arguments.{IsBound, IsZoneText, Options, OptionsSay, behind, bounds_of, files_of, identifiers_of, key_files_of, option_names, transfer_keys_of, words_of}
+use Rattle.zone_serve.specs.Arguments.{IsBound, IsUpdateText, IsZoneText, Options, OptionsSay, behind, bounds_of, files_of, identifiers_of, key_files_of, option_names, transfer_keys_of, words_of}
 use Rattle.zone_serve.specs.declared.arguments.Settings.{Settings}
+use Rattle.zone_serve.specs.declared.arguments.UpdateArgument.{UpdateArgument}
 use Rattle.zone_serve.specs.declared.arguments.ZoneArgument.{ZoneArgument}
 
 abbrev pub Text : Type 0
@@ -68,6 +69,9 @@ pub record Gives (option text : Text) (old new : Settings) : Type 0 where
   pub bounds : AllZip IsBound (given (codes "--max-udp") option text) more_bounds
   pub key_files : key_files_of new ≡ key_files_of old ++ given (codes "--keys") option text
   pub transfer_keys : transfer_keys_of new ≡ transfer_keys_of old ++ given (codes "--allow-transfer-key") option text
+  pub more_updates : List UpdateArgument
+  pub updates_are : new.updates.items ≡ old.updates.items ++ more_updates
+  pub updates : AllZip IsUpdateText (given (codes "--allow-update") option text) more_updates
 
 kept : {X : Type 0} (xs ys : List X) → ys ≡ xs → ys ≡ xs ++ []
 kept xs ys same = same ∙ sym (append-nil xs)
@@ -96,8 +100,8 @@ first_bound (Some x) now none = absurd cc
 -- What each option gives: one thing more, where nothing else changes.
 module _ (text : Text) (old new : Settings) where
   pub zone_gives : (zone : ZoneArgument) → IsZoneText text zone → new.zones.items ≡ old.zones.items ++ zone ∷ [] → files_of new ≡ files_of old → new.allowed.items ≡ old.allowed.items → new.denied.items ≡ old.denied.items
-      → new.transfers_allowed.items ≡ old.transfers_allowed.items → new.transfers_denied.items ≡ old.transfers_denied.items → identifiers_of new ≡ identifiers_of old → bounds_of new ≡ bounds_of old → key_files_of new ≡ key_files_of old → transfer_keys_of new ≡ transfer_keys_of old → Gives (codes "--zone") text old new
-  zone_gives zone spelled is f a d t u i b k n = record {
+      → new.transfers_allowed.items ≡ old.transfers_allowed.items → new.transfers_denied.items ≡ old.transfers_denied.items → identifiers_of new ≡ identifiers_of old → bounds_of new ≡ bounds_of old → key_files_of new ≡ key_files_of old → transfer_keys_of new ≡ transfer_keys_of old → new.updates.items ≡ old.updates.items → Gives (codes "--zone") text old new
+  zone_gives zone spelled is f a d t u i b k n p = record {
     known = (0, omega arith, refl);
     more_zones = zone ∷ [];
     zones_are = is;
@@ -113,11 +117,14 @@ module _ (text : Text) (old new : Settings) where
     bounds = tt;
     key_files = kept _ _ k;
     transfer_keys = kept _ _ n;
+    more_updates = [];
+    updates_are = kept _ _ p;
+    updates = tt;
   }
 
   pub blocklist_gives : files_of new ≡ files_of old ++ text ∷ [] → new.zones.items ≡ old.zones.items → new.allowed.items ≡ old.allowed.items → new.denied.items ≡ old.denied.items
-      → new.transfers_allowed.items ≡ old.transfers_allowed.items → new.transfers_denied.items ≡ old.transfers_denied.items → identifiers_of new ≡ identifiers_of old → bounds_of new ≡ bounds_of old → key_files_of new ≡ key_files_of old → transfer_keys_of new ≡ transfer_keys_of old → Gives (codes "--blocklist") text old new
-  blocklist_gives is z a d t u i b k n = record {
+      → new.transfers_allowed.items ≡ old.transfers_allowed.items → new.transfers_denied.items ≡ old.transfers_denied.items → identifiers_of new ≡ identifiers_of old → bounds_of new ≡ bounds_of old → key_files_of new ≡ key_files_of old → transfer_keys_of new ≡ transfer_keys_of old → new.updates.items ≡ old.updates.items → Gives (codes "--blocklist") text old new
+  blocklist_gives is z a d t u i b k n p = record {
     known = (1, omega arith, refl);
     more_zones = [];
     zones_are = kept _ _ z;
@@ -133,11 +140,14 @@ module _ (text : Text) (old new : Settings) where
     bounds = tt;
     key_files = kept _ _ k;
     transfer_keys = kept _ _ n;
+    more_updates = [];
+    updates_are = kept _ _ p;
+    updates = tt;
   }
 
   pub allow_gives : (network : Network) → IsNetworkText text network → new.allowed.items ≡ old.allowed.items ++ network ∷ [] → new.zones.items ≡ old.zones.items → files_of new ≡ files_of old → new.denied.items ≡ old.denied.items
-      → new.transfers_allowed.items ≡ old.transfers_allowed.items → new.transfers_denied.items ≡ old.transfers_denied.items → identifiers_of new ≡ identifiers_of old → bounds_of new ≡ bounds_of old → key_files_of new ≡ key_files_of old → transfer_keys_of new ≡ transfer_keys_of old → Gives (codes "--allow") text old new
-  allow_gives network spelled is z f d t u i b k n = record {
+      → new.transfers_allowed.items ≡ old.transfers_allowed.items → new.transfers_denied.items ≡ old.transfers_denied.items → identifiers_of new ≡ identifiers_of old → bounds_of new ≡ bounds_of old → key_files_of new ≡ key_files_of old → transfer_keys_of new ≡ transfer_keys_of old → new.updates.items ≡ old.updates.items → Gives (codes "--allow") text old new
+  allow_gives network spelled is z f d t u i b k n p = record {
     known = (2, omega arith, refl);
     more_zones = [];
     zones_are = kept _ _ z;
@@ -153,11 +163,14 @@ module _ (text : Text) (old new : Settings) where
     bounds = tt;
     key_files = kept _ _ k;
     transfer_keys = kept _ _ n;
+    more_updates = [];
+    updates_are = kept _ _ p;
+    updates = tt;
   }
 
   pub deny_gives : (network : Network) → IsNetworkText text network → new.denied.items ≡ old.denied.items ++ network ∷ [] → new.zones.items ≡ old.zones.items → files_of new ≡ files_of old → new.allowed.items ≡ old.allowed.items
-      → new.transfers_allowed.items ≡ old.transfers_allowed.items → new.transfers_denied.items ≡ old.transfers_denied.items → identifiers_of new ≡ identifiers_of old → bounds_of new ≡ bounds_of old → key_files_of new ≡ key_files_of old → transfer_keys_of new ≡ transfer_keys_of old → Gives (codes "--deny") text old new
-  deny_gives network spelled is z f a t u i b k n = record {
+      → new.transfers_allowed.items ≡ old.transfers_allowed.items → new.transfers_denied.items ≡ old.transfers_denied.items → identifiers_of new ≡ identifiers_of old → bounds_of new ≡ bounds_of old → key_files_of new ≡ key_files_of old → transfer_keys_of new ≡ transfer_keys_of old → new.updates.items ≡ old.updates.items → Gives (codes "--deny") text old new
+  deny_gives network spelled is z f a t u i b k n p = record {
     known = (3, omega arith, refl);
     more_zones = [];
     zones_are = kept _ _ z;
@@ -173,11 +186,14 @@ module _ (text : Text) (old new : Settings) where
     bounds = tt;
     key_files = kept _ _ k;
     transfer_keys = kept _ _ n;
+    more_updates = [];
+    updates_are = kept _ _ p;
+    updates = tt;
   }
 
   pub allow_transfer_gives : (network : Network) → IsNetworkText text network → new.transfers_allowed.items ≡ old.transfers_allowed.items ++ network ∷ [] → new.zones.items ≡ old.zones.items → files_of new ≡ files_of old → new.allowed.items ≡ old.allowed.items
-      → new.denied.items ≡ old.denied.items → new.transfers_denied.items ≡ old.transfers_denied.items → identifiers_of new ≡ identifiers_of old → bounds_of new ≡ bounds_of old → key_files_of new ≡ key_files_of old → transfer_keys_of new ≡ transfer_keys_of old → Gives (codes "--allow-transfer") text old new
-  allow_transfer_gives network spelled is z f a d u i b k n = record {
+      → new.denied.items ≡ old.denied.items → new.transfers_denied.items ≡ old.transfers_denied.items → identifiers_of new ≡ identifiers_of old → bounds_of new ≡ bounds_of old → key_files_of new ≡ key_files_of old → transfer_keys_of new ≡ transfer_keys_of old → new.updates.items ≡ old.updates.items → Gives (codes "--allow-transfer") text old new
+  allow_transfer_gives network spelled is z f a d u i b k n p = record {
     known = (4, omega arith, refl);
     more_zones = [];
     zones_are = kept _ _ z;
@@ -193,11 +209,14 @@ module _ (text : Text) (old new : Settings) where
     bounds = tt;
     key_files = kept _ _ k;
     transfer_keys = kept _ _ n;
+    more_updates = [];
+    updates_are = kept _ _ p;
+    updates = tt;
   }
 
   pub deny_transfer_gives : (network : Network) → IsNetworkText text network → new.transfers_denied.items ≡ old.transfers_denied.items ++ network ∷ [] → new.zones.items ≡ old.zones.items → files_of new ≡ files_of old → new.allowed.items ≡ old.allowed.items
-      → new.denied.items ≡ old.denied.items → new.transfers_allowed.items ≡ old.transfers_allowed.items → identifiers_of new ≡ identifiers_of old → bounds_of new ≡ bounds_of old → key_files_of new ≡ key_files_of old → transfer_keys_of new ≡ transfer_keys_of old → Gives (codes "--deny-transfer") text old new
-  deny_transfer_gives network spelled is z f a d t i b k n = record {
+      → new.denied.items ≡ old.denied.items → new.transfers_allowed.items ≡ old.transfers_allowed.items → identifiers_of new ≡ identifiers_of old → bounds_of new ≡ bounds_of old → key_files_of new ≡ key_files_of old → transfer_keys_of new ≡ transfer_keys_of old → new.updates.items ≡ old.updates.items → Gives (codes "--deny-transfer") text old new
+  deny_transfer_gives network spelled is z f a d t i b k n p = record {
     known = (5, omega arith, refl);
     more_zones = [];
     zones_are = kept _ _ z;
@@ -213,11 +232,14 @@ module _ (text : Text) (old new : Settings) where
     bounds = tt;
     key_files = kept _ _ k;
     transfer_keys = kept _ _ n;
+    more_updates = [];
+    updates_are = kept _ _ p;
+    updates = tt;
   }
 
   pub nsid_gives : identifiers_of new ≡ identifiers_of old ++ text ∷ [] → new.zones.items ≡ old.zones.items → files_of new ≡ files_of old → new.allowed.items ≡ old.allowed.items
-      → new.denied.items ≡ old.denied.items → new.transfers_allowed.items ≡ old.transfers_allowed.items → new.transfers_denied.items ≡ old.transfers_denied.items → bounds_of new ≡ bounds_of old → key_files_of new ≡ key_files_of old → transfer_keys_of new ≡ transfer_keys_of old → Gives (codes "--nsid") text old new
-  nsid_gives is z f a d t u b k n = record {
+      → new.denied.items ≡ old.denied.items → new.transfers_allowed.items ≡ old.transfers_allowed.items → new.transfers_denied.items ≡ old.transfers_denied.items → bounds_of new ≡ bounds_of old → key_files_of new ≡ key_files_of old → transfer_keys_of new ≡ transfer_keys_of old → new.updates.items ≡ old.updates.items → Gives (codes "--nsid") text old new
+  nsid_gives is z f a d t u b k n p = record {
     known = (6, omega arith, refl);
     more_zones = [];
     zones_are = kept _ _ z;
@@ -233,11 +255,14 @@ module _ (text : Text) (old new : Settings) where
     bounds = tt;
     key_files = kept _ _ k;
     transfer_keys = kept _ _ n;
+    more_updates = [];
+    updates_are = kept _ _ p;
+    updates = tt;
   }
 
   pub max_udp_gives : (bound : ℕ) → IsBound text bound → bounds_of new ≡ bounds_of old ++ bound ∷ [] → new.zones.items ≡ old.zones.items → files_of new ≡ files_of old → new.allowed.items ≡ old.allowed.items
-      → new.denied.items ≡ old.denied.items → new.transfers_allowed.items ≡ old.transfers_allowed.items → new.transfers_denied.items ≡ old.transfers_denied.items → identifiers_of new ≡ identifiers_of old → key_files_of new ≡ key_files_of old → transfer_keys_of new ≡ transfer_keys_of old → Gives (codes "--max-udp") text old new
-  max_udp_gives bound spelled is z f a d t u i k n = record {
+      → new.denied.items ≡ old.denied.items → new.transfers_allowed.items ≡ old.transfers_allowed.items → new.transfers_denied.items ≡ old.transfers_denied.items → identifiers_of new ≡ identifiers_of old → key_files_of new ≡ key_files_of old → transfer_keys_of new ≡ transfer_keys_of old → new.updates.items ≡ old.updates.items → Gives (codes "--max-udp") text old new
+  max_udp_gives bound spelled is z f a d t u i k n p = record {
     known = (7, omega arith, refl);
     more_zones = [];
     zones_are = kept _ _ z;
@@ -253,11 +278,14 @@ module _ (text : Text) (old new : Settings) where
     bounds = (spelled, tt);
     key_files = kept _ _ k;
     transfer_keys = kept _ _ n;
+    more_updates = [];
+    updates_are = kept _ _ p;
+    updates = tt;
   }
 
   pub keys_gives : key_files_of new ≡ key_files_of old ++ text ∷ [] → new.zones.items ≡ old.zones.items → files_of new ≡ files_of old → new.allowed.items ≡ old.allowed.items → new.denied.items ≡ old.denied.items
-      → new.transfers_allowed.items ≡ old.transfers_allowed.items → new.transfers_denied.items ≡ old.transfers_denied.items → identifiers_of new ≡ identifiers_of old → bounds_of new ≡ bounds_of old → transfer_keys_of new ≡ transfer_keys_of old → Gives (codes "--keys") text old new
-  keys_gives is z f a d t u i b n = record {
+      → new.transfers_allowed.items ≡ old.transfers_allowed.items → new.transfers_denied.items ≡ old.transfers_denied.items → identifiers_of new ≡ identifiers_of old → bounds_of new ≡ bounds_of old → transfer_keys_of new ≡ transfer_keys_of old → new.updates.items ≡ old.updates.items → Gives (codes "--keys") text old new
+  keys_gives is z f a d t u i b n p = record {
     known = (8, omega arith, refl);
     more_zones = [];
     zones_are = kept _ _ z;
@@ -273,11 +301,14 @@ module _ (text : Text) (old new : Settings) where
     bounds = tt;
     key_files = is;
     transfer_keys = kept _ _ n;
+    more_updates = [];
+    updates_are = kept _ _ p;
+    updates = tt;
   }
 
   pub transfer_key_gives : transfer_keys_of new ≡ transfer_keys_of old ++ text ∷ [] → new.zones.items ≡ old.zones.items → files_of new ≡ files_of old → new.allowed.items ≡ old.allowed.items → new.denied.items ≡ old.denied.items
-      → new.transfers_allowed.items ≡ old.transfers_allowed.items → new.transfers_denied.items ≡ old.transfers_denied.items → identifiers_of new ≡ identifiers_of old → bounds_of new ≡ bounds_of old → key_files_of new ≡ key_files_of old → Gives (codes "--allow-transfer-key") text old new
-  transfer_key_gives is z f a d t u i b k = record {
+      → new.transfers_allowed.items ≡ old.transfers_allowed.items → new.transfers_denied.items ≡ old.transfers_denied.items → identifiers_of new ≡ identifiers_of old → bounds_of new ≡ bounds_of old → key_files_of new ≡ key_files_of old → new.updates.items ≡ old.updates.items → Gives (codes "--allow-transfer-key") text old new
+  transfer_key_gives is z f a d t u i b k p = record {
     known = (9, omega arith, refl);
     more_zones = [];
     zones_are = kept _ _ z;
@@ -293,6 +324,32 @@ module _ (text : Text) (old new : Settings) where
     bounds = tt;
     key_files = kept _ _ k;
     transfer_keys = is;
+    more_updates = [];
+    updates_are = kept _ _ p;
+    updates = tt;
+  }
+
+  pub update_gives : (update : UpdateArgument) → IsUpdateText text update → new.updates.items ≡ old.updates.items ++ update ∷ [] → new.zones.items ≡ old.zones.items → files_of new ≡ files_of old → new.allowed.items ≡ old.allowed.items
+      → new.denied.items ≡ old.denied.items → new.transfers_allowed.items ≡ old.transfers_allowed.items → new.transfers_denied.items ≡ old.transfers_denied.items → identifiers_of new ≡ identifiers_of old → bounds_of new ≡ bounds_of old → key_files_of new ≡ key_files_of old → transfer_keys_of new ≡ transfer_keys_of old → Gives (codes "--allow-update") text old new
+  update_gives update spelled is z f a d t u i b k n = record {
+    known = (10, omega arith, refl);
+    more_zones = [];
+    zones_are = kept _ _ z;
+    zones = tt;
+    files = kept _ _ f;
+    allowed = none_more _ _ a;
+    denied = none_more _ _ d;
+    transfers_allowed = none_more _ _ t;
+    transfers_denied = none_more _ _ u;
+    identifiers = kept _ _ i;
+    more_bounds = [];
+    bounds_are = kept _ _ b;
+    bounds = tt;
+    key_files = kept _ _ k;
+    transfer_keys = kept _ _ n;
+    more_updates = update ∷ [];
+    updates_are = is;
+    updates = (spelled, tt);
   }
 
 module _ (options : Options) (option text : Text) (old new : Settings) (say : OptionsSay options old) (gives : Gives option text old new) where
@@ -318,4 +375,5 @@ module _ (options : Options) (option text : Text) (old new : Settings) (say : Op
     max_udp = zipped IsBound (codes "--max-udp") (bounds_of old) gives.more_bounds (bounds_of new) gives.bounds_are say.max_udp gives.bounds;
     keys = listed (codes "--keys") _ _ say.keys gives.key_files;
     transfer_keys = listed (codes "--allow-transfer-key") _ _ say.transfer_keys gives.transfer_keys;
+    updates = zipped IsUpdateText (codes "--allow-update") old.updates.items gives.more_updates new.updates.items gives.updates_are say.updates gives.updates;
   }

@@ -8,6 +8,7 @@ use Rattle.access_control.specs.NetworkTexts.{IsNetworkText}
 use Rattle.zone_serve.specs.declared.arguments.Mode.{Mode}
 use Rattle.zone_serve.specs.declared.arguments.Mode.TheVariants.{Lines, Tcp, Udp}
 use Rattle.zone_serve.specs.declared.arguments.Settings.{Settings}
+use Rattle.zone_serve.specs.declared.arguments.UpdateArgument.{UpdateArgument}
 use Rattle.zone_serve.specs.declared.arguments.ZoneArgument.{ZoneArgument}
 
 -- Options in their order, each with what stands behind it.
@@ -25,13 +26,19 @@ behind name options = map (λ option. option.1) (filter (λ option. pointwise na
 -- the names that an option may have
 abbrev pub option_names : List (List ℕ)
 option_names = codes "--zone" ∷ codes "--blocklist" ∷ codes "--allow" ∷ codes "--deny" ∷ codes "--allow-transfer" ∷ codes "--deny-transfer" ∷ codes "--nsid" ∷ codes "--max-udp"
-    ∷ codes "--keys" ∷ codes "--allow-transfer-key" ∷ []
+    ∷ codes "--keys" ∷ codes "--allow-transfer-key" ∷ codes "--allow-update" ∷ []
 
 -- NAME=FILE: the name stands before the first `=`, 61, and the file behind it.
 pub record IsZoneText (text : List ℕ) (zone : ZoneArgument) : Type 0 where
   pub has : position_or_len (λ b. b == 61) text < length text
   pub name : zone.name.now ≡ before_first (λ b. b == 61) text
   pub file : zone.file.now ≡ after_first (λ b. b == 61) text
+
+-- ZONE=RULE: the name of the zone stands before the first `=`, 61, and the rule behind it.
+pub record IsUpdateText (text : List ℕ) (update : UpdateArgument) : Type 0 where
+  pub has : position_or_len (λ b. b == 61) text < length text
+  pub zone : update.zone.now ≡ before_first (λ b. b == 61) text
+  pub rule : update.rule.now ≡ after_first (λ b. b == 61) text
 
 -- a number from 512 to 65535 in decimal digits, before which a plus may stand
 abbrev pub IsBound : List ℕ → ℕ → Type 0
@@ -63,7 +70,7 @@ key_files_of settings = option_to_list (option_map (λ file. file.now) settings.
 abbrev pub transfer_keys_of : Settings → List (List ℕ)
 transfer_keys_of settings = map (λ it. it.0.now) settings.transfer_keys.items
 
--- What options say: zones, lists, networks and keys are those that the texts behind their options spell, in their order; `--nsid`, `--max-udp` and `--keys`
+-- What options say: zones, lists, networks, keys and rules of updates are those that the texts behind their options spell, in their order; `--nsid`, `--max-udp` and `--keys`
 -- stand once at most.
 pub record OptionsSay (options : Options) (settings : Settings) : Type 0 where
   pub known : AllByRecursion (λ option. Contains option_names option.0) options
@@ -77,6 +84,7 @@ pub record OptionsSay (options : Options) (settings : Settings) : Type 0 where
   pub max_udp : AllZip IsBound (behind (codes "--max-udp") options) (bounds_of settings)
   pub keys : key_files_of settings ≡ behind (codes "--keys") options
   pub transfer_keys : transfer_keys_of settings ≡ behind (codes "--allow-transfer-key") options
+  pub updates : AllZip IsUpdateText (behind (codes "--allow-update") options) settings.updates.items
 
 -- An option is taken, with what stands behind it: settings that were what options say are what those and it say.
 abbrev pub Takes : List ℕ → List ℕ → Settings → Settings → Type 0

@@ -2,7 +2,7 @@
 
 ghost use Rattle.std.specs.Prelude.{◌≡◌, [], IfOk, IfSome, OnOk, map, string_bytes};
 ghost use Rattle.access_control.specs.NetworkTexts.{IsNetworkText};
-ghost use Rattle.zone_serve.specs.Arguments.{ArgumentsSay, IsBound, IsZoneText, OptionsSay, Takes, mode_word};
+ghost use Rattle.zone_serve.specs.Arguments.{ArgumentsSay, IsBound, IsUpdateText, IsZoneText, OptionsSay, Takes, mode_word};
 
 use hickory_server::access::{IpNet, IpNetTextError};
 use std::alloc::{AllocError, AllocFailed, Global};
@@ -40,6 +40,9 @@ pub enum Wanted {
     /// The name of a key.
     #[error("NAME")]
     Key,
+    /// The name of a zone and a rule of who may update what.
+    #[error("ZONE=KEY [zone|subdomain NAME|name NAME|self] [TYPE..]")]
+    Rule,
 }
 
 /// Why the arguments are not taken. A `place` tells which argument it is; the first is 1.
@@ -102,6 +105,12 @@ pub enum ArgumentFault<'a> {
         /// Which argument it is.
         place: usize,
     },
+    /// What stands behind `--allow-update` has no `=`.
+    #[error("argument {place}: --allow-update wants ZONE=KEY [zone|subdomain NAME|name NAME|self] [TYPE..]")]
+    NoRule {
+        /// Which argument it is.
+        place: usize,
+    },
     /// A network is wanted behind `--allow`, `--deny`, `--allow-transfer` and `--deny-transfer`.
     #[error("argument {place}: {fault}")]
     Network {
@@ -144,6 +153,17 @@ pub struct ZoneArgument<'a> {
     pub place: usize,
 }
 
+/// A rule of who may update what in a zone.
+#[derive(Clone, Copy)]
+pub struct UpdateArgument<'a> {
+    /// The name of its apex.
+    pub zone: &'a str,
+    /// The rule.
+    pub rule: &'a str,
+    /// Which argument it is; the first is 1.
+    pub place: usize,
+}
+
 /// What the arguments say.
 #[derive(Drop)]
 pub struct Settings<'a> {
@@ -167,6 +187,8 @@ pub struct Settings<'a> {
     pub keys: Option<&'a str>,
     /// The names of the keys that may have transfers from anywhere, each with its argument.
     pub transfer_keys: Vec<(&'a str, usize)>,
+    /// Who may update what, in the order of the arguments.
+    pub updates: Vec<UpdateArgument<'a>>,
     /// How requests come in and replies go out.
     pub mode: Mode,
 }
@@ -192,6 +214,7 @@ fn wanted_behind(option: &str) -> Option<Wanted> {
         "--nsid" => Some(Wanted::Text),
         "--max-udp" => Some(Wanted::Number),
         "--allow-transfer-key" => Some(Wanted::Key),
+        "--allow-update" => Some(Wanted::Rule),
         _ => None,
     }
 }
@@ -250,6 +273,16 @@ fn zone_argument<'a>(text: &'a str, place: usize) -> Result<ZoneArgument<'a>, Ar
     }
 }
 
+/// The rule that an argument tells, with its zone.
+fn update_argument<'a>(text: &'a str, place: usize) -> Result<UpdateArgument<'a>, ArgumentFault<'a>>
+    ensures { IfOk result (IsUpdateText text.now) }
+{
+    match text.split_once('=') {
+        Some((zone, rule)) => Ok(UpdateArgument { zone, rule, place }),
+        None => Err(ArgumentFault::NoRule { place }),
+    }
+}
+
 impl<'a> Settings<'a> {
     /// No options.
     fn new(alloc: Global) -> Settings<'a>
@@ -266,11 +299,31 @@ impl<'a> Settings<'a> {
             max_udp: None,
             keys: None,
             transfer_keys: Vec::new(alloc),
+            updates: Vec::new(alloc),
             mode: Mode::Lines,
         }
     }
 
-    /// Takes the option of keys at this place and what stands behind it.
+    /// Takes the option of updates at this place and what stands behind it.
+    fn put_update(
+        &mut self,
+        option: &'a str,
+        text: &'a str,
+        place: usize,
+    ) -> Result<(), ArgumentFault<'a>>
+        ensures { OnOk result (Takes option.now text.now self.old self.new) }
+    {
+        match option {
+            "--allow-update" => {
+                let update = update_argument(text, place.saturating_add(1))?;
+                self.updates.push(update)?
+            }
+            _ => return Err(fault_of(option, place)),
+        }
+        Ok(())
+    }
+
+    /// Takes the option of keys, or of updates, at this place and what stands behind it.
     fn put_keys(
         &mut self,
         option: &'a str,
@@ -283,7 +336,7 @@ impl<'a> Settings<'a> {
             "--keys" if self.keys.is_none() => self.keys = Some(text),
             "--allow-transfer-key" => { self.transfer_keys.push((text, place.saturating_add(1)))? }
             "--keys" => return Err(ArgumentFault::Twice { place, option }),
-            _ => return Err(fault_of(option, place)),
+            _ => return self.put_update(option, text, place),
         }
         Ok(())
     }

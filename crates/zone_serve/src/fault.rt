@@ -5,6 +5,7 @@ use crate::keys::KeyFileFault;
 use crate::lists::ListFault;
 use crate::zones::ZoneFileFault;
 use served_keys::names::KeyNameFault;
+use served_updates::grants::GrantFault;
 use std::alloc::{AllocError, AllocFailed};
 use std::io;
 use thiserror::Error;
@@ -34,6 +35,26 @@ pub enum Fault {
         place: usize,
         /// What is wrong with it.
         fault: KeyNameFault,
+    },
+    /// What stands behind `--allow-update` is no rule.
+    #[error("argument {place}: {fault}")]
+    Update {
+        /// Which argument it is; the first is 1.
+        place: usize,
+        /// What is wrong with it.
+        fault: GrantFault,
+    },
+    /// What stands behind `--allow-update`, before the `=`, is the name of no zone that is served.
+    #[error("argument {place}: there is no --zone of this name")]
+    UpdateZone {
+        /// Which argument it is; the first is 1.
+        place: usize,
+    },
+    /// A zone that takes updates has a zone right below it.
+    #[error("the zone takes updates, so that no zone right below it can be served beside it")]
+    ZoneBelow {
+        /// Which file of a zone it is.
+        place: usize,
     },
     /// The environment tells an address of the peer that is none.
     #[error("the environment tells a peer's address that is none")]
@@ -106,7 +127,8 @@ impl Fault {
             Fault::Stream(StreamFault::Partial | StreamFault::TooLong) => 1,
             Fault::NotUtf8 | Fault::ZoneName { .. } | Fault::LongIdentifier { .. } | Fault::Peer =>
                 2,
-            Fault::TransferKey { .. } => 2,
+            Fault::TransferKey { .. } | Fault::Update { .. } => 2,
+            Fault::UpdateZone { .. } | Fault::ZoneBelow { .. } => 2,
             Fault::Memory | Fault::Stream(StreamFault::Memory) => 3,
             Fault::Clock | Fault::Read | Fault::Write => 4,
             Fault::Stream(StreamFault::Read) => 4,

@@ -8,14 +8,14 @@
 //! file is not taken.
 #![tactic(auto)]
 
-ghost use Rattle.std.specs.Prelude.{◌≡◌, IfOk, MatchOption, None, is_none, map, option_map};
+ghost use Rattle.std.specs.Prelude.{◌≡◌, [], IfOk, MatchOption, None, OnOk, is_none, map, option_map};
 ghost use Rattle.std.specs.List.{AllZip};
 ghost use Rattle.access_control.specs.Access.{SameNetworks};
 ghost use Rattle.hickory_base.specs.zone_store.ZoneAnswers.{MemoryZone};
 ghost use Rattle.served_zones.specs.ServedZones.{AreLoaded, IsLoadedAs, IsPlaced, IsServedZone};
 ghost use Rattle.served_keys.specs.ServedKeys.{IsKeyName};
 ghost use Rattle.zone_serve.specs.Arguments.{transfer_keys_of};
-ghost use Rattle.zone_serve.specs.Catalogs.{AreKeysOf, AreZonesOf, denied_transfers};
+ghost use Rattle.zone_serve.specs.Catalogs.{AreFixedZonesOf, AreKeysOf, AreZonesOf, denied_transfers};
 
 mod arguments;
 mod fault;
@@ -27,6 +27,7 @@ mod lists;
 mod peer;
 mod server;
 mod serving;
+mod updates;
 mod zones;
 
 use crate::arguments::{ArgumentFault, Mode, Settings, ZoneArgument};
@@ -36,17 +37,19 @@ use crate::keys::{keys_of, transfer_keys_of};
 use crate::lists::blocklist;
 use crate::server::{apex_of, identifier_of, rules_of};
 use crate::serving::{serve_datagram, serve_lines, serve_stream};
+use crate::updates::{grants_of, see_zones, take_updates};
 use crate::zones::ZoneFileFault;
 use hickory_server::VERSION;
 use hickory_server::proto::Name;
 use hickory_server::server::{NoKeys, Server};
 use hickory_server::store::blocklist::BlocklistZoneHandler;
 use hickory_server::zone_handler::Catalog;
+use served_updates::moving::{Handler, Zones};
 use served_zones::chains::{chain, put_chain};
-use served_zones::handler::{Handler, Zones};
+use served_zones::handler::{Handler as FixedHandler, Zones as FixedZones};
 use served_zones::parents::{Loaded, alone, join_parents};
 use served_zones::zones::zone_of_file;
-use signed_server::SignedServer;
+use signed_server::{LeftToServer, SignedServer};
 use std::alloc::{AllocError, Global};
 use std::env::VarError;
 use std::net::{IpAddr, Ipv4Addr};
@@ -54,6 +57,7 @@ use std::process::ExitCode;
 use std::rc::Rc;
 use std::rt::{Clock, Env, Files};
 use std::{env, io};
+use tsig::Keys;
 
 /// The arguments behind the program's name. One that is not UTF-8 is wrong usage.
 fn given_words<R: Env + Alloc<A = Global>>(rt: &R) -> Result<Vec<String>, Fault> {
@@ -95,7 +99,7 @@ fn load_zone<R: Files + Alloc<A = Global>>(
     rt: &R,
     apex: &Name,
     file: &str,
-) -> Result<Handler, ZoneFileFault>
+) -> Result<FixedHandler, ZoneFileFault>
     ensures { IfOk result (λ handler. (zone : MemoryZone) × IsPlaced zone None handler × IsServedZone apex.now zone) }
 {
     let bytes = bytes_of(rt, file)?;
@@ -118,7 +122,7 @@ fn shared(
 /// Puts the zone of an argument into the catalog, the one at this place among the zones, with the list of blocked names behind it.
 fn load<R: Files + Alloc<A = Global>>(
     rt: &R,
-    catalog: &mut Zones,
+    catalog: &mut FixedZones,
     argument: ZoneArgument<'_>,
     place: usize,
     list: Option<&Rc<BlocklistZoneHandler>>,
@@ -144,7 +148,7 @@ fn load<R: Files + Alloc<A = Global>>(
 /// Puts the zones of the arguments into the catalog, in their order, with the list of blocked names behind them.
 fn load_zones<R: Files + Alloc<A = Global>>(
     rt: &R,
-    catalog: &mut Zones,
+    catalog: &mut FixedZones,
     arguments: &[ZoneArgument<'_>],
     list: Option<&Rc<BlocklistZoneHandler>>,
 ) -> Result<Vec<Loaded>, Fault>
@@ -158,34 +162,84 @@ fn load_zones<R: Files + Alloc<A = Global>>(
     Ok(loaded)
 }
 
-/// The catalog that the arguments ask for: each zone beside the one above it, with the list of blocked names behind it.
+/// Puts the zones that the arguments ask for into a catalog without updates: each beside the one above it, with the list of blocked names behind it.
+fn load_fixed<R: Files + Eprint + Alloc<A = Global>>(
+    rt: &R,
+    settings: &Settings<'_>,
+    fixed: &mut FixedZones,
+) -> Result<Vec<Loaded>, Fault>
+    ensures { IfOk result (λ loaded. AreFixedZonesOf settings.now loaded.items fixed.old.zones fixed.new.zones) }
+{
+    let list = blocklist(rt, &settings.blocklists)?;
+    let loaded = load_zones(rt, fixed, &settings.zones, list.as_ref())?;
+    join_parents(rt.alloc(), fixed, &loaded)?;
+    Ok(loaded)
+}
+
+/// Puts the zones that the arguments ask for into a catalog, by way of one without updates.
+fn put_zones_by<R: Files + Eprint + Alloc<A = Global>>(
+    rt: &R,
+    settings: &Settings<'_>,
+    keys: &Keys,
+    fixed: &mut FixedZones,
+    catalog: &mut Zones,
+) -> Result<(), Fault>
+    requires { fixed.old.zones ≡ [] }
+    ensures zones { OnOk result (AreZonesOf settings.now keys.now catalog.old.zones catalog.new.zones) }
+    ensures others { catalog.new ≡ record catalog.old { zones = catalog.new.zones } }
+{
+    let grants = grants_of(rt.alloc(), keys, &settings.updates)?;
+    let loaded = load_fixed(rt, settings, fixed)?;
+    see_zones(&grants, &loaded, &settings.updates)?;
+    take_updates(rt.alloc(), keys, &grants, &loaded, fixed, catalog)
+}
+
+/// Puts the zones that the arguments ask for into a catalog.
+fn put_zones<R: Files + Eprint + Alloc<A = Global>>(
+    rt: &R,
+    settings: &Settings<'_>,
+    keys: &Keys,
+    catalog: &mut Zones,
+) -> Result<(), Fault>
+    ensures zones { OnOk result (AreZonesOf settings.now keys.now catalog.old.zones catalog.new.zones) }
+    ensures others { catalog.new ≡ record catalog.old { zones = catalog.new.zones } }
+{
+    let mut fixed = Catalog::new(rt.alloc(), NoKeys);
+    let put = put_zones_by(rt, settings, keys, &mut fixed, catalog);
+    drop(fixed);
+    put
+}
+
+/// The catalog that the arguments ask for: each zone beside the one above it, with the list of blocked names behind it, and with updates by these keys where the
+/// arguments have rules for it.
 fn catalog<R: Files + Eprint + Alloc<A = Global>>(
     rt: &R,
     settings: &Settings<'_>,
+    keys: &Keys,
 ) -> Result<Zones, Fault>
-    ensures zones { IfOk result (λ catalog. AreZonesOf settings.now catalog.zones) }
+    ensures zones { IfOk result (λ catalog. AreZonesOf settings.now keys.now [] catalog.zones) }
     ensures identifier { IfOk result (λ catalog. catalog.nsid ≡ option_map (λ it. it.0.now) settings.now.identifier) }
 {
-    let alloc = rt.alloc();
-    let list = blocklist(rt, &settings.blocklists)?;
-    let mut catalog = Catalog::new(alloc, NoKeys);
-    catalog.set_nsid(identifier_of(alloc, settings)?);
-    let loaded = load_zones(rt, &mut catalog, &settings.zones, list.as_ref())?;
-    join_parents(alloc, &mut catalog, &loaded)?;
-    Ok(catalog)
+    let identifier = identifier_of(rt.alloc(), settings)?;
+    let mut catalog = Catalog::new(rt.alloc(), LeftToServer);
+    catalog.set_nsid(identifier);
+    match put_zones(rt, settings, keys, &mut catalog) {
+        Ok(()) => Ok(catalog),
+        Err(fault) => Err(fault),
+    }
 }
 
 /// The server that the arguments ask for.
 fn server_for<R: Files + Eprint + Alloc<A = Global>>(
     rt: &R,
     settings: &Settings<'_>,
-) -> Result<SignedServer<NoKeys, Handler>, Fault>
+) -> Result<SignedServer<LeftToServer, Handler>, Fault>
     ensures denied { IfOk result (λ made. SameNetworks settings.now.denied.items made.server.rules.access.deny) }
     ensures allowed { IfOk result (λ made. SameNetworks settings.now.allowed.items made.server.rules.access.allow) }
     ensures transfers_denied { IfOk result (λ made. SameNetworks (denied_transfers (transfer_keys_of settings.now) settings.now.transfers_denied.items) made.server.rules.transfers.deny) }
     ensures transfers_allowed { IfOk result (λ made. SameNetworks settings.now.transfers_allowed.items made.server.rules.transfers.allow) }
     ensures limit { IfOk result (λ made. MatchOption settings.now.max_udp (made.server.rules.max_udp ≡ 1232) (λ limit. made.server.rules.max_udp ≡ limit)) }
-    ensures zones { IfOk result (λ made. AreZonesOf settings.now made.server.catalog.zones) }
+    ensures zones { IfOk result (λ made. AreZonesOf settings.now made.keys [] made.server.catalog.zones) }
     ensures identifier { IfOk result (λ made. made.server.catalog.nsid ≡ option_map (λ it. it.0.now) settings.now.identifier) }
     ensures keys { IfOk result (λ made. AreKeysOf (is_none settings.now.keys) made.keys) }
     ensures transfer_keys { IfOk result (λ made. AllZip IsKeyName (transfer_keys_of settings.now) made.transfer_keys.items) }
@@ -194,7 +248,7 @@ fn server_for<R: Files + Eprint + Alloc<A = Global>>(
     let keys = keys_of(rt, settings.keys)?;
     let names = transfer_keys_of(alloc, &keys, &settings.transfer_keys)?;
     let rules = rules_of(alloc, settings)?;
-    let server = Server::new(alloc, rules, catalog(rt, settings)?)?;
+    let server = Server::new(alloc, rules, catalog(rt, settings, &keys)?)?;
     let mut signed = SignedServer::new(alloc, server, keys)?;
     signed.transfer_keys = names;
     Ok(signed)
@@ -205,7 +259,7 @@ fn serve_input<R: Clock + Input + Print + Alloc<A = Global>>(
     rt: &R,
     mode: Mode,
     address: IpAddr,
-    server: &mut SignedServer<NoKeys, Handler>,
+    server: &mut SignedServer<LeftToServer, Handler>,
 ) -> Result<(), Fault> {
     let alloc = rt.alloc();
     let mut reader = rt.reader();
@@ -235,7 +289,7 @@ fn serve<R: Files + Env + Clock + Input + Print + Eprint + Alloc<A = Global>>(
 /// The file that a fault is of.
 fn file_of<'a>(settings: &Settings<'a>, fault: Fault) -> Option<&'a str> {
     match fault {
-        Fault::Zone { place, .. } | Fault::ZoneTwice { place } => {
+        Fault::Zone { place, .. } | Fault::ZoneTwice { place } | Fault::ZoneBelow { place } => {
             settings.zones.get(place).map(|zone| zone.file)
         }
         Fault::List { place, .. } => settings.blocklists.get(place).copied(),
@@ -302,6 +356,8 @@ zone_serve [--zone NAME=FILE].. [OPTION].. udp|tcp|lines
                              who of those may have a zone transferred
   --keys FILE                the keys that sign messages (TSIG)
   --allow-transfer-key NAME  whose good signature has zones transferred from anywhere
+  --allow-update ZONE=RULE   who may update what in a zone, by a rule
+                             'KEY [zone|subdomain NAME|name NAME|self] [TYPE..]'
   --nsid TEXT                what identifies this server
   --max-udp N                bytes of a reply over UDP at most, 1232
   udp|tcp|lines              one datagram, a stream, or lines 'udp|tcp ADDRESS HEX'

@@ -3,17 +3,15 @@ use Rattle.std.specs.Global.{Global}
 use Rattle.std.specs.declared.rc.Rc.{Rc}
 use Rattle.hickory_store.specs.BlockAnswers.{Blocklist}
 use Rattle.zone_serve.proofs.Loading.{copied_map, of_files}
-use Rattle.zone_serve.proofs.catalog.Goals as goal
+use Rattle.zone_serve.proofs.load_fixed.Goals as goal
 
-pub returns-clause-zones : goal.returns-clause-zones
-returns-clause-zones g c =
+pub returns : goal.returns
+returns g c =
     let value = λ (it : Rc Blocklist Global). it.value in
-    let list = copied_map value c.as_ref.result ∙ ap (option_map value) c.as_ref.ensures.value in
-    let no_zones = ap (λ catalog. catalog.zones) c.set_nsid.ensures ∙ ap (λ catalog. catalog.zones) c.new-catalog.ensures in record {
+    let list = copied_map value c.as_ref.result ∙ ap (option_map value) c.as_ref.ensures.value in record {
       list = option_map value c.in_ok-list.list;
       list_is = of_files c.args.settings.now c.deref.result.now _ c.deref.ensures.value c.in_ok-list.ensures;
-      loaded = c.in_ok-loaded.loaded.items;
       between = c.load_zones.new.catalog.zones;
-      are_loaded = rw (list, no_zones, c.deref-2.ensures.value) at c.in_ok-loaded.ensures.loaded;
+      are_loaded = rw (list, c.deref-2.ensures.value) at c.in_ok-loaded.ensures.loaded;
       are_joined = rw c.deref-3.ensures.value at c.in_ok-join_parents.ensures.joined;
     }

@@ -1,0 +1,3 @@
+mod Rules
+mod Searching
+mod Served

@@ -1,0 +1,25 @@
+use Rattle.std.proofs.Common.{◌≡◌, ◌≢◌, ap, refl, Bool, ℕ, Option, Result}
+use Rattle.hickory_base.specs.requests.Requests.{ReceivedRequest}
+use Rattle.hickory_base.specs.declared.errors.UpdateFault.{UpdateFault}
+use Rattle.wire_messages.specs.declared.rr.tsig.TSigResponseContext.{TSigResponseContext}
+use Rattle.hickory_store.specs.declared.sqlite.verifier.Verifier.{Ghosts}
+use Rattle.served_updates.specs.UpdatedZones.{IsGrantedTo, Updates}
+use Rattle.served_updates.specs.UpdatedZones.Updates.{granted, outside}
+use Rattle.served_updates.specs.declared.updated_zone.UpdatedZone.{UpdatedZone}
+use Rattle.served_updates.proofs.laws.changes_are_granted.Goals as goal
+
+by_grant : {V : Type 0} (by : Ghosts V) (old new : UpdatedZone V) (request : ReceivedRequest) (now : ℕ) (answer : Result Bool UpdateFault) (context : Option TSigResponseContext)
+    → Updates by old request now answer context new → new ≢ old → IsGrantedTo old request
+by_grant by old new request now answer context (granted is made same) other = is
+by_grant by old new request now answer context (outside is refused same) other = absurd (other same)
+
+stay : {V : Type 0} (by : Ghosts V) (old new : UpdatedZone V) (request : ReceivedRequest) (now : ℕ) (answer : Result Bool UpdateFault) (context : Option TSigResponseContext)
+    → Updates by old request now answer context new → (new.policy ≡ old.policy) × (new.parent ≡ old.parent)
+stay {V} by old new request now answer context (granted is made same) = (ap (λ (z : UpdatedZone V). z.policy) same, ap (λ (z : UpdatedZone V). z.parent) same)
+stay {V} by old new request now answer context (outside is refused same) = (ap (λ (z : UpdatedZone V). z.policy) same, ap (λ (z : UpdatedZone V). z.parent) same)
+
+pub returns-clause-granted : goal.returns-clause-granted
+returns-clause-granted g c = λ old new request now answer context. by_grant g.V.Verifier old new request now answer context
+
+pub returns-clause-rules : goal.returns-clause-rules
+returns-clause-rules g c = λ old new request now answer context. stay g.V.Verifier old new request now answer context

@@ -1,0 +1,7 @@
+-- The zones so far are moved, and nothing else of the catalog changes.
+use Rattle.std.proofs.Common.{◌≡◌, take}
+use Rattle.served_updates.specs.Moved.{AreMoved}
+use Rattle.served_updates.proofs.moving.move_zones.Given as goal
+
+abbrev pub invariant-loop-zone : goal.invariant-loop-zone
+invariant-loop-zone l = AreMoved l.keys l.grants (take l.zone-index l.loaded) l.fn.zones.zones l.zones.zones l.fn.made.zones l.made.zones × (l.made ≡ record l.fn.made { zones = l.made.zones })
