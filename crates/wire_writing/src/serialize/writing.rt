@@ -6,5 +6,6 @@ pub mod header_encoder;
 pub mod list_encoder;
 pub mod name_encoder;
 pub mod note_list;
+pub mod question_name;
 pub mod question_notes;
 pub mod record_encoder;

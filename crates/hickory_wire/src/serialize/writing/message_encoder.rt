@@ -152,7 +152,7 @@ where
     } = parts;
     let mut table = CompressionTable::new(*bytes.allocator());
     if has_records {
-        note_question(&mut table, question)?;
+        note_question(&mut table, question);
     }
     let mut stops = Stops {
         is_cut: false,

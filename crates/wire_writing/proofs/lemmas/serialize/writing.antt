@@ -9,6 +9,7 @@ pub mod LinkedNotes
 pub mod Lookups
 pub mod NameSteps
 pub mod NotedRuns
+pub mod QuestionEnds
 pub mod QuestionSteps
 pub mod QuestionsMoved
 pub mod RecordLists

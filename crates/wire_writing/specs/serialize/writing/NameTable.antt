@@ -1,5 +1,5 @@
 -- How the fields of a compression table have its notes.
-use Rattle.std.specs.Prelude.{◌≡◌, ◌≢◌, ℕ, suc, ◌%◌, ◌<◌, ◌≤◌, List, [], length, map, take, drop, slice_index, slice_index_or, Option, None, IfSome}
+use Rattle.std.specs.Prelude.{◌≡◌, ◌≢◌, ℕ, suc, ◌%◌, ◌<◌, ◌≤◌, List, [], ◌++◌, length, map, take, drop, slice_index, slice_index_or, Option, None, IfSome}
 use Rattle.std.specs.Hash.FoldHasher.{initial, write, finish}
 use Rattle.std.specs.List.{All}
 use Rattle.wire_writing.specs.serialize.writing.Noted.{Notes, IsPlace, first_place, IsNotedAt}
@@ -42,13 +42,13 @@ pub record IsStored (first linked : List Note) (lasts : List ℕ) : Type 0 where
   pub behind : lasts ≢ [] → first ≡ []
 
 -- A name that is kept was noted at its place.
-abbrev pub IsKept : List Note → Option KeptName → Type 0
-IsKept notes kept = IfSome kept (λ name. IsNotedAt (pairs notes) name.wire.now name.place)
+abbrev pub IsKept : Notes → Option KeptName → Type 0
+IsKept all kept = IfSome kept (λ name. IsNotedAt all name.wire.now name.place)
 
--- the notes, the two names that are asked for first, and the last notes of the buckets, where they are linked
-pub record IsTable (notes : List Note) (last_owner last_target : Option KeptName) (lasts : List ℕ) : Type 0 where
+-- the notes behind those of the question, the two names that are asked for first, and the last notes of the buckets, where they are linked
+pub record IsTable (asked : Notes) (notes : List Note) (last_owner last_target : Option KeptName) (lasts : List ℕ) : Type 0 where
   pub apart : AreApart (pairs notes)
-  pub in_range : All (λ note. IsPlace note.1) (pairs notes)
+  pub in_range : All (λ note. IsPlace note.1) (asked ++ pairs notes)
   pub linked : lasts ≢ [] → AreLinked notes lasts
-  pub owner_kept : IsKept notes last_owner
-  pub target_kept : IsKept notes last_target
+  pub owner_kept : IsKept (asked ++ pairs notes) last_owner
+  pub target_kept : IsKept (asked ++ pairs notes) last_target

@@ -1,10 +1,13 @@
 //! The names that stand in a message while it is written, for pointers to them (RFC 1035 section 4.1.4).
 
 ghost use Rattle.std.specs.Prelude.{◌≡◌, ℕ, ◌<◌, ◌++◌, ◌∷◌, [], length, take, replicate, OnOk, OnErr, IfOk, IfSome, None};
+ghost use Rattle.wire_names.specs.rr.domain.DomainName.{IsWire, cut};
 ghost use Rattle.wire_writing.specs.serialize.writing.Noted.{Notes, IsPlace, first_place, IsNotedAt};
 ghost use Rattle.wire_writing.specs.serialize.writing.NameTable.{pairs, bucket, AreApart, AreLinked};
+ghost use Rattle.wire_writing.specs.serialize.writing.QuestionNames.{ends_from};
 
 use crate::serialize::writing::note_list::{LIST_LEN, NoteList};
+use crate::serialize::writing::question_name::{QUESTION_PLACE, QuestionName};
 use std::alloc::{AllocError, Global};
 use std::hash::{FoldHasher, Hasher};
 use std::marker::Model;
@@ -34,7 +37,9 @@ const BUCKETS: usize = 1024;
 /// Contracts speak of it as the list of the notes in the order of noting.
 #[derive(Drop)]
 pub struct CompressionTable<'n> {
-    // The notes while they are searched one by one. They lie in the table itself, so that a small reply takes no memory for them.
+    // The notes of the question's name, of which none is made.
+    asked: QuestionName<'n>,
+    // The notes behind those while they are searched one by one. They lie in the table itself, so that a small reply takes no memory for them.
     first: NoteList<'n>,
     // The notes once they are linked, in memory.
     notes: Vec<Note<'n>>,
@@ -57,10 +62,10 @@ impl<'n> Model for CompressionTable<'n> {
 
     ghost use Rattle.wire_writing.specs.serialize.writing.NameTable.{pairs, IsTable, IsStored};
 
-    ghost view = { λ table. pairs (table.first ++ table.notes.items) };
+    ghost view = { λ table. table.asked ++ pairs (table.first ++ table.notes.items) };
 
     ghost invariant = { λ table.
-        IsTable (table.first ++ table.notes.items) table.last_owner table.last_target table.lasts.items
+        IsTable table.asked (table.first ++ table.notes.items) table.last_owner table.last_target table.lasts.items
         × IsStored table.first table.notes.items table.lasts.items };
 }
 
@@ -195,6 +200,7 @@ impl<'n> CompressionTable<'n> {
         ensures { result ≡ [] }
     {
         CompressionTable {
+            asked: QuestionName::none(),
             first: NoteList::new(),
             notes: Vec::new(alloc),
             lasts: Vec::new(alloc),
@@ -202,6 +208,24 @@ impl<'n> CompressionTable<'n> {
             last_target: None,
             expected: 0,
             alloc,
+        }
+    }
+
+    /// Notes the name of a question, which stands in full behind the header, and each of its ends, where nothing was noted. The whole name is kept. It costs no
+    /// step for an end: what may end as the name does is compared with it.
+    #[inline(always)]
+    pub(crate) fn begin(&mut self, wire: &'n [u8], count: usize)
+        requires none { self.old ≡ [] }
+        requires wire { IsWire wire.now }
+        requires count { count ≡ length (cut wire.now) }
+        ensures { self.new ≡ ends_from 12 (cut wire.now) }
+    {
+        self.asked = QuestionName::new(wire, count);
+        if count > 0 {
+            self.last_owner = Some(KeptName {
+                wire,
+                place: QUESTION_PLACE as u16,
+            });
         }
     }
 
@@ -217,11 +241,12 @@ impl<'n> CompressionTable<'n> {
     pub(crate) fn mark(&self) -> usize
         ensures { result ≡ length self.now }
     {
-        if self.lasts.is_empty() {
+        let made = if self.lasts.is_empty() {
             self.first.as_slice().len()
         } else {
             self.notes.len()
-        }
+        };
+        self.asked.len() + made
     }
 
     /// The bucket of a suffix, for `find` and `note`, where the table has come to use buckets.
@@ -242,6 +267,9 @@ impl<'n> CompressionTable<'n> {
         ensures found { result ≡ first_place suffix.now self.now }
         ensures in_range { IfSome result (λ place. IsPlace place) }
     {
+        if let Some(place) = self.asked.find(suffix) {
+            return Some(place);
+        }
         if self.lasts.is_empty() {
             find_in(self.first.as_slice(), suffix)
         } else {
@@ -346,10 +374,12 @@ impl<'n> CompressionTable<'n> {
     {
         self.last_owner = None;
         self.last_target = None;
+        let made = mark.saturating_sub(self.asked.len());
+        self.asked.truncate(mark);
         if self.lasts.is_empty() {
-            self.first.truncate(mark);
+            self.first.truncate(made);
         } else {
-            unlink(&mut self.notes, &mut self.lasts, mark);
+            unlink(&mut self.notes, &mut self.lasts, made);
         }
     }
 }

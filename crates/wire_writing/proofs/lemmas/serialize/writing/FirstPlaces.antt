@@ -1,11 +1,12 @@
 -- Notes of names, and the first place of one among them.
-use Rattle.std.proofs.Common.{◌≡◌, ◌≢◌, inl, inr, ℕ, suc, ◌+◌, ◌<◌, List, [], ◌∷◌, ◌++◌, length, take, drop, get_or, Bool, true, false, cond, Option, Some, None, refl, sym, ap, ◌∙◌, subst, arith, length-append, drop-cons, length-take}
+use Rattle.std.proofs.Common.{◌≡◌, ◌≢◌, inl, inr, ℕ, suc, ◌+◌, ◌<◌, zero, ◌-◌, List, [], ◌∷◌, ◌++◌, length, take, drop, get_or, Bool, true, false, cond, Option, Some, None, refl, sym, ap, ◌∙◌, subst, arith, length-append, drop-cons, length-take}
 use Rattle.std.specs.Prelude.{IfSome}
 use Rattle.std.specs.List.{All}
 use Rattle.std.specs.Str.{bytes_eq}
 use Rattle.std.proofs.lemmas.Slice.Eq.{bytes_eq-Decides}
 use Rattle.std.proofs.lemmas.Bool.{cases_lt, cond-true, cond-false, false_from_ne_true, both_ways}
-use Rattle.std.proofs.lemmas.List.{take-append-drop, map-append, get_or-take, take-take, take-append-le, get_or_append_left, get_or-append-add, take_all, get_or-map, take-map, length-map, map_more}
+use Rattle.std.proofs.lemmas.List.{append_assoc, take-append-drop, map-append, get_or-take, take-take, take-append-le, get_or_append_left, get_or-append-add, take_all, get_or-map, take-map, length-map, map_more}
+use Rattle.std.proofs.Math.Seq.{take-nil}
 use Rattle.std.proofs.lemmas.List.Elements.{All-head, All-tail, All-push, All-take}
 use Rattle.wire_writing.specs.serialize.writing.Noted.{Notes, IsPlace, first_place, IsNotedAt}
 use Rattle.wire_writing.specs.serialize.writing.NameTable.{pairs, AreApart, AreLinked, IsKept, IsTable}
@@ -19,6 +20,15 @@ skipped false v o r s e h = h e
 pub first_place-behind : (s : List ℕ) (xs ys : Notes) → first_place s xs ≡ None → first_place s (xs ++ ys) ≡ first_place s ys
 first_place-behind s [] ys e = refl
 first_place-behind s (x ∷ xs) ys e = skipped (bytes_eq s x.0) x.1 (first_place s xs) (first_place s (xs ++ ys)) (first_place s ys) e (first_place-behind s xs ys)
+
+left_none : (b : Bool) (v : ℕ) (o : Option ℕ) → cond b (Some v) o ≡ None → o ≡ None
+left_none true v o e = cc
+left_none false v o e = e
+
+-- What is not among notes is not among the last of them.
+pub first_place-rest : (s : List ℕ) (xs ys : Notes) → first_place s (xs ++ ys) ≡ None → first_place s ys ≡ None
+first_place-rest s [] ys e = e
+first_place-rest s (x ∷ xs) ys e = first_place-rest s xs ys (left_none (bytes_eq s x.0) x.1 (first_place s (xs ++ ys)) e)
 
 pub first_place-before : (s : List ℕ) (xs ys : Notes) → first_place s ys ≡ None → first_place s (xs ++ ys) ≡ first_place s xs
 first_place-before s [] ys e = e
@@ -110,41 +120,55 @@ pub first_place-front : (s : List ℕ) (p : ℕ) (xs ys : Notes) → first_place
 first_place-front s p [] ys e = cc
 first_place-front s p (x ∷ xs) ys e = found_by (bytes_eq s x.0) x.1 (first_place s xs) (first_place s (xs ++ ys)) p e (first_place-front s p xs ys)
 
-still_kept : (kept : Option KeptName) (notes notes' : List Note) (more : Notes) → pairs notes' ≡ pairs notes ++ more → IsKept notes kept → IsKept notes' kept
-still_kept None notes notes' more e h = tt
-still_kept (Some name) notes notes' more e h = (h.0, ap (λ ns. first_place name.wire.now ns) e ∙ first_place-front name.wire.now name.place (pairs notes) more h.1)
+-- ---- names that are kept
+pub more_kept : (kept : Option KeptName) (all more : Notes) → IsKept all kept → IsKept (all ++ more) kept
+more_kept None all more h = tt
+more_kept (Some name) all more h = (h.0, first_place-front name.wire.now name.place all more h.1)
 
-same_kept : (kept : Option KeptName) (notes notes' : List Note) → pairs notes' ≡ pairs notes → IsKept notes kept → IsKept notes' kept
-same_kept kept notes notes' e h = subst (λ ns. IfSome kept (λ name. IsNotedAt ns name.wire.now name.place)) (sym e) h
+pub none_kept : (kept : Option KeptName) (all : Notes) → IsKept [] kept → IsKept all kept
+none_kept None all h = tt
+none_kept (Some name) all h = cc
+
+kept_as : (kept : Option KeptName) (all all' : Notes) → all' ≡ all → IsKept all kept → IsKept all' kept
+kept_as kept all all' e h = subst (λ ns. IfSome kept (λ name. IsNotedAt ns name.wire.now name.place)) (sym e) h
 
 -- ---- the table as a whole
-module _ (notes notes' : List Note) (owner target : Option KeptName) (lasts lasts' : List ℕ) where
+module _ (asked : Notes) (notes notes' : List Note) (owner target : Option KeptName) (lasts lasts' : List ℕ) where
+  behind : (more : Notes) → pairs notes' ≡ pairs notes ++ more → asked ++ pairs notes' ≡ (asked ++ pairs notes) ++ more
+  behind more e = ap (λ ns. asked ++ ns) e ∙ sym (append_assoc asked (pairs notes) more)
+
   -- with one note more
-  pub IsTable-push : (s : List ℕ) (p : ℕ) → IsTable notes owner target lasts → pairs notes' ≡ pairs notes ++ (s, p) ∷ [] → first_place s (pairs notes) ≡ None → IsPlace p → (lasts' ≢ [] → AreLinked notes' lasts') → IsTable notes' owner target lasts'
-  IsTable-push s p t e fresh at h = record {
-    apart = subst (λ ns. AreApart ns) (sym e) (AreApart-push (pairs notes) s p t.apart fresh);
-    in_range = subst (λ ns. All (λ note. IsPlace note.1) ns) (sym e) (All-push (λ note. IsPlace note.1) (pairs notes) (s, p) t.in_range at);
-    linked = h;
-    owner_kept = still_kept owner notes notes' ((s, p) ∷ []) e t.owner_kept;
-    target_kept = still_kept target notes notes' ((s, p) ∷ []) e t.target_kept;
-  }
+  pub IsTable-push : (s : List ℕ) (p : ℕ) → IsTable asked notes owner target lasts → pairs notes' ≡ pairs notes ++ (s, p) ∷ [] → first_place s (pairs notes) ≡ None → IsPlace p → (lasts' ≢ [] → AreLinked notes' lasts') → IsTable asked notes' owner target lasts'
+  IsTable-push s p t e fresh at h =
+      let one : Notes = (s, p) ∷ [] in
+      let all : Notes = asked ++ pairs notes in
+      let is = behind one e in
+      record {
+        apart = subst (λ ns. AreApart ns) (sym e) (AreApart-push (pairs notes) s p t.apart fresh);
+        in_range = subst (λ ns. All (λ note. IsPlace note.1) ns) (sym is) (All-push (λ note. IsPlace note.1) all (s, p) t.in_range at);
+        linked = h;
+        owner_kept = kept_as owner (all ++ one) (asked ++ pairs notes') is (more_kept owner all one t.owner_kept);
+        target_kept = kept_as target (all ++ one) (asked ++ pairs notes') is (more_kept target all one t.target_kept);
+      }
 
   -- with the first so many notes
-  pub IsTable-take : (k : ℕ) → IsTable notes owner target lasts → pairs notes' ≡ take k (pairs notes) → (lasts' ≢ [] → AreLinked notes' lasts') → IsTable notes' None None lasts'
-  IsTable-take k t e h = record {
+  pub IsTable-take : (j k : ℕ) (asked' : Notes) → IsTable asked notes owner target lasts → asked' ++ pairs notes' ≡ take j (asked ++ pairs notes) → pairs notes' ≡ take k (pairs notes) → (lasts' ≢ [] → AreLinked notes' lasts') → IsTable asked' notes' None None lasts'
+  IsTable-take j k asked' t all e h = record {
     apart = subst (λ ns. AreApart ns) (sym e) (AreApart-take k (pairs notes) t.apart);
-    in_range = subst (λ ns. All (λ note. IsPlace note.1) ns) (sym e) (All-take (λ note. IsPlace note.1) k (pairs notes) t.in_range);
+    in_range = subst (λ ns. All (λ note. IsPlace note.1) ns) (sym all) (All-take (λ note. IsPlace note.1) j (asked ++ pairs notes) t.in_range);
     linked = h;
     owner_kept = tt;
     target_kept = tt;
   }
 
-  -- with the same notes, linked
-  pub IsTable-linked : IsTable notes owner target lasts → pairs notes' ≡ pairs notes → AreLinked notes' lasts' → IsTable notes' owner target lasts'
-  IsTable-linked t e h = record {
-    apart = subst (λ ns. AreApart ns) (sym e) t.apart;
-    in_range = subst (λ ns. All (λ note. IsPlace note.1) ns) (sym e) t.in_range;
-    linked = λ ne. h;
-    owner_kept = same_kept owner notes notes' e t.owner_kept;
-    target_kept = same_kept target notes notes' e t.target_kept;
-  }
+-- The first so many of all notes are the first of the question's, and of the others those that are left.
+pub take_both : {X : Type 0} (xs ys : List X) (n : ℕ) → take n xs ++ take (n - length xs) ys ≡ take n (xs ++ ys)
+take_both [] ys n =
+    let all : n - 0 ≡ n = omega arith in
+    ap (λ xs. xs ++ take (n - 0) ys) (take-nil n) ∙ ap (λ k. take k ys) all
+take_both (x ∷ xs) ys zero =
+    let none : 0 - length (x ∷ xs) ≡ 0 = omega arith in
+    ap (λ k. take k ys) none
+take_both (x ∷ xs) ys (suc n) =
+    let left : suc n - length (x ∷ xs) ≡ n - length xs = omega arith in
+    ap (λ r. x ∷ r) (ap (λ k. take n xs ++ take k ys) left ∙ take_both xs ys n)

@@ -1,33 +1,34 @@
 -- The steps of noting the name of a question.
-use Rattle.std.proofs.Common.{◌≡◌, ℕ, ◌+◌, ◌-◌, ◌<◌, ◌≤◌, List, [], ◌∷◌, ◌++◌, length, take, drop, get_or, replicate, Some, refl, sym, ap, ◌∙◌, subst, arith, length-append, length-take, length-drop}
+use Rattle.std.proofs.Common.{◌≡◌, ℕ, ◌+◌, ◌<◌, ◌≤◌, List, [], ◌∷◌, ◌++◌, length, take, get_or, replicate, Some, refl, sym, ap, ◌∙◌, subst, arith, length-append}
 use Rattle.std.proofs.lemmas.List.{append_assoc, get_or-append-add}
-use Rattle.std.proofs.lemmas.List.Elements.{All-push, All-weaker, All-tail, recursion_from_All}
+use Rattle.std.proofs.lemmas.List.Elements.{All-nil, All-cons, All-push, All-tail, recursion_from_All}
 use Rattle.std.proofs.lemmas.Option.{slice_get-get_or}
 use Rattle.std.specs.List.{All}
-use Rattle.wire_names.specs.rr.domain.DomainName.{IsLabel, wire_form, name_len, cut}
+use Rattle.wire_names.specs.rr.domain.DomainName.{IsLabel, IsWire, wire_form, name_len, cut}
 use Rattle.wire_names.specs.serialize.layout.Bytes.{BytesAt}
 use Rattle.wire_messages.specs.serialize.layout.NameLayout.{LabelsAt}
 use Rattle.wire_messages.specs.serialize.reading.NameReading.{label_at}
 use Rattle.wire_messages.specs.serialize.writing.FullForm.{name_octets}
 use Rattle.wire_writing.specs.serialize.writing.Noted.{Notes, IsNote, AreNotes}
-use Rattle.wire_writing.specs.serialize.writing.QuestionNames.{StandsInFull}
-use Rattle.wire_names.proofs.lemmas.rr.domain.WireForm.{cut_of, wire-push}
-use Rattle.wire_messages.proofs.lemmas.serialize.layout.ByteTexts.{BytesAt-left, BytesAt-right, BytesAt-both, stands_take}
+use Rattle.wire_writing.specs.serialize.writing.QuestionNames.{StandsInFull, ends_from}
+use Rattle.wire_names.proofs.lemmas.rr.domain.WireForm.{cut_of, cut-wire, wire-push, is_wire_of, name_len-wire_form}
+use Rattle.wire_messages.proofs.lemmas.serialize.layout.ByteTexts.{BytesAt-right, BytesAt-both, stands_take}
 use Rattle.wire_messages.proofs.lemmas.serialize.layout.Stands.{label_len, stands_label, stands_one}
 use Rattle.wire_writing.proofs.lemmas.serialize.writing.FullForms.{labels_stand}
 
--- labels that stand one behind the other from the front on, up to a place
-pub record StandsSoFar (bytes : List ℕ) (place : ℕ) : Type 0 where
+-- so many labels that stand one behind the other from the front on, up to a place
+pub record StandsSoFar (bytes : List ℕ) (place count : ℕ) : Type 0 where
   pub labels : List (List ℕ)
   pub are : All IsLabel labels
   pub stands : BytesAt bytes 0 (wire_form labels)
   pub at : place ≡ length (wire_form labels)
+  pub counted : count ≡ length labels
 
-pub so_far_none : (bytes : List ℕ) → StandsSoFar bytes 0
-so_far_none bytes = record { labels = []; are = λ i x h. absurd (omega arith); stands = record { fits = omega arith; same = λ k lt. absurd (omega arith) }; at = refl }
+pub so_far_none : (bytes : List ℕ) → StandsSoFar bytes 0 0
+so_far_none bytes = record { labels = []; are = λ i x h. absurd (omega arith); stands = record { fits = omega arith; same = λ k lt. absurd (omega arith) }; at = refl; counted = refl }
 
-pub so_far_more : (bytes : List ℕ) (place : ℕ) → StandsSoFar bytes place → 0 < get_or bytes place 0 → get_or bytes place 0 < 64 → place + 1 + get_or bytes place 0 ≤ length bytes → StandsSoFar bytes (place + 1 + get_or bytes place 0)
-so_far_more bytes place s low high fits =
+pub so_far_more : (bytes : List ℕ) (place count : ℕ) → StandsSoFar bytes place count → 0 < get_or bytes place 0 → get_or bytes place 0 < 64 → place + 1 + get_or bytes place 0 ≤ length bytes → StandsSoFar bytes (place + 1 + get_or bytes place 0) (count + 1)
+so_far_more bytes place count s low high fits =
     let n = get_or bytes place 0 in
     let label = label_at bytes place n in
     let len = label_len bytes place n fits in
@@ -41,62 +42,17 @@ so_far_more bytes place s low high fits =
       are = All-push IsLabel s.labels label s.are (omega (arith, len), omega (arith, len));
       stands = subst (λ t. BytesAt bytes 0 t) (sym (wire-push s.labels label)) both;
       at = omega (arith, ap length (wire-push s.labels label), size, len, s.at);
+      counted = omega (arith, s.counted, length-append s.labels (label ∷ []));
     }
 
-pub so_far_ends : (bytes : List ℕ) (place : ℕ) → StandsSoFar bytes place → place < length bytes → get_or bytes place 0 ≡ 0 → StandsInFull bytes 0 place
-so_far_ends bytes place s lt zero_here = let behind : place ≡ 0 + length (wire_form s.labels) = omega (arith, s.at) in record {
+pub so_far_ends : (bytes : List ℕ) (place count : ℕ) → StandsSoFar bytes place count → place < length bytes → place < 255 → get_or bytes place 0 ≡ 0 → StandsInFull bytes (take place bytes) count
+so_far_ends bytes place count s lt small zero_here = let behind : place ≡ 0 + length (wire_form s.labels) = omega (arith, s.at) in record {
   labels = s.labels;
-  are = s.are;
+  are = record { each = s.are; short = omega (arith, name_len-wire_form s.labels, s.at, small) };
   stands = BytesAt-both bytes 0 (wire_form s.labels) (0 ∷ []) s.stands (subst (λ p. BytesAt bytes p (0 ∷ [])) behind (stands_one bytes place 0 (slice_get-get_or bytes place 0 lt ∙ ap Some zero_here)));
-  ends = behind;
+  is = ap (λ n. take n bytes) s.at ∙ stands_take bytes 0 (wire_form s.labels) s.stands;
+  counted = s.counted;
 }
-
--- a label in full, and what stands behind it
-pub record NextLabel (bytes : List ℕ) (place end : ℕ) : Type 0 where
-  pub suffix : List (List ℕ)
-  pub are : All IsLabel suffix
-  pub is : take (end - place) (drop place bytes) ≡ wire_form suffix
-  pub stands : BytesAt bytes place (name_octets suffix)
-  pub rest : StandsInFull bytes (place + 1 + get_or bytes place 0) end
-  pub within : place + 1 + get_or bytes place 0 ≤ end
-
-next_by : (bytes : List ℕ) (place end : ℕ) (ls : List (List ℕ)) → All IsLabel ls → BytesAt bytes place (name_octets ls) → end ≡ place + length (wire_form ls) → place < end → NextLabel bytes place end
-next_by bytes place end [] are s e lt = absurd (omega arith)
-next_by bytes place end (l ∷ ls) are s e lt =
-    let first = length l ∷ l in
-    let parts : BytesAt bytes place (first ++ name_octets ls) = subst (λ t. BytesAt bytes place (length l ∷ t)) (append_assoc l (wire_form ls) (0 ∷ [])) s in
-    let here : get_or bytes place 0 ≡ length l = ap (λ i. get_or bytes i 0) (omega arith) ∙ s.same 0 (omega arith) in
-    let next : place + length first ≡ place + 1 + get_or bytes place 0 = omega (arith, here) in
-    let wire = BytesAt-left bytes place (wire_form (l ∷ ls)) (0 ∷ []) s in
-    let size : length (wire_form (l ∷ ls)) ≡ end - place = omega arith in
-    record {
-      suffix = l ∷ ls;
-      are = are;
-      is = ap (λ n. take n (drop place bytes)) (sym size) ∙ stands_take bytes place (wire_form (l ∷ ls)) wire;
-      stands = s;
-      rest = record {
-        labels = ls;
-        are = All-tail IsLabel l ls are;
-        stands = subst (λ p. BytesAt bytes p (name_octets ls)) next (BytesAt-right bytes place first (name_octets ls) parts);
-        ends = omega (arith, e, here, length-append l (wire_form ls));
-      };
-      within = omega (arith, e, here, length-append l (wire_form ls));
-    }
-
-pub next_label : (bytes : List ℕ) (place end : ℕ) → StandsInFull bytes place end → place < end → NextLabel bytes place end
-next_label bytes place end s lt = next_by bytes place end s.labels s.are s.stands s.ends lt
-
--- how long the end of a name is that begins there
-pub suffix_len : (bytes : List ℕ) (place end : ℕ) → StandsInFull bytes place end → length (take (end - place) (drop place bytes)) ≡ end - place
-suffix_len bytes place end s = omega (arith, s.ends, s.stands.fits, length-append (wire_form s.labels) (0 ∷ []), length-take (end - place) (drop place bytes), length-drop place bytes)
-
--- Behind the next label all notes are longer than what is left.
-pub longer_noted : (bytes : List ℕ) (place next end : ℕ) (notes notes' : Notes) → StandsInFull bytes place end → place < end → place < next → All (λ note. end - place < length note.0) notes
-    → notes' ≡ notes ++ (take (end - place) (drop place bytes), 12 + place) ∷ [] → All (λ note. end - next < length note.0) notes'
-longer_noted bytes place next end notes notes' s lt less h e =
-    let before = All-weaker (λ note. end - place < length note.0) (λ note. end - next < length note.0) (λ note longer. omega (arith, longer, less)) notes h in
-    let here : end - next < length (take (end - place) (drop place bytes)) = omega (arith, suffix_len bytes place end s, lt, less) in
-    subst (λ ns. All (λ note. end - next < length note.0) ns) (sym e) (All-push (λ note. end - next < length note.0) notes (take (end - place) (drop place bytes), 12 + place) before here)
 
 -- what stands in the questions stands behind the header
 behind_header : (question text : List ℕ) (place : ℕ) → BytesAt question place text → BytesAt (replicate 12 0 ++ question) (12 + place) text
@@ -105,19 +61,40 @@ behind_header question text place s = record {
   same = λ k lt. ap (λ i. get_or (replicate 12 0 ++ question) i 0) (omega arith) ∙ get_or-append-add (replicate 12 0) question (place + k) 0 ∙ s.same k lt;
 }
 
--- a suffix of the name of the question is a note
-pub question_note : (question suffix : List ℕ) (place end : ℕ) (notes notes' : Notes) → NextLabel question place end → suffix ≡ take (end - place) (drop place question) → AreNotes (replicate 12 0 ++ question) (12 + length question) notes → notes' ≡ notes ++ (suffix, 12 + place) ∷ []
-    → AreNotes (replicate 12 0 ++ question) (12 + length question) notes'
-question_note question suffix place end notes notes' n is h e =
+-- an end of the name of the question is a note
+end_note : (question : List ℕ) (place : ℕ) (ls : List (List ℕ)) → All IsLabel ls → BytesAt question place (name_octets ls) → IsNote (replicate 12 0 ++ question) (12 + length question) (wire_form ls, 12 + place)
+end_note question place ls are s =
     let bytes = replicate 12 0 ++ question in
-    let stands = behind_header question (name_octets n.suffix) place n.stands in
-    let labels : cut suffix ≡ n.suffix = cut_of suffix n.suffix (is ∙ n.is) in
-    let fresh : IsNote bytes (12 + length question) (suffix, 12 + place) = record {
-      before = omega (arith, n.stands.fits, length-append (wire_form n.suffix) (0 ∷ []));
-      past = 12 + place + name_len n.suffix;
-      stand = subst (λ ls. LabelsAt 12 bytes (12 + place) (12 + place) ls (12 + place + name_len n.suffix)) (sym labels) (labels_stand bytes 12 (12 + place) (12 + place) n.suffix (recursion_from_All IsLabel n.suffix n.are) (omega arith) stands);
-    } in
-    subst (λ ns. AreNotes bytes (12 + length question) ns) (sym e) (All-push (IsNote bytes (12 + length question)) notes (suffix, 12 + place) h fresh)
+    record {
+      before = omega (arith, s.fits, length-append (wire_form ls) (0 ∷ []));
+      past = 12 + place + name_len ls;
+      stand = subst (λ labels. LabelsAt 12 bytes (12 + place) (12 + place) labels (12 + place + name_len ls)) (sym (cut-wire ls)) (labels_stand bytes 12 (12 + place) (12 + place) ls (recursion_from_All IsLabel ls are) (omega arith) (behind_header question (name_octets ls) place s));
+    }
+
+-- and so are all of them
+ends_notes : (question : List ℕ) (place : ℕ) (ls : List (List ℕ)) → All IsLabel ls → BytesAt question place (name_octets ls) → AreNotes (replicate 12 0 ++ question) (12 + length question) (ends_from (12 + place) ls)
+ends_notes question place [] are s = All-nil (IsNote (replicate 12 0 ++ question) (12 + length question))
+ends_notes question place (l ∷ ls) are s =
+    let bytes = replicate 12 0 ++ question in
+    let first = length l ∷ l in
+    let parts : BytesAt question place (first ++ name_octets ls) = subst (λ t. BytesAt question place (length l ∷ t)) (append_assoc l (wire_form ls) (0 ∷ [])) s in
+    let next : 12 + (place + length first) ≡ 12 + place + (1 + length l) = omega arith in
+    let others = ends_notes question (place + length first) ls (All-tail IsLabel l ls are) (BytesAt-right question place first (name_octets ls) parts) in
+    All-cons (IsNote bytes (12 + length question)) (wire_form (l ∷ ls), 12 + place) (ends_from (12 + place + (1 + length l)) ls) (end_note question place (l ∷ ls) are s)
+    (subst (λ p. AreNotes bytes (12 + length question) (ends_from p ls)) next others)
+
+-- ---- the name that stands in full
+pub name_wire : (question wire : List ℕ) (count : ℕ) → StandsInFull question wire count → IsWire wire
+name_wire question wire count s = is_wire_of wire s.labels s.is s.are
+
+pub name_count : (question wire : List ℕ) (count : ℕ) → StandsInFull question wire count → count ≡ length (cut wire)
+name_count question wire count s = s.counted ∙ ap length (sym (cut_of wire s.labels s.is))
+
+pub name_noted : (question wire : List ℕ) (count : ℕ) (notes : Notes) → StandsInFull question wire count → notes ≡ ends_from 12 (cut wire) → AreNotes (replicate 12 0 ++ question) (12 + length question) notes
+name_noted question wire count notes s e =
+    let all = ends_notes question 0 s.labels s.are.each s.stands in
+    let whole : notes ≡ ends_from (12 + 0) s.labels = e ∙ ap (ends_from 12) (cut_of wire s.labels s.is) ∙ ap (λ p. ends_from p s.labels) (omega arith) in
+    subst (λ ns. AreNotes (replicate 12 0 ++ question) (12 + length question) ns) (sym whole) all
 
 pub no_notes : (bytes : List ℕ) (start : ℕ) (notes : Notes) → notes ≡ [] → AreNotes bytes start notes
 no_notes bytes start notes e = subst (λ ns. AreNotes bytes start ns) (sym e) (λ i x h. absurd (omega arith))

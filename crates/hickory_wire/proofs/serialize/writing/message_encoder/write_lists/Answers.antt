@@ -9,13 +9,13 @@ use Rattle.hickory_wire.proofs.lemmas.serialize.writing.FiveLists.{five_cuts, fi
 use Rattle.wire_writing.proofs.lemmas.serialize.writing.NotedRuns.{puts_both, repeats, run_both}
 use Rattle.wire_writing.proofs.lemmas.serialize.writing.QuestionSteps.{no_notes, notes_behind}
 use Rattle.hickory_wire.proofs.serialize.writing.message_encoder.write_lists.Goals as goal
-use Rattle.hickory_wire.proofs.serialize.writing.message_encoder.write_lists.Goals.{then-has_records+in_ok-note_question, else-has_records}
+use Rattle.hickory_wire.proofs.serialize.writing.message_encoder.write_lists.Goals.{then-has_records, else-has_records}
 
 pub write_list-requires : goal.write_list-requires
 write_list-requires g c κs =
     let bytes = c.args.bytes.now.items in
     let noted : AreNotes bytes (length bytes) c.if-has_records.table = elim c.if-has_records.branch [
-      | then-has_records+in_ok-note_question w ↦ rw w.table-is (notes_behind bytes c.args.parts.question.now w.note_question.new.table c.requires.asked w.in_ok-note_question.ensures)
+      | then-has_records w ↦ rw w.table-is (notes_behind bytes c.args.parts.question.now w.note_question.new.table c.requires.asked w.note_question.ensures)
       | else-has_records w ↦ rw w.table-is (no_notes bytes (length bytes) c.new-table.result c.new-table.ensures)
     ] in
     ((refl, (refl, tt)), (c.requires.answers.0, (c.requires.answers.1, (c.requires.header, (c.requires.fits, noted)))))

@@ -6,12 +6,14 @@ use Rattle.wire_writing.proofs.serialize.writing.compression_table.CompressionTa
 
 pub returns-then-are_same-clause-in_range : goal.returns-then-are_same-clause-in_range
 returns-then-are_same-clause-in_range c =
+    let all = c.self.inside.asked ++ pairs (c.self.inside.first ++ c.self.inside.notes.items) in
     let e : c.in-Some.owner.wire.now ≡ c.args.wire.now = search rules in
-    let f : first_place c.args.wire.now (pairs (c.self.inside.first ++ c.self.inside.notes.items)) ≡ Some c.in-Some.owner.place = search rules in
-    place_in_range c.args.wire.now c.in-Some.owner.place (pairs (c.self.inside.first ++ c.self.inside.notes.items)) c.self.invariant.0.in_range f
+    let f : first_place c.args.wire.now all ≡ Some c.in-Some.owner.place = search rules in
+    place_in_range c.args.wire.now c.in-Some.owner.place all c.self.invariant.0.in_range f
 
 pub returns-then-are_same-2-clause-in_range : goal.returns-then-are_same-2-clause-in_range
 returns-then-are_same-2-clause-in_range c =
+    let all = c.self.inside.asked ++ pairs (c.self.inside.first ++ c.self.inside.notes.items) in
     let e : c.in-Some-last_target.target.wire.now ≡ c.args.wire.now = search rules in
-    let f : first_place c.args.wire.now (pairs (c.self.inside.first ++ c.self.inside.notes.items)) ≡ Some c.in-Some-last_target.target.place = search rules in
-    place_in_range c.args.wire.now c.in-Some-last_target.target.place (pairs (c.self.inside.first ++ c.self.inside.notes.items)) c.self.invariant.0.in_range f
+    let f : first_place c.args.wire.now all ≡ Some c.in-Some-last_target.target.place = search rules in
+    place_in_range c.args.wire.now c.in-Some-last_target.target.place all c.self.invariant.0.in_range f

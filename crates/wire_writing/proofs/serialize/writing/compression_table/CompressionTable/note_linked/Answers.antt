@@ -8,6 +8,7 @@ use Rattle.wire_writing.proofs.serialize.writing.compression_table.CompressionTa
 
 pub invariant_of-self-then-not-is_empty : goal.invariant_of-self-then-not-is_empty
 invariant_of-self-then-not-is_empty c =
+    let asked = c.self.inside.asked in
     let first = c.self.inside.first in
     let notes = c.self.inside.notes.items in
     let lasts = c.self.inside.lasts.items in
@@ -15,14 +16,15 @@ invariant_of-self-then-not-is_empty c =
     let owner = c.self.inside.last_owner in
     let target = c.self.inside.last_target in
     let some : lasts ≢ [] = search rules in
-    let fresh : first_place c.args.suffix.now (pairs (first ++ notes)) ≡ None = ap (λ ns. first_place c.args.suffix.now ns) c.self.view_is ∙ c.requires.fresh in
+    let fresh : first_place c.args.suffix.now (asked ++ pairs (first ++ notes)) ≡ None = ap (λ ns. first_place c.args.suffix.now ns) c.self.view_is ∙ c.requires.fresh in
     let long : length c.push_linked.new.lasts ≡ c.self.inside.lasts.len = omega (arith, c.push_linked.auto.lasts, c.deref_mut.ensures.len) in
     let back = front_whole c.self.inside.lasts.len c.push_linked.new.lasts (drop (length c.push_linked.new.lasts) lasts) long in
-    subst (λ ls. IsTable (first ++ pushed) owner target ls × IsStored first pushed ls) (sym back)
-    (linked-push first notes owner target lasts c.self.invariant.0 c.self.invariant.1 some pushed c.push_linked.new.lasts c.push_linked.ensures.linked c.args.suffix.now c.args.place c.in_ok-push_linked.ensures.ok fresh c.requires.in_range)
+    subst (λ ls. IsTable asked (first ++ pushed) owner target ls × IsStored first pushed ls) (sym back)
+    (linked-push asked first notes owner target lasts c.self.invariant.0 c.self.invariant.1 some pushed c.push_linked.new.lasts c.push_linked.ensures.linked c.args.suffix.now c.args.place c.in_ok-push_linked.ensures.ok fresh c.requires.in_range)
 
 pub invariant_of-self-2 : goal.invariant_of-self-2
 invariant_of-self-2 c =
+    let asked = c.self.inside.asked in
     let first = c.self.inside.first in
     let notes = c.self.inside.notes.items in
     let lasts = c.self.inside.lasts.items in
@@ -32,10 +34,10 @@ invariant_of-self-2 c =
     let owner = c.self.inside.last_owner in
     let target = c.self.inside.last_target in
     let zero : length lasts ≡ 0 = search rules in
-    let fresh : first_place c.args.suffix.now (pairs (first ++ notes)) ≡ None = ap (λ ns. first_place c.args.suffix.now ns) c.self.view_is ∙ c.requires.fresh in
+    let fresh : first_place c.args.suffix.now (asked ++ pairs (first ++ notes)) ≡ None = ap (λ ns. first_place c.args.suffix.now ns) c.self.view_is ∙ c.requires.fresh in
     let same : pairs moved ≡ pairs first = c.in_ok-notes.ensures.same ∙ ap pairs c.as_slice.ensures.value in
     let long : length lasts' ≡ c.in_ok-lasts.lasts.len = omega (arith, c.push_linked-2.ensures.linked.each, c.in_ok-lasts.ensures.len) in
     let back = front_whole c.in_ok-lasts.lasts.len lasts' (drop (length lasts') (take c.in_ok-lasts.lasts.len (c.link.new.lasts ++ drop (length c.link.new.lasts) c.in_ok-lasts.lasts.items))) long in
-    subst (λ ns. IsTable (ns ++ pushed) owner target (take c.in_ok-lasts.lasts.len (lasts' ++ drop (length lasts') (take c.in_ok-lasts.lasts.len (c.link.new.lasts ++ drop (length c.link.new.lasts) c.in_ok-lasts.lasts.items)))) × IsStored ns pushed (take c.in_ok-lasts.lasts.len (lasts' ++ drop (length lasts') (take c.in_ok-lasts.lasts.len (c.link.new.lasts ++ drop (length c.link.new.lasts) c.in_ok-lasts.lasts.items))))) (sym c.truncate.ensures)
-    (subst (λ ls. IsTable pushed owner target ls × IsStored [] pushed ls) (sym back)
-    (moved-push first notes owner target lasts c.self.invariant.0 c.self.invariant.1 (nil_from_length lasts zero) moved pushed lasts' c.args.suffix.now c.args.place same c.in_ok-push_linked-2.ensures.ok c.push_linked-2.ensures.linked fresh c.requires.in_range))
+    subst (λ ns. IsTable asked (ns ++ pushed) owner target (take c.in_ok-lasts.lasts.len (lasts' ++ drop (length lasts') (take c.in_ok-lasts.lasts.len (c.link.new.lasts ++ drop (length c.link.new.lasts) c.in_ok-lasts.lasts.items)))) × IsStored ns pushed (take c.in_ok-lasts.lasts.len (lasts' ++ drop (length lasts') (take c.in_ok-lasts.lasts.len (c.link.new.lasts ++ drop (length c.link.new.lasts) c.in_ok-lasts.lasts.items))))) (sym c.truncate.ensures)
+    (subst (λ ls. IsTable asked pushed owner target ls × IsStored [] pushed ls) (sym back)
+    (moved-push asked first notes owner target lasts c.self.invariant.0 c.self.invariant.1 (nil_from_length lasts zero) moved pushed lasts' c.args.suffix.now c.args.place same c.in_ok-push_linked-2.ensures.ok c.push_linked-2.ensures.linked fresh c.requires.in_range))

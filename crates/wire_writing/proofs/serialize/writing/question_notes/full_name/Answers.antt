@@ -1,9 +1,9 @@
 use Rattle.std.proofs.Common.{rules, arith, ◌≡◌, ◌+◌, ◌<◌, length, get_or, subst}
 use Rattle.wire_writing.proofs.lemmas.serialize.writing.QuestionSteps.{StandsSoFar, so_far_none, so_far_more, so_far_ends}
-use Rattle.wire_writing.proofs.serialize.writing.question_notes.end_of_name.Goals as goal
+use Rattle.wire_writing.proofs.serialize.writing.question_notes.full_name.Goals as goal
 
 pub loop-place-init : goal.loop-place-init
-loop-place-init c = record { so_far = λ fits. so_far_none c.args.question.now; small = omega arith }
+loop-place-init c = record { so_far = λ fits. so_far_none c.args.question.now; small = omega arith; few = omega arith }
 
 pub loop-place-preserved : goal.loop-place-preserved
 loop-place-preserved c =
@@ -14,12 +14,13 @@ loop-place-preserved c =
     let high : count < 64 = search rules in
     let next : place + 1 + count ≡ place + (1 + c.from.result) = omega (arith, c.from.ensures) in
     record {
-      so_far = λ fits. subst (λ p. StandsSoFar question p) next (so_far_more question place (c.loop-place.invariant.so_far (omega arith)) low high (omega (arith, next)));
+      so_far = λ fits. subst (λ p. StandsSoFar question p (c.loop-place.count + 1)) next (so_far_more question place c.loop-place.count (c.loop-place.invariant.so_far (omega arith)) low high (omega (arith, next)));
       small = omega (arith, high, c.if-place-lt-MAX_WIRE_LEN.true);
+      few = omega (arith, c.loop-place.invariant.few);
     }
 
-pub returns-then-count-eq0-clause-stands : goal.returns-then-count-eq0-clause-stands
-returns-then-count-eq0-clause-stands c =
+pub returns-then-len-eq0 : goal.returns-then-len-eq0
+returns-then-len-eq0 c =
     let zero_here : get_or c.args.question.now c.loop-place.place 0 ≡ 0 = search rules in
     let below : c.loop-place.place < length c.args.question.now = search rules in
-    so_far_ends c.args.question.now c.loop-place.place (c.loop-place.invariant.so_far (omega arith)) below zero_here
+    so_far_ends c.args.question.now c.loop-place.place c.loop-place.count (c.loop-place.invariant.so_far (omega arith)) below (search rules) zero_here
