@@ -3,7 +3,7 @@
 
 pub mod configuration;
 pub mod fault;
-pub mod reading;
 pub mod names;
+pub mod reading;
 mod values;
 pub mod writing;

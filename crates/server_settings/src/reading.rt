@@ -182,7 +182,13 @@ fn text_refusal(alloc: Global, options: &[String], text: &[u8]) -> Option<Refusa
             drop(table);
             refusal
         }
-        Err(e) => { if e.is_memory() { Some(Refusal::Memory) } else { None } }
+        Err(e) => {
+            if e.is_memory() {
+                Some(Refusal::Memory)
+            } else {
+                None
+            }
+        }
     }
 }
 

@@ -95,7 +95,12 @@ fn put_members(
 {
     for (key, member) in members.iter() {
         match text_of(alloc, member)? {
-            Some(text) => put_text(alloc, name, assigned(alloc, key.as_str(), text.as_str())?, settings)?,
+            Some(text) => put_text(
+                alloc,
+                name,
+                assigned(alloc, key.as_str(), text.as_str())?,
+                settings,
+            )?,
             None => return Ok(false),
         }
     }

@@ -17,4 +17,4 @@ loop-item-preserved c =
     let gives : text_of (view value) ≡ Some text = grind (arith, common_steps) in
     let put : map said c.put_text.new.settings.items ≡ map said c.loop-item.settings.items ++ under name (text ∷ []) = grind (arith, common_steps) in
     leads-on (texts_of_items (items_view (drop (i + 1) xs))) (texts_of_items (items_view xs)) text name _ _ _ put
-        (rw (items_view-drop xs i value c.loop-item-test.true, at, gives) at c.loop-item.invariant)
+    (rw (items_view-drop xs i value c.loop-item-test.true, at, gives) at c.loop-item.invariant)

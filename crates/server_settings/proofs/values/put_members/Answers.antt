@@ -16,4 +16,4 @@ loop-key-preserved c =
     let gives : text_of (view entry.1) ≡ Some (string_bytes c.in-Some-2.text) = grind (arith, common_steps) in
     let put : map said c.put_text.new.settings.items ≡ map said c.loop-key.settings.items ++ under name (text ∷ []) = grind (arith, common_steps) in
     leads-on (texts_of_members (members_view left)) (texts_of_members (members_view c.args.members.now.entries)) text name _ _ _ put
-        (rw (front, gives) at c.loop-key.invariant)
+    (rw (front, gives) at c.loop-key.invariant)

@@ -49,8 +49,8 @@ no_end s (l ∷ ls) p (suc n) h =
     let rest = wire_form ls in
     let next = p + (1 + length l) in
     let behind : length s ≤ length rest → drop (length w - length s) w ≡ drop (length rest - length s) rest = λ le.
-        let more : length w - length s ≡ length (length l ∷ l) + (length rest - length s) = omega (arith, le, length-append l rest) in
-        ap (λ k. drop k w) more ∙ drop-append-add (length l ∷ l) rest (length rest - length s) in
+    let more : length w - length s ≡ length (length l ∷ l) + (length rest - length s) = omega (arith, le, length-append l rest) in
+    ap (λ k. drop k w) more ∙ drop-append-add (length l ∷ l) rest (length rest - length s) in
     cond-false (bytes_eq s w) (Some p) (first_place s (take n (ends_from next ls))) (not_whole s w h)
     ∙ no_end s ls next n (λ le e. h (omega (arith, le, length-append l rest)) (behind le ∙ e))
 

@@ -15,7 +15,8 @@ invariant_of-self c =
     let none : c.self.inside.asked ++ pairs (c.self.inside.first ++ c.self.inside.notes.items) ≡ [] = c.self.view_is ∙ c.requires.none in
     let high : 12 + length (wire_form (cut wire)) < 2 ^ 14 = omega (arith, wire_short (cut wire) c.requires.wire.are) in
     let some : 0 < length (cut wire) = omega (arith, c.if-count-gt0.true, c.requires.count) in
-    let kept : KeptName = record { wire = c.args.wire; place = 12 } in
-    (subst (λ ns. IsTable ns (c.self.inside.first ++ c.self.inside.notes.items) (Some kept) c.self.inside.last_target c.self.inside.lasts.items) (sym c.new-self-inside.ensures)
-    (begun c.self.inside.asked c.self.inside.first c.self.inside.notes.items c.self.inside.last_owner c.self.inside.last_target c.self.inside.lasts.items c.self.invariant.0 c.self.invariant.1 none ends (Some kept) (ends-in_range 12 (cut wire) (omega arith) high) (whole_noted wire c.requires.wire some)),
-    c.self.invariant.1)
+    let kept : KeptName = record { wire = c.args.wire; place = 12 } in (
+      subst (λ ns. IsTable ns (c.self.inside.first ++ c.self.inside.notes.items) (Some kept) c.self.inside.last_target c.self.inside.lasts.items) (sym c.new-self-inside.ensures)
+          (begun c.self.inside.asked c.self.inside.first c.self.inside.notes.items c.self.inside.last_owner c.self.inside.last_target c.self.inside.lasts.items c.self.invariant.0 c.self.invariant.1 none ends (Some kept) (ends-in_range 12 (cut wire) (omega arith) high) (whole_noted wire c.requires.wire some)),
+      c.self.invariant.1,
+    )
