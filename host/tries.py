@@ -276,6 +276,8 @@ def try_workers(zone, port, path):
     """That all workers are counted together, and that none is forgotten."""
     host = start(["--zone", f"example.com={zone}", "--workers", "3", "--statistics", path, "--tcp-idle", "1"], port)
     want("three workers start", wait_for(port))
+    # (a worker counts behind its reply, so what answered just now may not stand there yet)
+    time.sleep(0.5)
     before = statistics(path)
     for _ in range(60):
         udp(query("www.example.com"), port=port)
