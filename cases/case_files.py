@@ -21,7 +21,10 @@ DATA = {"zone_serve": ["zone_files", "zone_serve/files"], "zone_script": ["zone_
 
 # What a program reads and where it prints are needed of each case, in one of these forms.
 NEEDED = [("in", "hex", "stdin"), ("out", "outhex", "stdout")]
-ENDINGS = {"in", "hex", "stdin", "out", "outhex", "stdout", "err", "args", "env", "status"}
+ENDINGS = {"in", "hex", "stdin", "out", "outhex", "stdout", "err", "args", "env", "status", "journal"}
+
+# A program that keeps a journal is told to keep it in this file and the one beside it, which are not there as it starts, but for what NAME.journal has.
+JOURNAL = "new.journal"
 
 # Streams that fail, by the word that NAME.stdin or NAME.stdout has.
 FAILING_INPUTS = {"directory": "/"}
@@ -154,8 +157,17 @@ class Room:
     def __exit__(self, *_):
         shutil.rmtree(self.folder)
 
+    def put_journal(self, case):
+        """Leaves the journal of a case, and of no other."""
+        for file in (JOURNAL, JOURNAL + "-wal"):
+            if os.path.exists(f"{self.folder}/{file}"):
+                os.remove(f"{self.folder}/{file}")
+        if "journal" in case.files:
+            shutil.copyfile(case.files["journal"], f"{self.folder}/{JOURNAL}")
+
     def run(self, program, case, environment):
         """What the program prints for a case, what it tells on the standard error, and its status; a signal that ends it is a negative number."""
+        self.put_journal(case)
         printed = f"{self.folder}/printed"
         given, taken = case.open_input(), case.open_output(printed)
         try:

@@ -1,5 +1,6 @@
 #!/usr/bin/env python3
-"""Makes the journals of cases/zone_journal/files: frames of requests, and a gate behind them.
+"""Makes the journals of cases/zone_journal/files and cases/zone_serve/files, and those that cases of tests_zones find: frames of requests, and a gate behind
+them.
 
     cases/journal_files.py
 
@@ -9,7 +10,7 @@ field by field.
 import os
 import struct
 
-FOLDER = os.path.join(os.path.dirname(os.path.realpath(__file__)), "zone_journal/files")
+CASES = os.path.dirname(os.path.realpath(__file__))
 
 A, NS, SOA, TXT, TSIG, ANY_TYPE = 1, 2, 6, 16, 250, 255
 IN, NONE, ANY = 1, 254, 255
@@ -74,12 +75,31 @@ FILES = {
     "no_message.journal": journal([ADDED, b"no message", TWO]),
 }
 
+# Those that a server opens, which writes to them.
+SERVED = {
+    "updates.journal": FILES["three.journal"],
+    "another.journal": FILES["other_zone.journal"],
+    "no_message.journal": FILES["no_message.journal"],
+}
+
+NEW = update("example.com", [record("new.example.com", A, IN, 60, bytes([192, 0, 2, 7]))])
+
+# What cases of tests_zones find as their journal.
+FOUND = {
+    "journalled_again.journal": journal([NEW]),
+    "journalled_compacted.journal": FILES["compacted.journal"],
+}
+
+FOLDERS = (("zone_journal/files", FILES), ("zone_serve/files", SERVED), ("tests_zones", FOUND))
+
 
 def main():
-    os.makedirs(FOLDER, exist_ok=True)
-    for file, made in FILES.items():
-        with open(os.path.join(FOLDER, file), "wb") as it:
-            it.write(made)
+    for folder, files in FOLDERS:
+        place = os.path.join(CASES, folder)
+        os.makedirs(place, exist_ok=True)
+        for file, made in files.items():
+            with open(os.path.join(place, file), "wb") as it:
+                it.write(made)
 
 
 if __name__ == "__main__":

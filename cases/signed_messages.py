@@ -2,14 +2,17 @@
 """Writes the requests of tests_signed/, and judges the replies to them by Python's hmac.
 
     cases/signed_messages.py write              writes tests_signed/*.in anew
-    cases/signed_messages.py verify [FILE..]    reads what tests_signed printed, or is to print (tests_signed/*.out), and verifies every signature in it
+    cases/signed_messages.py verify [FILE..]    reads what tests_signed printed, or is to print (tests_signed/*.out), and verifies every signature in it;
+                                                with no file, those of tests_tsig (tests_tsig/replies.out) too
 
 The requests are made and signed here (RFC 8945 sections 4.3 and 5.1). `verify` looks up the request of every reply in the .in beside the file,
 and says of each reply whether it carries a MAC, and whether that is the one of the bytes (sections 5.3 and 5.3.1). A comment above a message
-begins with the word that is wanted of its replies: 'signed', with a MAC that verifies; 'bare', with a TSIG record without a MAC; 'plain', without
+begins with the word that is wanted of its replies: 'signed', with a MAC that verifies, and would not if another byte were changed, one
+after the other, but for those that the RFC leaves out; 'bare', with a TSIG record without a MAC; 'plain', without
 a TSIG record; 'malformed', where the one reply is the header of the request with FORMERR and nothing else (section 5.1); 'none', where there is no reply; or 'refused', where there is none or one without a MAC and without answers that says FORMERR or NOTAUTH.
 The last line is 'N passed, M failed'.
 """
+import base64
 import glob
 import hashlib
 import hmac
@@ -28,7 +31,8 @@ IN = 1
 TSIG, OPT = 250, 41
 
 # The key of each algorithm, the hash and the length of a MAC.
-ALGORITHMS = {"hmac-sha256": ("k256", "sha256", 32), "hmac-sha384": ("k384", "sha384", 48), "hmac-sha512": ("k512", "sha512", 64), "hmac-sha256-128": ("k128", "sha256", 16)}
+ALGORITHMS = {"hmac-sha256": ("k256", "sha256", 32), "hmac-sha384": ("k384", "sha384", 48), "hmac-sha512": ("k512", "sha512", 64), "hmac-sha256-128": ("k128", "sha256", 16),
+              "hmac-sha384-192": ("k192", "sha384", 24), "hmac-sha512-256": ("k512-256", "sha512", 32)}
 
 
 def name(text):
@@ -96,18 +100,25 @@ WWW = query("www.example.com", A)
 BIG = "big.example.com"
 
 
-def changed(bytes_):
-    """A signed message with each of its bytes changed, in turn, in its last bit."""
-    behind = len(WWW) + len(name("k256.example"))
+def changed(unsigned, more={}):
+    """A signed message with each of its bytes changed, in turn, in its last bit; `more` are places of this message where it is not refused for its signature."""
+    bytes_, behind = signed(unsigned), len(unsigned) + len(name("k256.example"))
     # (the id is not signed: the MAC is over the one of the record; with another count or type the message has no TSIG record, as any without a signature)
-    others = {0: "signed: the id", 1: "signed: the id", 11: "plain: no additional record is counted", behind: "plain: another type", behind + 1: "plain: another type"}
+    others = {0: "signed: the id", 1: "signed: the id", 11: "plain: no additional record is counted", behind: "plain: another type", behind + 1: "plain: another type", **more}
     for place in range(len(bytes_)):
         told = others.get(place, "refused: one bit") + f", byte {place}"
         yield told, "udp 192.0.2.1", bytes_[:place] + bytes([bytes_[place] ^ 1]) + bytes_[place + 1:]
 
 
 FILES = {
-    "bytes": list(changed(signed(WWW))),
+    "bytes": list(changed(WWW)),
+    # (those with another id, which are made, stand last)
+    "bytes_of_updates": [
+        *(CHANGED_UPDATES := list(changed(update("new.example.com", (192, 0, 2, 9)), {9: "plain: the record of the update is counted as the additional one"})))[2:],
+        ("plain: none of these was made", "udp 192.0.2.1", query("new.example.com", A)),
+        *CHANGED_UPDATES[:2],
+        ("plain: these were", "udp 192.0.2.1", query("new.example.com", A)),
+    ],
     "queries": [
         ("plain: a query without a signature", "udp 192.0.2.1", WWW),
         ("plain: and with EDNS", "udp 192.0.2.1", query("www.example.com", A, payload=1232)),
@@ -224,6 +235,8 @@ def last_tsig(bytes_):
     mac = bytes_[place + 10:place + 10 + length]
     place += 10 + length
     number, error, length = struct.unpack(">3H", bytes_[place:place + 6])
+    if place + 6 + length != len(bytes_):
+        raise ValueError("the fields are not those of the length of the record")
     return {"start": start, "key": key, "class": klass, "ttl": ttl, "algorithm": algorithm, "time": time, "fudge": fudge, "mac": mac, "id": number, "error": error, "other": bytes_[place + 6:place + 6 + length]}
 
 
@@ -235,12 +248,36 @@ def text_of(wire):
     return ".".join(words)
 
 
-def is_right(bytes_, tsig, prior, is_first):
+def is_right(bytes_, tsig, prior, is_first, secret=SECRET):
     """Whether the MAC is the one of the bytes, behind a MAC."""
     algorithm = text_of(tsig["algorithm"]).lower()
     bare = struct.pack(">H", tsig["id"]) + bytes_[2:10] + struct.pack(">H", struct.unpack(">H", bytes_[10:12])[0] - 1) + bytes_[12:tsig["start"]]
     rest = variables(text_of(tsig["key"]), algorithm, tsig["time"], tsig["fudge"], tsig["error"], tsig["other"]) if is_first else tsig["time"].to_bytes(6, "big") + struct.pack(">H", tsig["fudge"])
-    return (tsig["class"], tsig["ttl"]) == (ANY, 0) and mac_of(algorithm, SECRET, struct.pack(">H", len(prior)) + prior + bare + rest) == tsig["mac"]
+    return (tsig["class"], tsig["ttl"]) == (ANY, 0) and mac_of(algorithm, secret, struct.pack(">H", len(prior)) + prior + bare + rest) == tsig["mac"]
+
+
+def is_taken(bytes_, request, prior, is_first, secret=SECRET):
+    """Whether who sent a request takes this for a reply: it is signed by the request's key and algorithm, behind a MAC."""
+    asked = last_tsig(request)
+    try:
+        tsig = last_tsig(bytes_)
+        if tsig is None or any(text_of(tsig[it]).lower() != text_of(asked[it]).lower() for it in ("key", "algorithm")):
+            return False
+        return is_right(bytes_, tsig, prior, is_first, secret)
+    except (ValueError, IndexError, struct.error):
+        return False
+
+
+def places_left(bytes_, *rest):
+    """Where a byte of a signed reply may change in its last bit, and the reply be taken all the same."""
+    return [it for it in range(len(bytes_)) if is_taken(bytes_[:it] + bytes([bytes_[it] ^ 1]) + bytes_[it + 1:], *rest)]
+
+
+def is_whole(bytes_, request, prior, is_first, secret=SECRET):
+    """Whether each byte of a signed reply is signed, but for those that RFC 8945 leaves out: the id, in whose place the original id of the record is signed
+    (section 4.3.2), and of a further message of a transfer the error, since its timers alone are signed (section 5.3.1)."""
+    error = len(bytes_) - len(last_tsig(bytes_)["other"]) - 4
+    return places_left(bytes_, request, prior, is_first, secret) == [0, 1] + ([] if is_first else [error, error + 1])
 
 
 def standing(request, replies):
@@ -257,7 +294,8 @@ def standing(request, replies):
         else:
             first = prior is None
             prior = last_tsig(request)["mac"] if first else prior
-            told.add("signed" if is_right(reply, tsig, prior, first) else "a wrong MAC")
+            is_well = is_taken(reply, request, prior, first) and is_whole(reply, request, prior, first)
+            told.add("signed" if is_well else "a wrong MAC, or one that is not of all bytes")
             prior = tsig["mac"]
     return " and ".join(sorted(told))
 
@@ -297,11 +335,31 @@ def verify(path):
     return passed, failed
 
 
+def verify_single():
+    """The replies, and the further messages of transfers, that tests_tsig signed one by one (tests_tsig/replies.out)."""
+    folder, request, passed, failed = os.path.join(os.path.dirname(FOLDER), "tests_tsig"), None, 0, 0
+    with open(f"{folder}/replies.in", encoding="ascii") as given, open(f"{folder}/replies.out", encoding="ascii") as printed:
+        for words, told in zip(map(str.split, given), map(str.split, printed)):
+            if words[0] in ("file", "key") and ":" in words[1]:
+                secret = base64.b64decode(words[1].split(":")[-1])
+            elif words[0] == "judge":
+                request = bytes.fromhex(words[2]) if told[0] in ("good", "BADTIME") else None
+                prior = request and last_tsig(request)["mac"]
+            elif words[0] in ("sign", "next") and request and told[0] == "room":
+                reply = bytes.fromhex(told[2])
+                rest = request, prior, words[0] == "sign", secret
+                is_well = is_taken(reply, *rest) and is_whole(reply, *rest)
+                passed, failed, prior = passed + is_well, failed + (not is_well), last_tsig(reply)["mac"]
+                if not is_well:
+                    print(f"FAILED tests_tsig/replies: {words[0]}: {told[2]}")
+    return passed, failed
+
+
 def main(words):
     if words[:1] == ["write"]:
         write()
         return 0
-    told = [verify(path) for path in words[1:] or sorted(glob.glob(os.path.join(FOLDER, "*.out")))]
+    told = [verify(path) for path in words[1:] or sorted(glob.glob(os.path.join(FOLDER, "*.out")))] + ([] if words[1:] else [verify_single()])
     passed, failed = sum(it[0] for it in told), sum(it[1] for it in told)
     print(f"{passed} passed, {failed} failed")
     return 1 if failed or not passed else 0

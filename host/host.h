@@ -1,44 +1,55 @@
 /* What the parts of the host share. */
-#ifndef HOST_H
-#define HOST_H
+#pragma once
 
 #include "zone_service.h"
 
+#include <err.h>
+#include <errno.h>
+#include <stdio.h>
+#include <stdlib.h>
+#include <string.h>
 #include <sys/socket.h>
+#include <unistd.h>
 
-#define MOST_ADDRESSES 16
-#define MOST_TEXTS 1024
-#define NETWORK_KINDS 4
-
-struct texts {
-    const char *at[MOST_TEXTS];
-    int count;
-};
+#define MOST_SOCKETS 32
+#define MOST_GIVEN 4096
+#define MOST_WORKERS 64
 
 struct settings {
-    struct texts addresses, zones;        /* ADDRESS@PORT; NAME=FILE */
-    struct texts networks[NETWORK_KINDS]; /* of each kind, in this order: allowed, denied, and the same for transfers */
-    const char *blocklist, *identifier, *user, *statistics;
+    struct given {
+        const char *option, *text;
+    } given[MOST_GIVEN]; /* options with a text, in their order */
+    int count;
     int max_udp, workers;               /* bytes of a reply over UDP; processes that serve */
+    int log_every;                      /* one in so many queries is told */
     int rate_limit, rate_slip;          /* replies over UDP a second and network; of those above it each so many says TC */
     int tcp_idle, tcp_most, tcp_client; /* seconds; connections a worker; connections a client and worker */
 };
 
-/* The sockets of a worker: for each address one for datagrams, and behind it one for connections. */
+/* The sockets of a worker, for datagrams and for connections. */
 struct sockets {
-    int fds[2 * MOST_ADDRESSES], count;
+    struct socket {
+        int fd;
+        bool is_stream;
+    } all[MOST_SOCKETS];
+    int count;
 };
 
 extern struct settings settings;
 
-/* load.c: the bytes of a file, or NULL; and the server that the settings ask for, read from their files: 0, or -1 with a line on the standard error. */
-uint8_t *read_file(const char *path, size_t *len);
+/* settings.c: given tells the text of an option, the last where there are several, or NULL. read_arguments has the settings say what arguments do, where sockets
+ * may have been opened and so many workers run: whether the files are only to be read, or -1; forget_arguments has them say what they said before. load makes the
+ * server that they ask for, of their files: 0, or -1. Each -1 comes with a line on the standard error. */
+const char *given(const char *option);
+int read_arguments(char **arguments, bool is_adopted, int running);
+void forget_arguments(void);
 int load(zone_service *service);
 
-/* sockets.c */
+/* sockets.c: adopt takes those that systemd has opened: how many they are, or -1. */
 int open_sockets(struct sockets *sockets);
+int adopt_sockets(struct sockets *sockets);
 
-/* worker.c: serves until SIGTERM, then lets its connections end. statistics is a listener, or less than 0. */
+/* worker.c: serves until SIGTERM, then lets its connections end. statistics is a listener, or less than 0. The file of the log is opened anew. */
 int work(const struct sockets *sockets, int statistics, zone_service *service);
 
 /* statistics.c: begin makes the socket where they are told, add has what a server counted since the last time, tell answers a client. */
@@ -63,6 +74,5 @@ struct source {
 };
 struct source source_of(const struct sockaddr_storage *address);
 
-void complain(const char *format, ...) __attribute__((format(printf, 1, 2)));
-
-#endif
+/* Tells what is wrong in a line on the standard error; -1. */
+#define complain(...) (warnx(__VA_ARGS__), -1)

@@ -1,13 +1,9 @@
 /* What all workers have counted, in memory that they share, so that it outlasts each of them; and the Unix socket where it is told. */
-#define _GNU_SOURCE
 #include "host.h"
 
-#include <errno.h>
-#include <string.h>
 #include <sys/mman.h>
 #include <sys/stat.h>
 #include <sys/un.h>
-#include <unistd.h>
 
 #define COUNTERS (sizeof(struct zone_service_counters) / sizeof(uint64_t))
 
@@ -23,10 +19,8 @@ int statistics_begin(const char *path)
         unlink(at.sun_path);
     totals = mmap(NULL, COUNTERS * sizeof *totals, PROT_READ | PROT_WRITE, MAP_SHARED | MAP_ANONYMOUS, -1, 0);
     if (strcmp(at.sun_path, path) != 0 || totals == MAP_FAILED || bind(listener, (struct sockaddr *)&at, sizeof at) != 0 ||
-        listen(listener, 64) != 0) {
-        complain("%s: cannot be a socket: %s", path, strerror(errno));
-        return -1;
-    }
+        listen(listener, 64) != 0)
+        return complain("%s: cannot be a socket: %s", path, strerror(errno));
     return listener;
 }
 

@@ -1,6 +1,7 @@
 #!/usr/bin/env python3
 """tries.py ZONED: tries what zoned does with sockets, clients and signals, and each rule of a server, on loopback. The last line is
 'N passed, M failed'. PORT is the first of four ports that it uses, and ZONE_SERVE the zone_serve that it is compared with."""
+import hmac
 import os
 import signal
 import socket
@@ -191,9 +192,10 @@ def try_rules():
     want("with --max-udp 600 it has at most 600", len(reply) <= 600 and is_truncated(reply))
     reply = over_tcp(query("large.example.com", 16))
     want("and over TCP it is whole", len(reply) > 4000 and not is_truncated(reply))
-    for kind, name in ((252, "AXFR"), (251, "IXFR")):
-        reply = udp(query("example.com", kind))
-        want(f"{name} over UDP is answered with TC and no answers", is_truncated(reply) and answers(reply) == 0 and code(reply) == 0)
+    reply = udp(query("example.com", 252))
+    want("AXFR over UDP is answered with TC and no answers", is_truncated(reply) and answers(reply) == 0 and code(reply) == 0)
+    reply = udp(query("example.com", 251))
+    want("IXFR over UDP is answered with the SOA alone", not is_truncated(reply) and answers(reply) == 1 and code(reply) == 0)
     reply = over_tcp(query("example.com", 252), "127.0.0.8")
     want("a transfer to an address that may have none is refused", code(reply) == 5 and answers(reply) == 0)
     reply = udp(query("example.com", 252), source="127.0.0.8")
@@ -445,6 +447,170 @@ def try_joined(folder, port):
     want("lines of a list that give no name are told", f"zoned: {names}: 2 lines skipped, which give no name: 1, 3\n" in told)
 
 
+SECRET = bytes(range(32))
+KEYS = "key \"one.example\" { algorithm hmac-sha256; secret \"AAECAwQFBgcICQoLDA0ODxAREhMUFRYXGBkaGxwdHh8=\"; };\n"
+
+
+def wire(name):
+    return b"".join(bytes([len(l)]) + l.encode() for l in name.split(".")) + b"\0"
+
+
+def signed(message, secret=SECRET):
+    """The message with a TSIG record of the key (RFC 8945 section 4.2)."""
+    name, algorithm, now = wire("one.example"), wire("hmac-sha256"), int(time.time()).to_bytes(6, "big") + b"\x01\x2c"
+    mac = hmac.new(secret, message + name + b"\0\xff" + bytes(4) + algorithm + now + bytes(4), "sha256").digest()
+    rdata = algorithm + now + b"\0\x20" + mac + message[:2] + bytes(4)
+    record = name + b"\0\xfa\0\xff" + bytes(4) + len(rdata).to_bytes(2, "big") + rdata
+    return message[:10] + (int.from_bytes(message[10:12], "big") + 1).to_bytes(2, "big") + message[12:] + record
+
+
+def update(name, last):
+    """An update that adds an address to a name of example.com (RFC 2136)."""
+    head = b"\x12\x34\x28\x00\0\x01\0\0\0\x01\0\0" + wire("example.com") + b"\0\x06\0\x01"
+    return head + wire(name) + b"\0\x01\0\x01\0\0\0\x3c\0\x04" + bytes([192, 0, 2, last])
+
+
+def has_signature(message):
+    return message[10:12] == b"\0\x01" and wire("hmac-sha256") in message
+
+
+def try_keys(folder, zone, port):
+    """Keys and updates: who may, who may not, and what is seen of an update."""
+    keys, config = os.path.join(folder, "keys"), os.path.join(folder, "keys.toml")
+    open(keys, "w").write(KEYS)
+    with open(config, "w") as it:
+        it.write(f'listen = "127.0.0.1@{port}"\nkeys = "{keys}"\nallow-transfer-key = "one.example"\n[[zone]]\nname = "example.com"\nfile = "{zone}"\n')
+        it.write('[[zone.update]]\nkey = "one.example"\nrule = "subdomain dyn.example.com"\ntypes = ["A"]\n')
+    host = subprocess.Popen([ZONED, "--config", config], stderr=subprocess.PIPE, text=True)
+    want("a server with keys and rules is ready", wait_for(port))
+
+    def ask(message):
+        with tcp(port) as s:
+            s.sendall(frame(message))
+            return read(s.makefile("rb"))
+
+    reply = udp(update("a.dyn.example.com", 7), port=port)
+    want("an update without a signature is refused", code(reply) == 5 and answers(udp(query("a.dyn.example.com"), port=port)) == 0)
+    reply = udp(signed(update("a.dyn.example.com", 7), bytes(32)), port=port)
+    want("one with another secret too, as NOTAUTH", code(reply) == 9 and answers(udp(query("a.dyn.example.com"), port=port)) == 0)
+    reply = udp(signed(update("www.example.com", 8)), port=port)
+    want("one outside the rule is refused, and its reply is signed", code(reply) == 5 and has_signature(reply))
+    reply = udp(signed(update("a.dyn.example.com", 7)), port=port)
+    want("one that the rule grants is made, and its reply is signed", code(reply) == 0 and has_signature(reply))
+    want("the next query sees it", udp(query("a.dyn.example.com"), port=port)[-4:] == bytes([192, 0, 2, 7]))
+    want("and one over TCP", ask(query("a.dyn.example.com"))[-4:] == bytes([192, 0, 2, 7]))
+    want("what is made over TCP is seen over UDP", code(ask(signed(update("b.dyn.example.com", 9)))) == 0 and udp(query("b.dyn.example.com"), port=port)[-4:] == bytes([192, 0, 2, 9]))
+    want("a signed query has a signed reply", has_signature(udp(signed(query("www.example.com")), port=port)))
+    want("a transfer without a signature is refused", code(ask(query("example.com", 252))) == 5)
+    reply = ask(signed(query("example.com", 252)))
+    want("one that the key signed is given", code(reply) == 0 and answers(reply) >= 6 and has_signature(reply))
+    with tcp(port) as old:
+        old.sendall(frame(query("a.dyn.example.com")))
+        read(old.makefile("rb"))
+        host.send_signal(signal.SIGHUP)
+        want("a reload ends connections to the zone before it", closes(old, 3))
+    want("and forgets updates", wait_for(port) and code(udp(query("a.dyn.example.com"), port=port)) == 3)
+    host.terminate()
+    said = host.communicate(timeout=15)[1]
+    want("that they are forgotten is told, and no secret", "updates are lost" in said and "AAECAw" not in said)
+    zones = ["--zone", f"example.com={zone}", "--keys", keys]
+    want("rules and several workers are refused", told(["--listen", f"127.0.0.1@{port}", *zones, "--allow-update", "example.com=one.example", "--workers", "2"])[0] == 2)
+    faults = {
+        "a rule of no zone": ("example.org=one.example", "is of no zone that is served"),
+        "a rule of no key": ("example.com=two.example", "there is no key of this name"),
+        "a rule without a key": ("example.com", "not NAME=RULE"),
+    }
+    for what, (rule, says) in faults.items():
+        status_is, said = told(["--check", *zones, "--allow-update", rule])
+        want(f"{what} is told", status_is == 1 and says in said)
+    open(keys, "w").write(KEYS.replace("AAECAw", "!!"))
+    status_is, said = told(["--check", *zones])
+    want("a bad file of keys is told, and nothing of its secret", status_is == 1 and "line 1" in said and "BAUG" not in said)
+    with open(config, "a") as it:
+        it.write('tipes = ["AAAA"]\n')
+    lines = open(config).read().count("\n")
+    want("a wrong key of a rule is told with its line", told(["--config", config, "--check"])[1].startswith(f'zoned: {config}: line {lines}: "zone" wants'))
+
+
+def try_activation(zone, port):
+    """That it serves sockets that it is started with, as systemd starts it, in any order."""
+    with socket.create_server(("127.0.0.1", port)) as stream, socket.socket(socket.AF_INET, socket.SOCK_DGRAM) as datagrams:
+        datagrams.bind(("127.0.0.1", port))
+
+        def place():
+            high = os.dup(datagrams.fileno())
+            os.dup2(stream.fileno(), 3)
+            os.dup2(high, 4)
+
+        words = ["sh", "-c", 'LISTEN_PID=$$ LISTEN_FDS=2 exec "$@"', "sh", ZONED, "--zone", f"example.com={zone}", "--workers", "2"]
+        refused = subprocess.run([*words, "--listen", f"127.0.0.1@{port}"], preexec_fn=place, pass_fds=(3, 4), stderr=subprocess.DEVNULL).returncode
+        want("addresses beside the sockets of systemd are refused", refused == 2)
+        host = subprocess.Popen(words, preexec_fn=place, pass_fds=(3, 4))
+    want("it serves sockets that it is started with", wait_for(port))
+    with tcp(port) as s:
+        s.sendall(frame(query("www.example.com")))
+        want("and connections to them", read(s.makefile("rb"))[-4:] == bytes([192, 0, 2, 1]))
+    host.send_signal(signal.SIGHUP)
+    time.sleep(0.7)
+    want("after a reload too", answers(udp(query("www.example.com"), port=port)) == 1)
+    host.terminate()
+    want("and ends", host.wait(15) == 0)
+
+
+def try_log(folder, zone, port):
+    """Lines that tell queries, one in so many; what a client may write into them; and a file that is moved away."""
+    log = os.path.join(folder, "queries")
+    host = start(["--zone", f"example.com={zone}", "--query-log", log], port)
+    want("a server with a log is ready", wait_for(port))
+    time.sleep(0.3)
+    begun = open(log).read().count("\n")
+    reply = udp(query("no.example.com", 28), port=port)
+    with tcp(port) as s, s.makefile("rb") as f:
+        s.sendall(frame(query("www.example.com")))
+        over = read(f)
+    forged = udp(query("x IN A NOERROR 9\n1 192\t\\.example.com", 65280), port=port)
+    time.sleep(0.3)
+    lines = [line.split(" ", 1) for line in open(log).read().splitlines()[begun:]]
+    want("each query has a line", [rest for _, rest in lines[:2]] == [f"127.0.0.1 udp no.example.com. IN AAAA NXDOMAIN {len(reply)}", f"127.0.0.1 tcp www.example.com. IN A NOERROR {len(over)}"])
+    want("with its time", all(abs(int(at) - time.time()) < 10 for at, _ in lines))
+    name = "x\\032IN\\032A\\032NOERROR\\0329\\0101\\032192\\009\\092.example.com."
+    want("no name adds a word or a line", [rest for _, rest in lines[2:]] == [f"127.0.0.1 udp {name} IN TYPE65280 NXDOMAIN {len(forged)}"])
+    with tcp(port) as s, s.makefile("rb") as f:
+        s.sendall(frame(b"\1\2\1" + bytes(9) + b"\x3f\0\n ".ljust(64, b"a") * 1000))
+        s.shutdown(socket.SHUT_WR)
+        read(f)
+    time.sleep(0.3)
+    want("a message without a question has no long line", all(len(line) < 1400 for line in open(log)))
+    want("a log is not for everybody", os.stat(log).st_mode & 0o007 == 0)
+    os.rename(log, log + ".1")
+    host.send_signal(signal.SIGHUP)
+    time.sleep(0.7)
+    udp(query("www.example.com", 16), port=port)
+    time.sleep(0.3)
+    want("SIGHUP begins a log that was moved away", " www.example.com. IN TXT NOERROR " in open(log).read())
+    host.terminate()
+    want("and it ends", host.wait(15) == 0)
+    host = start(["--zone", f"example.com={zone}", "--query-log", log + ".2", "--query-log-every", "10"], port)
+    wait_for(port)
+    time.sleep(0.3)
+    begun = open(log + ".2").read().count("\n")
+    for _ in range(40):
+        udp(query("www.example.com"), port=port)
+    time.sleep(0.3)
+    want("one in ten has a line", open(log + ".2").read().count("\n") - begun == 4)
+    host.terminate()
+    want("and it ends", host.wait(15) == 0)
+    os.mkfifo(folder + "/pipe")
+    for path, why in ((folder + "/none/queries", "No such file"), (folder + "/pipe", "No such device"), ("/dev/full", "lines are lost")):
+        host = start(["--zone", f"example.com={zone}", "--query-log", path], port, stderr=subprocess.PIPE, text=True)
+        is_answered = wait_for(port)
+        time.sleep(0.3)
+        is_answered = is_answered and udp(query("www.example.com"), port=port) is not None
+        host.terminate()
+        said = host.communicate(timeout=15)[1]
+        want(f"a log that cannot be written keeps no query from its answer, and is told once: {why}", is_answered and said.count(why) == 1 and host.returncode == 0)
+
+
 def try_arguments(zone, bad):
     named = subprocess.run([ZONED, "--version"], stdout=subprocess.PIPE, text=True)
     want("--version tells it", named.returncode == 0 and named.stdout.startswith("zoned 0."))
@@ -471,10 +637,14 @@ def try_configuration(folder, zone, port):
 
     write(good)
     want("--check takes a good configuration", told(["--config", path, "--check"])[0] == 0)
+    write(f'[[zone]]\nname = "example.com"\nfile = "{zone}"\n\n[[zone]]\nname = "example.org"\n')
+    want("a zone may be a table, and one without a file is told", told(["--config", path, "--check"]) == (1, "zoned: example.org=: not NAME=FILE\n"))
+    write(good)
     faults = {
         "a name of no option, with its line": ("workers = 1\nworker = 2\n" + good[good.index("[") :], "zoned.toml: line 2: there is no option \"worker\""),
         "a value of no kind, with its line": ("workers = 1\n\nmax-udp = 1.5\n", "zoned.toml: line 3: \"max-udp\" wants"),
         "a name without quotes in a table": ("[zone]\na.example = 'x'\n", "zoned.toml: line 2: \"zone\" wants"),
+        "a name of no option in a zone": (f'[[zone]]\nname = "example.com"\nfile = "{zone}"\nfiles = 1\n', "zoned.toml: line 4: \"zone\" wants"),
         "what is no TOML": ("workers = 1\nlisten = [\n", "line"),
         "a number that is too large": ("workers = 65\n", "65: not a number from 1 to 64"),
         "a byte that no string of C has": ('nsid = "a\\u0000b"\n', "zero byte"),
@@ -540,6 +710,9 @@ def main():
     open(zone, "w").write(SOA_AND_NS + WWW % 1)
     try_joined(folder, PORT + 2)
     try_configuration(folder, zone, PORT + 2)
+    try_keys(folder, zone, PORT + 2)
+    try_activation(zone, PORT + 2)
+    try_log(folder, zone, PORT + 2)
     try_limits(zone, PORT + 2, path)
     try_workers(zone, PORT + 2, path)
     try_privileges(zone, PORT + 2)

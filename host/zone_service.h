@@ -2,8 +2,8 @@
  *
  * What is proved: each call is safe on every input that keeps what stands below, and returns; zone_service_answer makes of a message what
  * the rules of a server and its zones make of it, out begins with its replies, each behind its length, and the numbers are those told
- * below; zone_service_answer_stream does so of each message that it takes; and no call for a message changes the rules. What a caller owes,
- * and nothing checks:
+ * below; zone_service_answer_stream does so of each message that it takes; no call for a message changes the keys and the rules; and an
+ * update that one call answered is in the zones that the next call answers from. What a caller owes, and nothing checks:
  *
  *  - A handle is one that zone_service_create put, and that zone_service_free did not take. It is given to one call at a time, and
  *    stays in the thread or process that it was made in; a forked child of a process without threads may go on with its own copy.
@@ -51,18 +51,26 @@ uint32_t zone_service_create(void **at);
 /* Frees a server, which is then gone. */
 void zone_service_free(zone_service service);
 
-/* Settings, made before the first message, in any order but that a list of blocked names is for the zones that are added behind it.
- * Each answers DONE; or FAULT or MEMORY, and puts a text that tells it into fault, of at most room bytes and with no zero behind it; *length
- * is how many they are. After DONE it is 0, but where lines of a list of blocked names were skipped. After FAULT and MEMORY the server is to be
- * freed: a list of networks may be as before or not, and zone_service_add_zone may have let a zone of that name go.
+/* Settings, made before the first message, in any order but that a list of blocked names is for the zones that are added behind it, and that
+ * the keys stand before what names one. Each answers DONE; or FAULT or MEMORY, and puts a text that tells it into fault, of at most room bytes
+ * and with no zero behind it; *length is how many they are. After DONE it is 0, but where lines of a list of blocked names were skipped. After
+ * FAULT and MEMORY the server is to be freed: a list of networks may be as before or not, and zone_service_add_zone may have let a zone of that
+ * name go. No text tells anything of a file of keys but where it is wrong.
  *
  * zone_service_set_blocklist: the names that the lines of a list give, in any of the spellings that docs/OPERATORS.md tells, at least one; a
  *     second list takes the place of the first. Where lines are skipped, the text after DONE tells how many, and the numbers of the first three.
- * zone_service_add_zone: the zone at a name (with or without a dot at its end), from the bytes of its zone file.
- * zone_service_join_zones: behind the last zone, once: puts each zone beside the one above it, if that is served too, which has its DS records
- *     (RFC 4035 section 3.1.4.1). Without it a query for DS at an apex is answered from the zone of that apex.
+ * zone_service_set_keys: the keys that sign messages (TSIG, RFC 8945), from the bytes of their file, at least one: BIND's key statements, Knot's
+ *     key section, or lines as dig -y takes them. Those of a second file take the place of the first.
+ * zone_service_add_zone: the zone at a name (with or without a dot at its end), from the bytes of its zone file, in any encoding. $INCLUDE is a fault.
+ * zone_service_allow_update: a rule of who may update what in the zone of a name (RFC 2136), one more by each call:
+ *     KEY [zone|subdomain NAME|name NAME|self] [TYPE..]. Without one a zone takes no update.
+ * zone_service_serve_zones: behind the last zone and rule, once: serves the zones that were added, each beside the one above it, if that is
+ *     served too, which has its DS records (RFC 4035 section 3.1.4.1). No zone is served before. FAULT where a rule is of no zone, or where a zone
+ *     that takes updates has one right below it.
  * zone_service_set_allowed, .._denied: a network, as 192.0.2.0/24, whose addresses may use the server, or may not; one more by each call.
  * zone_service_set_transfer_allowed, .._denied: the same for transfers (AXFR, IXFR) by those who may use the server.
+ * zone_service_allow_transfer_key: the name of a key; requests with a good signature by it have transfers from every address that may use the
+ *     server, and all others from allowed networks alone.
  * zone_service_set_max_udp: how many bytes a reply over UDP has at most, from 512 to 65,535; 1,232 where it is not called.
  * zone_service_set_rate_limit: how many replies to datagrams a network of clients (24 bits of IPv4, 56 of IPv6) gets in a second, and of how
  *     many above that one is sent without records and with TC, while the others are kept back (0: all are); all are sent where the rate is 0,
@@ -71,7 +79,11 @@ void zone_service_free(zone_service service);
 uint32_t zone_service_set_blocklist(zone_service *service, const uint8_t *text, size_t len, uint8_t *fault, size_t room, size_t *length);
 uint32_t zone_service_add_zone(zone_service *service, const uint8_t *name, size_t name_len, const uint8_t *text, size_t len,
                                uint8_t *fault, size_t room, size_t *length);
-uint32_t zone_service_join_zones(zone_service *service, uint8_t *fault, size_t room, size_t *length);
+uint32_t zone_service_allow_update(zone_service *service, const uint8_t *name, size_t name_len, const uint8_t *rule, size_t len,
+                                   uint8_t *fault, size_t room, size_t *length);
+uint32_t zone_service_serve_zones(zone_service *service, uint8_t *fault, size_t room, size_t *length);
+uint32_t zone_service_set_keys(zone_service *service, const uint8_t *text, size_t len, uint8_t *fault, size_t room, size_t *length);
+uint32_t zone_service_allow_transfer_key(zone_service *service, const uint8_t *name, size_t len, uint8_t *fault, size_t room, size_t *length);
 uint32_t zone_service_set_allowed(zone_service *service, const uint8_t *network, size_t len, uint8_t *fault, size_t room, size_t *length);
 uint32_t zone_service_set_denied(zone_service *service, const uint8_t *network, size_t len, uint8_t *fault, size_t room, size_t *length);
 uint32_t zone_service_set_transfer_allowed(zone_service *service, const uint8_t *network, size_t len, uint8_t *fault, size_t room,
@@ -84,7 +96,8 @@ uint32_t zone_service_set_identifier(zone_service *service, const uint8_t *text,
 
 /* Reads a configuration file in TOML 1.1, of which a host makes what it likes: puts its settings to the front of out, the name and the value of each with a zero
  * behind both, in the order of their names; *written is how many bytes they are. A text is one value, a whole number that is not negative its digits, an
- * array one value for each item, and a table one, KEY=VALUE, for each member. names are the options that there are, each with a zero behind it. DONE; or FAULT
+ * array one value for each item, and a table one, KEY=VALUE, for each member. An array of tables of the name zone gives zone, NAME=FILE, of each, and
+ * allow-update, NAME=KEY RULE TYPE.., of each table of its update. names are the options that there are, each with a zero behind it. DONE; or FAULT
  * or MEMORY, and a text in fault, as above: with the line where the file is no TOML, has a name of no option, or a value of another kind; or where out has no room. */
 uint32_t zone_service_read_settings(const uint8_t *names, size_t names_len, const uint8_t *text, size_t len, uint8_t *out, size_t room, size_t *written,
                                     uint8_t *fault, size_t fault_room, size_t *length);
@@ -109,6 +122,15 @@ uint32_t zone_service_answer_stream(zone_service *service, const uint8_t *bytes,
 /* Writes more of the replies that wait to the front of out, as zone_service_answer does, and says how many bytes they take: 0 only where
  * none waits, or out has no room for the next. */
 size_t zone_service_take(zone_service *service, uint8_t *out, size_t room, size_t *waiting);
+
+/* zone_service_set_query_log: the next message with replies and then one in so many is told by a line; none where that is 0, or it is not called.
+ * zone_service_take_log: writes lines that wait to the front of out, as many of their bytes as there is room for, and says how many; what is left
+ * comes with the next call. A line is the moment, the address, udp or tcp, the name, class and type of the first question, the code of the first
+ * reply and its bytes, with a blank between, and a line feed; no byte of a name stands in it as it is but letters, digits, -, _ and *. Where
+ * more than 256 KiB wait, no more come, so that ZONE_SERVICE_LOG bytes are room for all; one for which memory is refused does not come. */
+#define ZONE_SERVICE_LOG (264 << 10)
+void zone_service_set_query_log(zone_service *service, uint32_t every);
+size_t zone_service_take_log(zone_service *service, uint8_t *out, size_t room);
 
 /* What a server has done since it was made. Each number stops at 2^64 - 1, so that none ever falls. */
 struct zone_service_counters {

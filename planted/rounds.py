@@ -34,11 +34,10 @@ def unreadable(batch, reads):
 
 
 def answer_of(edit, said):
-    """Returns what a check says of an edit, whose functions no other edit of it changes. None where it says nothing."""
+    """Returns what a check says of an edit, whose functions no other edit of it changes. None where it says nothing, or only that the borrow checker does not
+    cover one of these: it covers none that calls such a one either, so that may come of another edit."""
     for path in sorted(edit.judges & said.refused.keys()):
         return Answer(edit.name, True, f"refused at {path}: {said.refused[path]}")
-    for path in sorted(edit.judges & said.uncovered.keys()):
-        return Answer(edit.name, False, f"REFUSED BY NO GOAL: the borrow checker does not cover {path} with it, which says nothing of a contract")
     return None
 
 
@@ -47,6 +46,8 @@ def answer_alone(edit, said):
     answer = answer_of(edit, said)
     if answer:
         return answer
+    for path in sorted(edit.judges & said.uncovered.keys()):
+        return Answer(edit.name, False, f"REFUSED BY NO GOAL: the borrow checker does not cover {path} with it, which says nothing of a contract")
     if not said.is_judged:
         return Answer(edit.name, False, f"NOT TRIED: {said.first}")
     if said.is_proved:

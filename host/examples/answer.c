@@ -8,7 +8,7 @@
 
 static uint8_t text[1 << 20], message[65535], out[ZONE_SERVICE_FRAME];
 
-static int add_zone(zone_service *service, const char *name, const char *path)
+static int serve_zone(zone_service *service, const char *name, const char *path)
 {
     uint8_t fault[200];
     size_t length;
@@ -16,7 +16,8 @@ static int add_zone(zone_service *service, const char *name, const char *path)
     size_t len = file == NULL ? 0 : fread(text, 1, sizeof text, file);
     if (file != NULL)
         fclose(file);
-    if (zone_service_add_zone(service, (const uint8_t *)name, strlen(name), text, len, fault, sizeof fault, &length) == ZONE_SERVICE_DONE)
+    if (zone_service_add_zone(service, (const uint8_t *)name, strlen(name), text, len, fault, sizeof fault, &length) == ZONE_SERVICE_DONE &&
+        zone_service_serve_zones(service, fault, sizeof fault, &length) == ZONE_SERVICE_DONE)
         return 0;
     fprintf(stderr, "%s: %.*s\n", path, (int)length, (const char *)fault);
     return 1;
@@ -37,7 +38,7 @@ int main(int argc, char **argv)
     zone_service service = {NULL};
     if (argc != 3 || zone_service_create(&service.at) != ZONE_SERVICE_DONE)
         return 2;
-    int status = add_zone(&service, argv[1], argv[2]) || answer(&service);
+    int status = serve_zone(&service, argv[1], argv[2]) || answer(&service);
     zone_service_free(service);
     return status;
 }

@@ -10,6 +10,7 @@ fn main() -> Result<(), Box<dyn std::error::Error>> {
     };
     let mut service = ZoneService::new().ok_or("no memory")?;
     service.add_zone(name, &std::fs::read(file)?)?;
+    service.serve_zones()?;
     let socket = UdpSocket::bind(address)?;
     let (mut message, mut out) = (vec![0; 65_535], vec![0; FRAME]);
     loop {

@@ -19,6 +19,7 @@ fn query(name: &[u8], kind: u16) -> Vec<u8> {
 fn server() -> ZoneService {
     let mut service = ZoneService::new().unwrap();
     service.add_zone("example.com", ZONE).unwrap();
+    service.serve_zones().unwrap();
     service
 }
 
@@ -67,7 +68,8 @@ fn refuses() {
 
 #[test]
 fn settings() {
-    let (mut service, mut out) = (server(), vec![0; FRAME]);
+    let (mut service, mut out) = (ZoneService::new().unwrap(), vec![0; FRAME]);
+    service.add_zone("example.com", ZONE).unwrap();
     assert!(service.add_zone("example.org", b"$INCLUDE x\n").unwrap_err().0.starts_with("line 1"));
     assert!(service.add_zone("example.com", ZONE).is_err());
     assert!(service.allow("192.0.2.0/33").is_err() && service.set_max_udp(511).is_err());
@@ -76,11 +78,53 @@ fn settings() {
     assert_eq!(service.set_blocklist(b"www.example.net\n").unwrap(), "");
     assert_eq!(service.set_blocklist(b"<html>\nwww.example.net\n<p>\n").unwrap(), "2 lines skipped, which give no name: 1, 3");
     service.add_zone("example.net.", ZONE).unwrap();
+    service.serve_zones().unwrap();
     service.answer(&query(b"www.example.net", 1), client(), Transport::Datagram, 1, &mut out).unwrap();
     service.allow_transfer("198.51.100.0/24").unwrap();
     service.deny_transfer("192.0.2.9").unwrap();
     service.answer(&query(b"example.com", 252), client(), Transport::Stream, 1, &mut out).unwrap();
     assert_eq!(out[5] & 15, 5);
+}
+
+#[test]
+fn keys() {
+    let (mut service, mut out) = (ZoneService::new().unwrap(), vec![0; FRAME]);
+    service.add_zone("example.com", ZONE).unwrap();
+    assert_eq!(service.set_keys(b"# none\n").unwrap_err().0, "the file has no key");
+    service.set_keys(b"hmac-sha256:one.example:MTIzNDU2Nzg5MGFiY2RlZjEyMzQ1Njc4OTBhYmNkZWY=\n").unwrap();
+    assert_eq!(service.allow_transfer_key("other.example").unwrap_err().0, "there is no key of this name");
+    service.allow_transfer_key("one.example").unwrap();
+    assert_eq!(service.allow_update("example.com", "two.example zone").unwrap_err().0, "there is no key of this name");
+    service.allow_update("example.com", "one.example subdomain a.example.com A").unwrap();
+    service.serve_zones().unwrap();
+    service.answer(&query(b"example.com", 252), client(), Transport::Stream, 1, &mut out).unwrap();
+    assert_eq!(out[5] & 15, 5);
+    service.answer(&query(b"www.example.com", 1), client(), Transport::Datagram, 1, &mut out).unwrap();
+    assert_eq!(out[5] & 15, 0);
+}
+
+#[test]
+fn rules_are_of_zones() {
+    let mut service = ZoneService::new().unwrap();
+    service.add_zone("example.com", ZONE).unwrap();
+    service.set_keys(b"hmac-sha256:one.example:MTIzNDU2Nzg5MGFiY2RlZjEyMzQ1Njc4OTBhYmNkZWY=\n").unwrap();
+    service.allow_update("example.org", "one.example").unwrap();
+    assert_eq!(service.serve_zones().unwrap_err().0, "rule 1 of who may update is of no zone that is served");
+}
+
+#[test]
+fn tells_queries() {
+    let (mut service, mut out) = (server(), vec![0; FRAME]);
+    service.set_query_log(2);
+    for name in [&b"www.example.com"[..], b"no.example.com", b"a b\n.example.com", b"www.example.com"] {
+        service.answer(&query(name, 28), client(), Transport::Datagram, 1, &mut out).unwrap();
+    }
+    let (first, rest) = (service.take_log(&mut out[..10]), service.take_log(&mut out[10..2000]));
+    let text = String::from_utf8(out[..first + rest].to_vec()).unwrap();
+    let lines: Vec<&str> = text.lines().collect();
+    assert_eq!(first, 10);
+    assert!(lines[0].starts_with("1 192.0.2.9 udp www.example.com. IN AAAA NOERROR ") && lines[1].starts_with("1 192.0.2.9 udp a\\032b\\010.example.com. IN AAAA NXDOMAIN "));
+    assert_eq!((lines.len(), service.take_log(&mut out)), (2, 0));
 }
 
 #[test]

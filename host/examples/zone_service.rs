@@ -24,7 +24,12 @@ unsafe extern "C" {
     fn zone_service_free(service: Raw);
     fn zone_service_set_blocklist(service: *mut Raw, text: *const u8, len: usize, fault: *mut u8, room: usize, length: *mut usize) -> u32;
     fn zone_service_add_zone(service: *mut Raw, name: *const u8, name_len: usize, text: *const u8, len: usize, fault: *mut u8, room: usize, length: *mut usize) -> u32;
-    fn zone_service_join_zones(service: *mut Raw, fault: *mut u8, room: usize, length: *mut usize) -> u32;
+    fn zone_service_allow_update(service: *mut Raw, name: *const u8, name_len: usize, rule: *const u8, len: usize, fault: *mut u8, room: usize, length: *mut usize) -> u32;
+    fn zone_service_serve_zones(service: *mut Raw, fault: *mut u8, room: usize, length: *mut usize) -> u32;
+    fn zone_service_set_keys(service: *mut Raw, text: *const u8, len: usize, fault: *mut u8, room: usize, length: *mut usize) -> u32;
+    fn zone_service_set_query_log(service: *mut Raw, every: u32);
+    fn zone_service_take_log(service: *mut Raw, out: *mut u8, room: usize) -> usize;
+    fn zone_service_allow_transfer_key(service: *mut Raw, name: *const u8, len: usize, fault: *mut u8, room: usize, length: *mut usize) -> u32;
     fn zone_service_set_allowed(service: *mut Raw, network: *const u8, len: usize, fault: *mut u8, room: usize, length: *mut usize) -> u32;
     fn zone_service_set_denied(service: *mut Raw, network: *const u8, len: usize, fault: *mut u8, room: usize, length: *mut usize) -> u32;
     fn zone_service_set_transfer_allowed(service: *mut Raw, network: *const u8, len: usize, fault: *mut u8, room: usize, length: *mut usize) -> u32;
@@ -247,7 +252,7 @@ impl ZoneService {
         Self::told(set, &fault, length)
     }
 
-    /// Serves the zone of this name from the text of its file.
+    /// Adds the zone of this name from the text of its file. It is served by [`serve_zones`](Self::serve_zones).
     #[rustfmt::skip]
     pub fn add_zone(&mut self, name: &str, text: &[u8]) -> Result<(), SettingFault> {
         let (mut fault, mut length) = ([0; 256], 0);
@@ -258,11 +263,32 @@ impl ZoneService {
         Self::told(set, &fault, length)
     }
 
-    /// Puts each zone that was added beside the one above it, if that is served too, which has its DS records (RFC 4035 section 3.1.4.1).
-    pub fn join_zones(&mut self) -> Result<(), SettingFault> {
+    /// Takes the keys of a file (TSIG), in BIND's form, Knot's or dig's.
+    pub fn set_keys(&mut self, text: &[u8]) -> Result<(), SettingFault> {
+        self.set(zone_service_set_keys, text)
+    }
+
+    /// Lets requests that this key signed have transfers from anywhere, and keeps them from all other networks but those that are allowed.
+    pub fn allow_transfer_key(&mut self, name: &str) -> Result<(), SettingFault> {
+        self.set(zone_service_allow_transfer_key, name.as_bytes())
+    }
+
+    /// Lets the zone of this name take the updates that a rule grants: `KEY [zone|subdomain NAME|name NAME|self] [TYPE..]`.
+    #[rustfmt::skip]
+    pub fn allow_update(&mut self, zone: &str, rule: &str) -> Result<(), SettingFault> {
         let (mut fault, mut length) = ([0; 256], 0);
         // SAFETY: the server is ours alone, and the slices are apart.
-        let set = unsafe { zone_service_join_zones(&mut self.0, fault.as_mut_ptr(), fault.len(), &mut length) };
+        let set = unsafe {
+            zone_service_allow_update(&mut self.0, zone.as_ptr(), zone.len(), rule.as_ptr(), rule.len(), fault.as_mut_ptr(), fault.len(), &mut length)
+        };
+        Self::told(set, &fault, length)
+    }
+
+    /// Serves the zones that were added: each beside the one above it, if that is served too, which has its DS records (RFC 4035 section 3.1.4.1).
+    pub fn serve_zones(&mut self) -> Result<(), SettingFault> {
+        let (mut fault, mut length) = ([0; 256], 0);
+        // SAFETY: the server is ours alone, and the slices are apart.
+        let set = unsafe { zone_service_serve_zones(&mut self.0, fault.as_mut_ptr(), fault.len(), &mut length) };
         Self::told(set, &fault, length)
     }
 
@@ -303,6 +329,19 @@ impl ZoneService {
         let len = unsafe { zone_service_take(&mut self.0, out.as_mut_ptr(), out.len(), &mut waiting) };
         Written { len, waiting }
     }
+
+    /// Has the next message with replies and then one in so many told by a line, or none where that is 0.
+    pub fn set_query_log(&mut self, every: u32) {
+        // SAFETY: the server is ours alone.
+        unsafe { zone_service_set_query_log(&mut self.0, every) };
+    }
+
+    /// Writes lines that tell queries, and says how many bytes they are.
+    pub fn take_log(&mut self, out: &mut [u8]) -> usize {
+        // SAFETY: the server and what is written to are ours alone.
+        unsafe { zone_service_take_log(&mut self.0, out.as_mut_ptr(), out.len()) }
+    }
+
     /// What the server has done since it was made.
     pub fn counters(&mut self) -> Counters {
         let mut counters = Counters::default();

@@ -52,7 +52,7 @@ impl Parked {
         alloc: Global,
         name: &LowerName,
         record_type: RecordType,
-    ) -> LookupControlFlow<AuthLookup>
+    ) -> LookupControlFlow<AuthLookup<'_>>
         ensures { IsParked self.now.address name.now record_type result }
     {
         if record_type.value() != RecordType::A.value() {
@@ -63,10 +63,7 @@ impl Parked {
             })));
         }
         match self.records(alloc, name.as_name()) {
-            Ok(answers) => LookupControlFlow::Continue(Ok(AuthLookup::Records {
-                answers,
-                additionals: Items::new(alloc),
-            })),
+            Ok(answers) => LookupControlFlow::Continue(Ok(AuthLookup::owned(answers))),
             Err(AllocError) => LookupControlFlow::Continue(Err(LookupError::Memory)),
         }
     }
@@ -124,7 +121,7 @@ impl ZoneHandler for Parked {
         record_type: RecordType,
         _info: Option<&RequestInfo<'_>>,
         _options: LookupOptions,
-    ) -> LookupControlFlow<AuthLookup> {
+    ) -> LookupControlFlow<AuthLookup<'_>> {
         self.answer(alloc, name, record_type)
     }
 
@@ -133,7 +130,10 @@ impl ZoneHandler for Parked {
         alloc: Global,
         request: &Request,
         _options: LookupOptions,
-    ) -> (LookupControlFlow<AuthLookup>, Option<TSigResponseContext>) {
+    ) -> (
+        LookupControlFlow<AuthLookup<'_>>,
+        Option<TSigResponseContext>,
+    ) {
         match request.request_info() {
             Ok(RequestInfo { query, .. }) => {
                 (self.answer(alloc, query.name(), query.query_type()), None)
@@ -142,15 +142,18 @@ impl ZoneHandler for Parked {
         }
     }
 
-    fn consult(
-        &self,
+    fn consult<'z>(
+        &'z self,
         _alloc: Global,
         _name: &LowerName,
         _record_type: RecordType,
         _info: Option<&RequestInfo<'_>>,
         _options: LookupOptions,
-        last: LookupControlFlow<AuthLookup>,
-    ) -> (LookupControlFlow<AuthLookup>, Option<TSigResponseContext>) {
+        last: LookupControlFlow<AuthLookup<'z>>,
+    ) -> (
+        LookupControlFlow<AuthLookup<'z>>,
+        Option<TSigResponseContext>,
+    ) {
         (last, None)
     }
 
@@ -174,7 +177,7 @@ impl ZoneHandler for Parked {
         _alloc: Global,
         _name: &LowerName,
         _options: LookupOptions,
-    ) -> LookupControlFlow<AuthLookup> {
+    ) -> LookupControlFlow<AuthLookup<'_>> {
         LookupControlFlow::Skip
     }
 
@@ -183,7 +186,7 @@ impl ZoneHandler for Parked {
         _alloc: Global,
         _info: Nsec3QueryInfo<'_>,
         _options: LookupOptions,
-    ) -> LookupControlFlow<AuthLookup> {
+    ) -> LookupControlFlow<AuthLookup<'_>> {
         LookupControlFlow::Skip
     }
 

@@ -71,7 +71,7 @@ impl ZoneHandler for Silent {
         _record_type: RecordType,
         _info: Option<&RequestInfo<'_>>,
         _options: LookupOptions,
-    ) -> LookupControlFlow<AuthLookup> {
+    ) -> LookupControlFlow<AuthLookup<'_>> {
         LookupControlFlow::Skip
     }
 
@@ -80,19 +80,25 @@ impl ZoneHandler for Silent {
         _alloc: Global,
         _request: &Request,
         _options: LookupOptions,
-    ) -> (LookupControlFlow<AuthLookup>, Option<TSigResponseContext>) {
+    ) -> (
+        LookupControlFlow<AuthLookup<'_>>,
+        Option<TSigResponseContext>,
+    ) {
         (LookupControlFlow::Skip, None)
     }
 
-    fn consult(
-        &self,
+    fn consult<'z>(
+        &'z self,
         _alloc: Global,
         _name: &LowerName,
         _record_type: RecordType,
         _info: Option<&RequestInfo<'_>>,
         _options: LookupOptions,
-        last: LookupControlFlow<AuthLookup>,
-    ) -> (LookupControlFlow<AuthLookup>, Option<TSigResponseContext>) {
+        last: LookupControlFlow<AuthLookup<'z>>,
+    ) -> (
+        LookupControlFlow<AuthLookup<'z>>,
+        Option<TSigResponseContext>,
+    ) {
         (last, None)
     }
 
@@ -116,7 +122,7 @@ impl ZoneHandler for Silent {
         _alloc: Global,
         _name: &LowerName,
         _options: LookupOptions,
-    ) -> LookupControlFlow<AuthLookup> {
+    ) -> LookupControlFlow<AuthLookup<'_>> {
         LookupControlFlow::Skip
     }
 
@@ -125,7 +131,7 @@ impl ZoneHandler for Silent {
         _alloc: Global,
         _info: Nsec3QueryInfo<'_>,
         _options: LookupOptions,
-    ) -> LookupControlFlow<AuthLookup> {
+    ) -> LookupControlFlow<AuthLookup<'_>> {
         LookupControlFlow::Skip
     }
 

@@ -1,32 +1,21 @@
 //! The records of zone files, and why a file is not taken.
 
-use std::alloc::Global;
+use crate::places::{Places, places_of};
+use std::alloc::{AllocError, Global};
 use std::rt::Files;
-use std::{fs, io};
+use std::{fs, io, str};
 use thiserror::Error;
 use wire_messages::rr::record::Record;
 use wire_names::rr::domain::name::Name;
 use wire_names::values::items::Items;
-use zone_text::{ZoneFileError, read_zone_bytes};
+use zone_text::{FileOpener, FileRefusal, IncludedError, read_zone_with_files};
 
-/// Why a zone file is not taken.
+/// Why a zone file is not taken, but for what is wrong in it.
 #[derive(Clone, Copy, Debug, PartialEq, Eq, Error)]
 pub enum FileFault {
-    /// There is none of this name.
-    #[error("there is no such file")]
-    Absent,
-    /// The system does not let the program read it.
-    #[error("no permission to read the file")]
-    Forbidden,
-    /// It is a folder.
-    #[error("a folder, and no file")]
-    Folder,
-    /// The system does not say why, or says something else.
-    #[error("the file cannot be read")]
-    Other,
-    /// An entry of it is wrong.
+    /// The system does not give it.
     #[error("{0}")]
-    Entry(ZoneFileError),
+    Refused(FileRefusal),
     /// It has no SOA record at the apex, where its serial is wanted.
     #[error("no SOA record at the apex has a serial")]
     NoSerial,
@@ -45,23 +34,14 @@ impl FileFault {
     }
 }
 
-/// The fault that the system tells.
-fn fault_of(e: &io::Error) -> FileFault {
+/// Why the system does not give a file.
+fn refusal_of(e: &io::Error) -> FileRefusal {
     match e.kind() {
-        io::ErrorKind::NotFound | io::ErrorKind::NotADirectory => FileFault::Absent,
-        io::ErrorKind::PermissionDenied => FileFault::Forbidden,
-        io::ErrorKind::IsADirectory => FileFault::Folder,
-        io::ErrorKind::OutOfMemory => FileFault::Memory,
-        _ => FileFault::Other,
-    }
-}
-
-/// The records that the bytes of a zone file have.
-pub fn records_of(alloc: Global, origin: &Name, bytes: &[u8]) -> Result<Items<Record>, FileFault> {
-    match read_zone_bytes(alloc, bytes, origin) {
-        Ok(records) => Ok(records),
-        Err(ZoneFileError::Memory) => Err(FileFault::Memory),
-        Err(error) => Err(FileFault::Entry(error)),
+        io::ErrorKind::NotFound | io::ErrorKind::NotADirectory => FileRefusal::Absent,
+        io::ErrorKind::PermissionDenied => FileRefusal::Forbidden,
+        io::ErrorKind::IsADirectory => FileRefusal::Folder,
+        io::ErrorKind::OutOfMemory => FileRefusal::Memory,
+        _ => FileRefusal::Other,
     }
 }
 
@@ -69,16 +49,45 @@ pub fn records_of(alloc: Global, origin: &Name, bytes: &[u8]) -> Result<Items<Re
 pub fn read_bytes<R: Files + Alloc<A = Global>>(rt: &R, file: &str) -> Result<Vec<u8>, FileFault> {
     match fs::read(rt, file) {
         Ok(bytes) => Ok(bytes),
-        Err(e) => Err(fault_of(&e)),
+        Err(e) => match refusal_of(&e) {
+            FileRefusal::Memory => Err(FileFault::Memory),
+            refusal => Err(FileFault::Refused(refusal)),
+        },
     }
 }
 
-/// The records of a zone file.
-pub fn read_records<R: Files + Alloc<A = Global>>(
+/// The files of the system, by their paths; those that do not begin with `/` are below the folder that the program runs in.
+#[derive(Drop)]
+pub struct SystemFiles<'a, R> {
+    rt: &'a R,
+}
+
+impl<R: Files + Alloc<A = Global>> FileOpener for SystemFiles<'_, R> {
+    ghost opens = { λ _ _ _. Unit {0} };
+
+    ghost refuses = { λ _ _ _. Unit {0} };
+
+    fn open(&self, _alloc: Global, file: &[u8]) -> Result<Vec<u8>, FileRefusal> {
+        let Ok(path) = str::from_utf8(file) else {
+            return Err(FileRefusal::BadName);
+        };
+        match fs::read(self.rt, path) {
+            Ok(bytes) => Ok(bytes),
+            Err(e) => Err(refusal_of(&e)),
+        }
+    }
+}
+
+/// The records that the bytes of a zone file have, and the files that it includes.
+pub fn records_of<R: Files + Alloc<A = Global>>(
     rt: &R,
     origin: &Name,
-    file: &str,
-) -> Result<Items<Record>, FileFault> {
-    let bytes = read_bytes(rt, file)?;
-    records_of(rt.alloc(), origin, bytes.as_slice())
+    bytes: &[u8],
+) -> Result<Items<Record>, IncludedError> {
+    read_zone_with_files(rt.alloc(), bytes, origin, &SystemFiles { rt })
+}
+
+/// Where the records of these bytes of a zone file stand, and those of the files that it includes.
+pub fn places_in<R: Files + Alloc<A = Global>>(rt: &R, bytes: &[u8]) -> Result<Places, AllocError> {
+    places_of(rt.alloc(), &SystemFiles { rt }, bytes)
 }

@@ -1,6 +1,7 @@
 //! What is found, as lines.
 
-use std::io;
+use crate::places::{Place, Places};
+use std::{io, str};
 use wire_messages::rr::record::Record;
 use wire_names::rr::domain::name::Name;
 use zone_check::{Finding, Severity};
@@ -13,49 +14,82 @@ fn word_of(severity: Severity) -> &'static str {
     }
 }
 
-/// Prints the line of a finding of a record, which is told by its number, from 1 on, its name and its type.
+/// What lines are told of: a zone file, the name of its zone, its records, and where these stand.
+#[derive(Clone, Copy)]
+pub struct Told<'a> {
+    /// The name of the file.
+    pub file: &'a str,
+    /// The name of the apex.
+    pub origin: &'a Name,
+    /// The records.
+    pub records: &'a [Record],
+    /// Where they stand.
+    pub places: &'a Places,
+}
+
+impl Told<'_> {
+    /// The name of the file that a place is in. One that is no text is told by that of the first.
+    fn name_at(&self, place: &Place) -> &str {
+        let Some(number) = place.file.checked_sub(1) else {
+            return self.file;
+        };
+        match self.places.names.get(number) {
+            Some(name) => str::from_utf8(name.as_slice()).unwrap_or(self.file),
+            None => self.file,
+        }
+    }
+
+    /// Where a record stands, if that is known of all.
+    fn place_of(&self, number: usize) -> Option<&Place> {
+        if self.places.records.len() != self.records.len() {
+            return None;
+        }
+        self.places.records.get(number)
+    }
+}
+
+/// Prints the line of a finding of a record, the one of this number, from 0 on, which is told by its place, its name and its type.
 fn tell_of_record<R: Print>(
     rt: &R,
-    file: &str,
+    told: &Told<'_>,
     number: usize,
     record: &Record,
     finding: Finding,
 ) -> io::Result<()> {
     let word = word_of(finding.kind.severity());
+    let name = &record.name;
     let record_type = record.rdata.record_type();
-    println!(rt;
-        "{file}: record {number}, {} {record_type}: {word}: {}",
-        record.name, finding.kind
-    )
+    let kind = finding.kind;
+    match told.place_of(number) {
+        Some(place) => println!(rt;
+            "{}: line {}, column {}: {name} {record_type}: {word}: {kind}",
+            told.name_at(place),
+            place.line,
+            place.column
+        ),
+        None => println!(rt;
+            "{}: record {}: {name} {record_type}: {word}: {kind}",
+            told.file,
+            number.saturating_add(1)
+        ),
+    }
 }
 
 /// Prints the line of a finding.
-fn tell_finding<R: Print>(
-    rt: &R,
-    file: &str,
-    origin: &Name,
-    records: &[Record],
-    finding: Finding,
-) -> io::Result<()> {
-    if let Some(place) = finding.place
-        && let Some(record) = records.get(place)
+fn tell_finding<R: Print>(rt: &R, told: &Told<'_>, finding: Finding) -> io::Result<()> {
+    if let Some(number) = finding.place
+        && let Some(record) = told.records.get(number)
     {
-        return tell_of_record(rt, file, place.saturating_add(1), record, finding);
+        return tell_of_record(rt, told, number, record, finding);
     }
     let word = word_of(finding.kind.severity());
-    println!(rt; "{file}: {origin}: {word}: {}", finding.kind)
+    println!(rt; "{}: {}: {word}: {}", told.file, told.origin, finding.kind)
 }
 
 /// Prints a line for each finding, in their order.
-pub fn tell_findings<R: Print>(
-    rt: &R,
-    file: &str,
-    origin: &Name,
-    records: &[Record],
-    findings: &[Finding],
-) -> io::Result<()> {
+pub fn tell_findings<R: Print>(rt: &R, told: &Told<'_>, findings: &[Finding]) -> io::Result<()> {
     for finding in findings {
-        tell_finding(rt, file, origin, records, *finding)?;
+        tell_finding(rt, told, *finding)?;
     }
     Ok(())
 }

@@ -8,20 +8,21 @@
 mod fault;
 mod files;
 mod lines;
+mod places;
 
 use crate::fault::Fault;
-use crate::files::{FileFault, read_bytes, read_records, records_of};
-use crate::lines::{status_of, tell_findings};
+use crate::files::{FileFault, places_in, read_bytes, records_of};
+use crate::lines::{Told, status_of, tell_findings};
 use clap::error::ErrorKind;
 use clap::{Arg, ArgMatches, Command, Error};
 use std::alloc::{AllocError, Global};
 use std::process::ExitCode;
 use std::rt::{Env, Files};
-use std::{env, io};
+use std::{env, io, str};
 use wire_names::error::NameError;
 use wire_names::rr::domain::name::Name;
 use zone_check::{apex_serial, check};
-use zone_text::zone_file_faults;
+use zone_text::{IncludedError, ZoneFileError, ZoneFileFault, zone_file_faults};
 
 /// The version of this program.
 const VERSION: &str = "0.1.0";
@@ -59,26 +60,47 @@ fn apex_of(alloc: Global, text: &str) -> Result<Name, Fault> {
     }
 }
 
-/// The serial of a zone file, if one is given.
-fn serial_of<R: Files + Alloc<A = Global>>(
-    rt: &R,
-    origin: &Name,
-    file: Option<&str>,
-) -> Result<Option<u32>, FileFault> {
-    let Some(file) = file else {
-        return Ok(None);
-    };
-    let records = read_records(rt, origin, file)?;
-    match apex_serial(origin, records.as_slice()) {
-        Some(serial) => Ok(Some(serial)),
-        None => Err(FileFault::NoSerial),
-    }
-}
-
 /// Tells why a file is not taken on the standard error, and gives the status.
 fn tell_of_file<R: Eprint>(rt: &R, file: &str, fault: FileFault) -> u8 {
     let _ = eprintln!(rt; "check_zone: {file}: {fault}");
     fault.status()
+}
+
+/// Tells what is wrong in a file on the standard error, and gives the status.
+fn tell_of_entry<R: Eprint>(rt: &R, file: &str, error: ZoneFileError) -> u8 {
+    if error == ZoneFileError::Memory {
+        return tell_of_file(rt, file, FileFault::Memory);
+    }
+    let _ = eprintln!(rt; "check_zone: {file}: {error}");
+    5
+}
+
+/// Tells what is wrong in a file, or in one that it includes, on the standard error, and gives the status.
+fn tell_of_included<R: Eprint>(rt: &R, file: &str, fault: &IncludedError) -> u8 {
+    match str::from_utf8(fault.file.as_slice()) {
+        Ok(name) if !name.is_empty() => tell_of_entry(rt, name, fault.error),
+        _ => tell_of_entry(rt, file, fault.error),
+    }
+}
+
+/// The serial of a zone file, or the status behind what is told of it on the standard error.
+fn serial_of<R: Files + Eprint + Alloc<A = Global>>(
+    rt: &R,
+    origin: &Name,
+    file: &str,
+) -> Result<u32, u8> {
+    let bytes = match read_bytes(rt, file) {
+        Ok(bytes) => bytes,
+        Err(fault) => return Err(tell_of_file(rt, file, fault)),
+    };
+    let records = match records_of(rt, origin, bytes.as_slice()) {
+        Ok(records) => records,
+        Err(fault) => return Err(tell_of_included(rt, file, &fault)),
+    };
+    match apex_serial(origin, records.as_slice()) {
+        Some(serial) => Ok(serial),
+        None => Err(tell_of_file(rt, file, FileFault::NoSerial)),
+    }
 }
 
 /// Tells why the program ends on the standard error, and gives the status. That it cannot be told changes nothing.
@@ -87,18 +109,33 @@ fn tell<R: Eprint>(rt: &R, fault: Fault) -> u8 {
     fault.status()
 }
 
-/// Tells the faults of the entries of a zone file on the standard error, up to ten, and gives the status.
+/// Whether a fault is that a file is included.
+fn is_inclusion(error: &ZoneFileError) -> bool {
+    matches!(
+        error,
+        ZoneFileError::At {
+            fault: ZoneFileFault::IncludeNotTaken,
+            ..
+        }
+    )
+}
+
+/// Tells the faults of a zone file on the standard error, up to ten, or of one that includes others the first one, and gives the status.
 fn tell_of_entries<R: Eprint + Alloc<A = Global>>(
     rt: &R,
     origin: &Name,
     file: &str,
     bytes: &[u8],
+    first: &IncludedError,
 ) -> u8 {
     let Ok(faults) = zone_file_faults(rt.alloc(), bytes, origin) else {
         return tell_of_file(rt, file, FileFault::Memory);
     };
+    if faults.is_empty() || faults.iter().any(is_inclusion) {
+        return tell_of_included(rt, file, first);
+    }
     for fault in faults.as_slice() {
-        let _ = tell_of_file(rt, file, FileFault::Entry(*fault));
+        let _ = tell_of_entry(rt, file, *fault);
     }
     5
 }
@@ -114,15 +151,23 @@ fn print_findings<R: Files + Print + Eprint + Alloc<A = Global>>(
         Ok(bytes) => bytes,
         Err(fault) => return tell_of_file(rt, file, fault),
     };
-    let records = match records_of(rt.alloc(), origin, bytes.as_slice()) {
+    let records = match records_of(rt, origin, bytes.as_slice()) {
         Ok(records) => records,
-        Err(FileFault::Entry(_)) => return tell_of_entries(rt, origin, file, bytes.as_slice()),
-        Err(fault) => return tell_of_file(rt, file, fault),
+        Err(fault) => return tell_of_entries(rt, origin, file, bytes.as_slice(), &fault),
     };
     let Ok(findings) = check(rt.alloc(), origin, records.as_slice(), previous) else {
         return tell(rt, Fault::Memory);
     };
-    match tell_findings(rt, file, origin, records.as_slice(), findings.as_slice()) {
+    let Ok(places) = places_in(rt, bytes.as_slice()) else {
+        return tell(rt, Fault::Memory);
+    };
+    let told = Told {
+        file,
+        origin,
+        records: records.as_slice(),
+        places: &places,
+    };
+    match tell_findings(rt, &told, findings.as_slice()) {
         Ok(()) => status_of(findings.as_slice()),
         Err(_) => tell(rt, Fault::Write),
     }
@@ -140,10 +185,12 @@ fn run_matches<R: Files + Print + Eprint + Alloc<A = Global>>(
         Ok(origin) => origin,
         Err(fault) => return tell(rt, fault),
     };
-    let previous = matches.get_str("previous");
+    let Some(previous) = matches.get_str("previous") else {
+        return print_findings(rt, &origin, file, None);
+    };
     match serial_of(rt, &origin, previous) {
-        Ok(serial) => print_findings(rt, &origin, file, serial),
-        Err(fault) => tell_of_file(rt, previous.unwrap_or(file), fault),
+        Ok(serial) => print_findings(rt, &origin, file, Some(serial)),
+        Err(status) => status,
     }
 }
 

@@ -1,5 +1,5 @@
 -- What a crash leaves while a journal is compacted.
-use Rattle.std.proofs.Common.{◌≡◌, ◌⊎◌, inl, inr, ◌<◌, ◌≤◌, ◌∙◌, ℕ, List, [], ◌∷◌, ◌++◌, Bool, true, false, cond, IsTrue, Result, Ok, Err, ap, refl, subst, sym}
+use Rattle.std.proofs.Common.{◌≡◌, ◌⊎◌, inl, inr, ◌+◌, ◌<◌, ◌≤◌, ◌^◌, ◌∙◌, ℕ, List, [], ◌∷◌, ◌++◌, Bool, true, false, cond, IsTrue, Result, Ok, Err, ap, refl, subst, sym}
 use Rattle.std.proofs.lemmas.Bool.{cases_lt}
 use Rattle.std.proofs.lemmas.List.{append-nil}
 use Rattle.hickory_base.specs.requests.Requests.{ReceivedRequest}
@@ -44,7 +44,7 @@ module _ (identity : Identity) (same_type : OfOneType) {D : Type 0} (disks : Dis
 module _ {D : Type 0} (disks : DiskGhosts D) where
   module _ (zone : MemoryZone) (generation : ℕ) (written entries : List (List ℕ)) (old spare replaced new : JournalState D) (whole : entries ≡ written ++ [] ∷ []) (is : IsSnapshot written zone)
       (open_before : spare.is_open ≡ true) (clean : disks.is_clean replaced.disk ≡ disks.is_clean spare.disk)
-      (crash : (before : List (List ℕ)) → IsSettled disks.seen disks.may_leave spare before → (c : List ℕ) → disks.may_leave replaced.disk c → IsBeingReplaced before (header generation ∷ entries) c) where
+      (crash : (before : List (List ℕ)) → IsSettled disks.seen disks.may_leave spare before → (c : List ℕ) → disks.may_leave replaced.disk c → IsBeingReplaced before (header generation ∷ entries) c) (takes : old.is_open ≡ true) (small : generation + 1 < 2 ^ 64) where
     replacing : Replaces disks zone generation written spare replaced
     replacing = record {
       is_snapshot = is;
@@ -56,16 +56,16 @@ module _ {D : Type 0} (disks : DiskGhosts D) where
     pub is_done : (new_spare : JournalState D) → new ≡ replaced → new_spare ≡ old → replaced.is_open ≡ true
         → ((before : List (List ℕ)) → IsSettled disks.seen disks.may_leave spare before → IsSettled disks.seen disks.may_leave replaced (header generation ∷ entries))
         → Compacts disks zone generation (record { journal = old; spare = spare }) (Ok tt) (record { journal = new; spare = new_spare })
-    is_done new_spare same other takes settled =
-        done written (subst (λ (j : JournalState D). Replaces disks zone generation written spare j) (sym same) replacing) other (ap (λ (j : JournalState D). j.is_open) same ∙ takes)
+    is_done new_spare same other takes_more settled =
+        done written (record { takes = takes; small = small }) (subst (λ (j : JournalState D). Replaces disks zone generation written spare j) (sym same) replacing) other (ap (λ (j : JournalState D). j.is_open) same ∙ takes_more)
         (λ before s. subst (λ (j : JournalState D). IsSettled disks.seen disks.may_leave j (fresh generation written)) (sym same)
         (subst (λ (l : List (List ℕ)). IsSettled disks.seen disks.may_leave replaced (header generation ∷ l)) whole (settled before s)))
 
     pub is_failed : (e : CompactError) → (replaced.is_open ≡ false) ⊎ ((before : List (List ℕ)) → IsSettled disks.seen disks.may_leave spare before → IsSettled disks.seen disks.may_leave replaced before ⊎ IsSettled disks.seen disks.may_leave replaced [])
         → ((replaced.is_open ≡ true) × (new ≡ old)) ⊎ ((replaced.is_open ≡ false) × (new ≡ record old { is_open = false }))
         → Compacts disks zone generation (record { journal = old; spare = spare }) (Err e) (record { journal = new; spare = replaced })
-    is_failed e kept (inr shut) = failed written replacing (inl (shut.1, shut.0))
-    is_failed e (inr kept) (inl same) = failed written replacing (inr (same.1, kept))
+    is_failed e kept (inr shut) = failed written (record { takes = takes; small = small }) replacing (inl (shut.1, shut.0))
+    is_failed e (inr kept) (inl same) = failed written (record { takes = takes; small = small }) replacing (inr (same.1, kept))
     is_failed e (inl shut) (inl same) = absurd (let no : false ≡ true = sym shut ∙ same.0 in cc)
 
   -- ---- a journal and its spare file
@@ -111,7 +111,7 @@ module _ {D : Type 0} (disks : DiskGhosts D) where
   pub still_durable : (zone : MemoryZone) (generation : ℕ) (old : Files D) (result : Result (Unit {0}) CompactError) (new : Files D) → Compacts disks zone generation old result new
       → IsDurable disks zone old.journal → IsSpare disks old.spare → IsDurable disks zone new.journal × IsSpare disks new.spare
   still_durable zone generation old result new undone durable spare = (durable, spare)
-  still_durable zone generation old result new (done written replaces other takes settled) durable spare = (
+  still_durable zone generation old result new (done written may replaces other takes settled) durable spare = (
     durable_at_start zone zone (fresh generation written) new.journal (recalls_itself generation written zone replaces.is_snapshot) takes
         (λ clean. by (spare (subst IsTrue replaces.clean clean))),
     subst (IsSpare disks) (sym other) (spare_of zone old.journal durable),
@@ -120,11 +120,11 @@ module _ {D : Type 0} (disks : DiskGhosts D) where
       by : (old.spare.is_open ≡ false) ⊎ ((entries : List (List ℕ)) × IsSettled disks.seen disks.may_leave old.spare entries) → IsSettled disks.seen disks.may_leave new.journal (fresh generation written)
       by (inl shut) = absurd (let no : false ≡ true = sym shut ∙ replaces.was_open in cc)
       by (inr s) = settled s.0 s.1
-  still_durable zone generation old result new (failed written replaces (inl shut)) durable spare = (
+  still_durable zone generation old result new (failed written may replaces (inl shut)) durable spare = (
     subst (IsDurable disks zone) (sym shut.0) (shut_durable zone old.journal durable),
     λ clean. inl shut.1,
   )
-  still_durable zone generation old result new (failed written replaces (inr same)) durable spare = (
+  still_durable zone generation old result new (failed written may replaces (inr same)) durable spare = (
     subst (IsDurable disks zone) (sym same.0) durable,
     λ clean. by (spare (subst IsTrue replaces.clean clean)),
   )

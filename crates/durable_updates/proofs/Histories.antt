@@ -23,7 +23,7 @@ use Rattle.durable_updates.specs.Runs.{AreRead, AtMostInDoubt, IsKept, IsLife, L
 use Rattle.durable_updates.proofs.Accepted.{accepted_few, accepted_read, each_redone}
 use Rattle.durable_updates.proofs.Entries.{more}
 
-bytes_more : (entries : List (List ℕ)) (first others : List ReceivedRequest) → entries ++ bytes_of (first ++ others) ≡ (entries ++ bytes_of first) ++ bytes_of others
+pub bytes_more : (entries : List (List ℕ)) (first others : List ReceivedRequest) → entries ++ bytes_of (first ++ others) ≡ (entries ++ bytes_of first) ++ bytes_of others
 bytes_more entries first others = ap (λ (l : List (List ℕ)). entries ++ l) (each first) ∙ sym (append_assoc entries (bytes_of first) (bytes_of others))
   where
     each : (first : List ReceivedRequest) → bytes_of (first ++ others) ≡ bytes_of first ++ bytes_of others
@@ -38,16 +38,16 @@ back_read : (first others : List ReceivedRequest) → AreRead (first ++ others) 
 back_read [] others read = read
 back_read (q ∷ first) others read = back_read first others read.1
 
-both_read : (first others : List ReceivedRequest) → AreRead first → AreRead others → AreRead (first ++ others)
+pub both_read : (first others : List ReceivedRequest) → AreRead first → AreRead others → AreRead (first ++ others)
 both_read [] others read next = next
 both_read (q ∷ first) others read next = (read.0, both_read first others read.1 next)
 
-read_after : {T : Type 0} (life : Life) (requests : List ReceivedRequest) (written : Result T UpdateFault) (is_open : Bool) → AreRead life.acknowledged → AreRead requests → AreRead (after_answer life requests written is_open).acknowledged
+pub read_after : {T : Type 0} (life : Life) (requests : List ReceivedRequest) (written : Result T UpdateFault) (is_open : Bool) → AreRead life.acknowledged → AreRead requests → AreRead (after_answer life requests written is_open).acknowledged
 read_after life requests (Ok told) is_open read next = both_read life.acknowledged requests read next
 read_after life requests (Err fault) true read next = read
 read_after life requests (Err fault) false read next = read
 
-true_not_false : {P : Type 0} (b : Bool) → b ≡ true → b ≡ false → P
+pub true_not_false : {P : Type 0} (b : Bool) → b ≡ true → b ≡ false → P
 true_not_false true p q = absurd (cc)
 true_not_false false p q = absurd (cc)
 
@@ -57,11 +57,11 @@ still_doubted [] requests entries c (inl stands) = inl stands
 still_doubted [] requests entries c (inr stands) = inl (subst (StandsFor c) (append-nil entries) stands)
 still_doubted (first ∷ others) requests entries c left = left
 
-few_doubted : (most : ℕ) (doubt requests : List ReceivedRequest) → length doubt ≤ most → length requests ≤ most → length (doubted doubt requests) ≤ most
+pub few_doubted : (most : ℕ) (doubt requests : List ReceivedRequest) → length doubt ≤ most → length requests ≤ most → length (doubted doubt requests) ≤ most
 few_doubted most [] requests few next = next
 few_doubted most (first ∷ others) requests few next = few
 
-few_after : {T : Type 0} (most : ℕ) (life : Life) (requests : List ReceivedRequest) (written : Result T UpdateFault) (is_open : Bool) → length life.in_doubt ≤ most → length requests ≤ most → length (after_answer life requests written is_open).in_doubt ≤ most
+pub few_after : {T : Type 0} (most : ℕ) (life : Life) (requests : List ReceivedRequest) (written : Result T UpdateFault) (is_open : Bool) → length life.in_doubt ≤ most → length requests ≤ most → length (after_answer life requests written is_open).in_doubt ≤ most
 few_after most life requests (Ok told) is_open few next = few
 few_after most life requests (Err fault) true few next = few
 few_after most life requests (Err fault) false few next = few_doubted most life.in_doubt requests few next
@@ -71,12 +71,12 @@ module _ {V D : Type 0} (by : Ghosts V) (disks : DiskGhosts D) where
   InStep base before life server = IsRecorded disks base before life server.zone.zone server.journal
 
   -- a call wrote these requests and made them, or did not
-  record Took {T : Type 0} (requests : List ReceivedRequest) (written : Result T UpdateFault) (old new : Server V D) : Type 0 where
-    made : OnOk written (AreRead requests → Redone (bytes_of requests) old.zone.zone new.zone.zone)
-    kept : OnErr written (new.zone ≡ old.zone)
-    journals : JournalsAll disks.seen disks.may_leave written (bytes_of requests) old.journal new.journal
+  pub record Took {T : Type 0} (requests : List ReceivedRequest) (written : Result T UpdateFault) (old new : Server V D) : Type 0 where
+    pub made : OnOk written (AreRead requests → Redone (bytes_of requests) old.zone.zone new.zone.zone)
+    pub kept : OnErr written (new.zone ≡ old.zone)
+    pub journals : JournalsAll disks.seen disks.may_leave written (bytes_of requests) old.journal new.journal
 
-  took_one : (r : ReceivedRequest) (now : ℕ) (answer : Result Bool UpdateFault) (context : Option TSigResponseContext) (old new : Server V D) → ServesOne by disks r now answer context old new → Took (r ∷ []) answer old new
+  pub took_one : (r : ReceivedRequest) (now : ℕ) (answer : Result Bool UpdateFault) (context : Option TSigResponseContext) (old new : Server V D) → ServesOne by disks r now answer context old new → Took (r ∷ []) answer old new
   took_one r now (Ok changed) context old new one = record {
     made = λ read. (new.zone.zone, record { message = message_of r.message; reads = read.0; made = one.made }, refl);
     kept = tt;
@@ -88,7 +88,7 @@ module _ {V D : Type 0} (by : Ghosts V) (disks : DiskGhosts D) where
     journals = record { acknowledged = tt; opened = tt; refused = one.journals.refused; crash = one.journals.crash };
   }
 
-  took_all : (requests : List (ReceivedRequest × ℕ)) (told : List Told) (old new : Server V D) (all : ServesAll by disks requests told old new) → Took (accepted requests all.answers.judged) all.answers.written old new
+  pub took_all : (requests : List (ReceivedRequest × ℕ)) (told : List Told) (old new : Server V D) (all : ServesAll by disks requests told old new) → Took (accepted requests all.answers.judged) all.answers.written old new
   took_all requests told old new all = from all.answers.written all.answers.ends all.journals
     where
       from : (written : Result (Unit {0}) UpdateFault) → EndsAs written all.answers.judged told old.zone all.answers.ahead new.zone
@@ -190,7 +190,7 @@ module _ {V D : Type 0} (by : Ghosts V) (disks : DiskGhosts D) where
         from (inr f) = f.leaves c left
 
     -- a journal that takes no entry is left alone
-    stays : {T : Type 0} (written : Result T UpdateFault) (requests : List ReceivedRequest) (old new : Server V D) → old.journal.is_open ≡ false → Took requests written old new → new.journal ≡ old.journal
+    pub stays : {T : Type 0} (written : Result T UpdateFault) (requests : List ReceivedRequest) (old new : Server V D) → old.journal.is_open ≡ false → Took requests written old new → new.journal ≡ old.journal
     stays (Ok told) requests old new shut took = from took.journals.opened
       where
         from : ((bytes_of requests ≡ []) × (new.journal ≡ old.journal)) ⊎ ((old.journal.is_open ≡ true) × (new.journal.is_open ≡ true)) → new.journal ≡ old.journal

@@ -7,3 +7,5 @@ pub mod Histories
 pub mod Sameness
 pub mod Recalled
 pub mod Compactions
+pub mod Made
+pub mod CompactedRuns

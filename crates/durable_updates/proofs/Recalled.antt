@@ -198,19 +198,19 @@ one_split (e ∷ first) (f ∷ other) requests others (r ∷ records) (s ∷ sai
 
 -- ---- what is recalled
 
-heads : {e f : List ℕ} {es fs : List (List ℕ)} → ◌≡◌ {A = List (List ℕ)} (e ∷ es) (f ∷ fs) → e ≡ f
+pub heads : {e f : List ℕ} {es fs : List (List ℕ)} → ◌≡◌ {A = List (List ℕ)} (e ∷ es) (f ∷ fs) → e ≡ f
 heads is = cc
 
-tails : {e f : List ℕ} {es fs : List (List ℕ)} → ◌≡◌ {A = List (List ℕ)} (e ∷ es) (f ∷ fs) → es ≡ fs
+pub tails : {e f : List ℕ} {es fs : List (List ℕ)} → ◌≡◌ {A = List (List ℕ)} (e ∷ es) (f ∷ fs) → es ≡ fs
 tails is = cc
 
 -- a file that was compacted is done again in no other way
-not_both : {P : Type 0} (entries : List (List ℕ)) (first a base : MemoryZone) (requests : List (List ℕ)) → Redone entries first a → IsPut entries first base requests → P
+pub not_both : {P : Type 0} (entries : List (List ℕ)) (first a base : MemoryZone) (requests : List (List ℕ)) → Redone entries first a → IsPut entries first base requests → P
 not_both [] first a base requests p q = let none : [] ≡ compacted q.head q.snapshot requests = q.split in absurd (cc)
 not_both (e ∷ entries) first a base requests p q = absurd (not_read e p.1.message p.1.reads (ap length (heads q.split) ∙ q.is_head))
 
 -- what is done to the first zone itself
-plain : (entries : List (List ℕ)) (first new base : MemoryZone) (requests : List (List ℕ)) → (requests ≡ entries) × (base ≡ first) → Redone requests base new → Redone entries first new
+pub plain : (entries : List (List ℕ)) (first new base : MemoryZone) (requests : List (List ℕ)) → (requests ≡ entries) × (base ≡ first) → Redone requests base new → Redone entries first new
 plain entries first new base requests same done = subst (λ (l : List (List ℕ)). Redone l first new) same.0 (subst (λ (z : MemoryZone). Redone requests z new) same.1 done)
 
 pub not_of_fresh : {P : Type 0} (head : List ℕ) (rest : List (List ℕ)) (first new : MemoryZone) → length head ≡ 8 → Redone (head ∷ rest) first new → P

@@ -163,7 +163,7 @@ module _ (identity : Identity) (same_type : OfOneType) where
   -- ---- an update section
 
   -- two outcomes that leave one zone
-  abbrev SameOutcome : Outcome → Outcome → Type 0
+  abbrev pub SameOutcome : Outcome → Outcome → Type 0
   SameOutcome (Ok a) (Ok b) = SameZone a.0 b.0
   SameOutcome (Err c) (Err d) = Unit {0}
   SameOutcome a b = ⊥
@@ -184,7 +184,7 @@ module _ (identity : Identity) (same_type : OfOneType) where
   change_outcome o rs z w true false e h same = absurd (cc)
   change_outcome o rs z w false true e h same = absurd (cc)
 
-  applied_same : (o : DomainName) (rs z w : Records) → HasOneSoa o z → SameZone z w → SameOutcome (applied o 1 z rs true) (applied o 1 w rs true)
+  pub applied_same : (o : DomainName) (rs z w : Records) → HasOneSoa o z → SameZone z w → SameOutcome (applied o 1 z rs true) (applied o 1 w rs true)
   applied_same o rs z w h same = change_outcome o rs z w (any_change o 1 z rs) (any_change o 1 w rs) (any_change_same o 1 rs z w same) h same
 
   -- the outcome has one SOA, if it is no refusal

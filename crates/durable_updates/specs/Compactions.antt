@@ -1,5 +1,5 @@
 -- What becomes of two files while the one is compacted into the other.
-use Rattle.std.specs.Prelude.{◌≡◌, ◌⊎◌, ◌<◌, ◌≤◌, ◌^◌, ℕ, true, false, List, [], Result, Ok, Err}
+use Rattle.std.specs.Prelude.{◌≡◌, ◌⊎◌, ◌+◌, ◌<◌, ◌≤◌, ◌^◌, ℕ, true, false, List, [], Result, Ok, Err}
 use Rattle.hickory_base.specs.zone_store.ZoneAnswers.{MemoryZone}
 use Rattle.hickory_base.specs.zone_store.ZoneSets.{zone_records}
 use Rattle.hickory_store.specs.Identity.{SameZone}
@@ -28,13 +28,18 @@ module _ {D : Type 0} (disks : DiskGhosts D) where
     pub clean : disks.is_clean new.disk ≡ disks.is_clean old.disk
     pub crash : (before : List (List ℕ)) → IsSettled disks.seen disks.may_leave old before → (c : List ℕ) → disks.may_leave new.disk c → IsBeingReplaced before (fresh generation snapshot) c
 
+  -- Only a journal that takes entries is compacted, and not into the last generation, 2^64 - 1.
+  pub record MayCompact (generation : ℕ) (old : Files D) : Type 0 where
+    pub takes : old.journal.is_open ≡ true
+    pub small : generation + 1 < 2 ^ 64
+
   -- What a compaction answers and leaves: nothing was done; or the spare file has the snapshot, and is the journal's from now on; or it was not replaced
   -- to the end. Then it is not known for what it stands, and the journal takes no entry any more; or it has its entries from before, or none.
   pub data Compacts (zone : MemoryZone) (generation : ℕ) (old : Files D) : Result (Unit {0}) CompactError → Files D → Type 0 where
     undone : {e : CompactError} → Compacts zone generation old (Err e) old
-    done : {t : Unit {0}} {new : Files D} (snapshot : List (List ℕ)) → Replaces zone generation snapshot old.spare new.journal → new.spare ≡ old.journal → new.journal.is_open ≡ true
+    done : {t : Unit {0}} {new : Files D} (snapshot : List (List ℕ)) → MayCompact generation old → Replaces zone generation snapshot old.spare new.journal → new.spare ≡ old.journal → new.journal.is_open ≡ true
         → ((before : List (List ℕ)) → IsSettled disks.seen disks.may_leave old.spare before → IsSettled disks.seen disks.may_leave new.journal (fresh generation snapshot)) → Compacts zone generation old (Ok t) new
-    failed : {e : CompactError} {new : Files D} (snapshot : List (List ℕ)) → Replaces zone generation snapshot old.spare new.spare
+    failed : {e : CompactError} {new : Files D} (snapshot : List (List ℕ)) → MayCompact generation old → Replaces zone generation snapshot old.spare new.spare
         → ((new.journal ≡ record old.journal { is_open = false }) × (new.spare.is_open ≡ false))
         ⊎ ((new.journal ≡ old.journal) × ((before : List (List ℕ)) → IsSettled disks.seen disks.may_leave old.spare before → IsSettled disks.seen disks.may_leave new.spare before ⊎ IsSettled disks.seen disks.may_leave new.spare []))
         → Compacts zone generation old (Err e) new

@@ -1,5 +1,6 @@
 pub mod Batches
 pub mod Commits
+pub mod CompactedRuns
 pub mod Compactions
 pub mod DurableUpdates
 pub mod Journalling

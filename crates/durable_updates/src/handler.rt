@@ -25,10 +25,10 @@ use hickory_base::errors::{LookupError, UpdateFault};
 use hickory_base::server::{Request, RequestInfo};
 use hickory_base::zone_store::{
     AuthLookup, AxfrPolicy, LookupControlFlow, LookupOptions, Nsec3QueryInfo, NxProofKind,
-    StoredAnswer, ZoneHandler, ZoneTransfer, ZoneType,
+    ZoneHandler, ZoneTransfer, ZoneType,
 };
 use hickory_store::sqlite::{SqliteZoneHandler, Verifier};
-use hickory_wire::{LowerName, Record, RecordType, TSigResponseContext};
+use hickory_wire::{LowerName, RecordType, TSigResponseContext};
 use sqlite_disk::Disk;
 use std::alloc::{AllocError, Global};
 use std::marker::Model;
@@ -304,7 +304,7 @@ impl<V: Verifier, D: Disk + Drop> ZoneHandler for JournalledZone<V, D> {
         record_type: RecordType,
         info: Option<&RequestInfo<'_>>,
         options: LookupOptions,
-    ) -> LookupControlFlow<AuthLookup> {
+    ) -> LookupControlFlow<AuthLookup<'_>> {
         self.zone.lookup(alloc, name, record_type, info, options)
     }
 
@@ -313,27 +313,25 @@ impl<V: Verifier, D: Disk + Drop> ZoneHandler for JournalledZone<V, D> {
         alloc: Global,
         request: &Request,
         options: LookupOptions,
-    ) -> (LookupControlFlow<AuthLookup>, Option<TSigResponseContext>) {
+    ) -> (
+        LookupControlFlow<AuthLookup<'_>>,
+        Option<TSigResponseContext>,
+    ) {
         self.zone.search(alloc, request, options)
     }
 
-    fn stored_answer(&self, request: &Request, options: LookupOptions) -> Option<StoredAnswer<'_>> {
-        self.zone.stored_answer(request, options)
-    }
-
-    fn stored_soa(&self, options: LookupOptions) -> Option<&[Record]> {
-        self.zone.stored_soa(options)
-    }
-
-    fn consult(
-        &self,
+    fn consult<'z>(
+        &'z self,
         alloc: Global,
         name: &LowerName,
         record_type: RecordType,
         info: Option<&RequestInfo<'_>>,
         options: LookupOptions,
-        last: LookupControlFlow<AuthLookup>,
-    ) -> (LookupControlFlow<AuthLookup>, Option<TSigResponseContext>) {
+        last: LookupControlFlow<AuthLookup<'z>>,
+    ) -> (
+        LookupControlFlow<AuthLookup<'z>>,
+        Option<TSigResponseContext>,
+    ) {
         self.zone
             .consult(alloc, name, record_type, info, options, last)
     }
@@ -358,7 +356,7 @@ impl<V: Verifier, D: Disk + Drop> ZoneHandler for JournalledZone<V, D> {
         alloc: Global,
         name: &LowerName,
         options: LookupOptions,
-    ) -> LookupControlFlow<AuthLookup> {
+    ) -> LookupControlFlow<AuthLookup<'_>> {
         self.zone.nsec_records(alloc, name, options)
     }
 
@@ -367,7 +365,7 @@ impl<V: Verifier, D: Disk + Drop> ZoneHandler for JournalledZone<V, D> {
         alloc: Global,
         info: Nsec3QueryInfo<'_>,
         options: LookupOptions,
-    ) -> LookupControlFlow<AuthLookup> {
+    ) -> LookupControlFlow<AuthLookup<'_>> {
         let info = Nsec3QueryInfo {
             qtype: info.qtype,
             ..info

@@ -5,6 +5,7 @@ ghost use Rattle.hickory_base.specs.zone_store.ZoneAnswers.{MemoryZone};
 ghost use Rattle.hickory_base.specs.zone_store.ZoneSets.{zone_records};
 ghost use Rattle.hickory_store.specs.Identity.{SameZone};
 ghost use Rattle.hickory_store.specs.UpdateLaws.{HasOneSoa, HoldsIn};
+ghost use Rattle.durable_updates.specs.CompactedRuns.{CompactedRunsAreKept};
 ghost use Rattle.durable_updates.specs.Compactions.{CompactionIsKept, fresh};
 ghost use Rattle.durable_updates.specs.Redone.{Redone, RedoesOne};
 ghost use Rattle.durable_updates.specs.Runs.{RunsAreKept};
@@ -57,3 +58,13 @@ pub fn compaction_is_kept<D: Disk>()
 pub fn runs_are_kept<V: Verifier, D: Disk>()
     ensures { RunsAreKept V.Verifier D.Disk }
 {}
+
+/// The same of a journal in two files by turns that is compacted now and then, with crashes at any moment of a compaction too: at each start the server has
+/// the zone that the acknowledged updates of all lives make of the first zone, in their order, and behind those of each life at most what was in doubt, whole
+/// or not at all, up to the order of its records.
+pub fn compacted_runs_are_kept<V: Verifier, D: Disk>()
+    ensures { CompactedRunsAreKept V.Verifier D.Disk }
+{
+    identities();
+    record_comparisons();
+}

@@ -1,2 +1,3 @@
 pub mod DynamicZones
 pub mod OwnerLaws
+pub mod Overviews

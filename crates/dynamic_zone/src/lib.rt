@@ -1,114 +1,62 @@
 //! A zone that takes dynamic updates (RFC 2136) and answers standard queries as an authoritative server does (RFC 1034 section 4.3.2).
 #![tactic(auto)]
 
-ghost use Rattle.std.specs.Prelude.{◌≡◌, ◌≢◌, ◌↔◌, ◌⊎◌, All, Err, IsTrue, None, Ok, false, true};
-ghost use Rattle.hickory_base.specs.zone_store.ZoneSets.{AreSetsInOrder, IsZone};
-ghost use Rattle.hickory_base.specs.declared.errors.LookupError.TheVariants.{Memory};
+ghost use Rattle.std.specs.Prelude.{◌≡◌, ◌≢◌, None, Ok, false, true};
 ghost use Rattle.hickory_base.specs.declared.zone_store.lookup.LookupControlFlow.TheVariants.{Skip};
 ghost use Rattle.hickory_store.specs.Permission.{transfer_permission};
 ghost use Rattle.hickory_store.specs.UpdateAnswers.{AnswersUpdate};
-ghost use Rattle.hickory_zone.specs.Features.{AreFeatures};
-ghost use Rattle.hickory_zone.specs.Replies.{zone_of};
-ghost use Rattle.hickory_zone.specs.Zones.{AreOwners};
-ghost use Rattle.dynamic_zone.specs.DynamicZones.{IsAnswered, IsFound, LookedUp, Searched, TransferAnswered};
-ghost use Rattle.dynamic_zone.specs.OwnerLaws.{IsNamed};
+ghost use Rattle.dynamic_zone.specs.DynamicZones.{LookedUp, Searched, TransferAnswered};
 
 pub mod laws;
+mod overview;
 
 use hickory_base::errors::{LookupError, UpdateFault};
 use hickory_base::server::{Request, RequestInfo};
-use hickory_base::update_request::UpdateRequest;
 use hickory_base::zone_store::{
-    AuthLookup, AxfrPolicy, InMemoryZoneHandler, LookupControlFlow, LookupOptions, Nsec3QueryInfo,
-    NxProofKind, StoredAnswer, ZoneHandler, ZoneTransfer, ZoneType,
+    AuthLookup, AxfrPolicy, LookupControlFlow, LookupOptions, Nsec3QueryInfo, NxProofKind,
+    ZoneHandler, ZoneTransfer, ZoneType,
 };
-use hickory_store::sqlite::laws::identities;
 use hickory_store::sqlite::{SqliteZoneHandler, Verifier};
-use hickory_wire::{LowerName, LowerQuery, Record, RecordType, ResponseCode, TSigResponseContext};
-use hickory_zone::denials::denial_soa;
-use hickory_zone::handled::{names_zone, records, whole};
-use hickory_zone::{Features, are_owners, features_of, stored, with_records};
+use hickory_wire::{LowerName, RecordType, TSigResponseContext};
+pub use overview::{Overview, read_sets, transfer};
 use std::alloc::Global;
 use std::marker::Model;
 
 /// A zone that takes updates, and answers standard queries in the zone that they leave.
 #[derive(Drop)]
 pub struct DynamicZone<V: Verifier> {
-    alloc: Global,
     updatable: SqliteZoneHandler<V>,
-    // What the zone has at all.
-    has: Features,
-    // Whether each owner name may own records of the zone.
-    is_owned: bool,
+    overview: Overview,
 }
 
 impl<V: Verifier> Model for DynamicZone<V> {
-    ghost use Rattle.std.specs.Prelude.{◌↔◌, IsTrue};
     ghost use Rattle.hickory_store.specs.UpdatableZone.{UpdatableZone};
-    ghost use Rattle.hickory_zone.specs.Features.{AreFeatures};
-    ghost use Rattle.hickory_zone.specs.Replies.{zone_of};
-    ghost use Rattle.hickory_zone.specs.Zones.{AreOwners};
+    ghost use Rattle.dynamic_zone.specs.Overviews.{IsOverview};
 
     ghost Value = { UpdatableZone V };
 
     ghost view = { λ z. z.updatable };
 
-    ghost invariant = { λ z. AreFeatures (zone_of z.updatable.zone) z.has × (IsTrue z.is_owned ↔ AreOwners z.updatable.zone.origin z.updatable.zone.sets) };
-}
-
-/// What the zone has at all, and whether each of its owner names may own records of it.
-fn seen(zone: &InMemoryZoneHandler) -> (Features, bool)
-    ensures has { AreFeatures (zone_of zone.now) result.0 }
-    ensures owned { IsTrue result.1 ↔ AreOwners zone.now.origin zone.now.sets }
-{
-    (
-        features_of(zone.origin(), zone.records()),
-        are_owners(zone.origin(), zone.records()),
-    )
-}
-
-/// That its sets are those of a zone, in their order, is known of a zone whose sets were read.
-fn read_sets(zone: &InMemoryZoneHandler)
-    ensures zone { IsZone zone.now.sets }
-    ensures ordered { AreSetsInOrder zone.now.sets }
-{
-    let _ = zone.records();
-}
-
-/// Whether the owner name of a record is fully qualified.
-fn is_named(r: &Record) -> bool
-    ensures { IsTrue result ↔ IsNamed r.now }
-{
-    // That its labels are those of a name is known of a name whose bytes were read.
-    let _ = r.name.as_wire();
-    r.name.is_fqdn()
-}
-
-/// The same of all records.
-fn are_named(records: &[Record]) -> bool
-    ensures { IsTrue result ↔ All IsNamed records.now }
-{
-    records.iter().all(|r| is_named(r))
+    ghost invariant = { λ z. IsOverview z.updatable.zone z.overview };
 }
 
 /// Whether an update is answered by a change of the zone.
-fn has_changed(answer: &Result<bool, UpdateFault>) -> bool
-    ensures { result ≡ false → answer.now ≢ Ok true }
+pub fn has_changed(answer: &Result<bool, UpdateFault>) -> bool
+    ensures changed { result ≡ true → answer.now ≡ Ok true }
+    ensures unchanged { result ≡ false → answer.now ≢ Ok true }
 {
     matches!(answer, Ok(true))
 }
 
 impl<V: Verifier> DynamicZone<V> {
     /// The zone that this handler keeps, which goes on to be updated. It takes no memory.
-    pub fn new(alloc: Global, updatable: SqliteZoneHandler<V>) -> DynamicZone<V>
+    pub fn new(updatable: SqliteZoneHandler<V>) -> DynamicZone<V>
         ensures { result ≡ updatable }
     {
-        let (has, is_owned) = seen(updatable.in_memory());
+        let overview = Overview::of(updatable.in_memory());
         DynamicZone {
-            alloc,
             updatable,
-            has,
-            is_owned,
+            overview,
         }
     }
 
@@ -124,35 +72,6 @@ impl<V: Verifier> DynamicZone<V> {
         ensures { result ≡ self }
     {
         self.updatable
-    }
-
-    /// What the zone replies to a question. ServFail where an owner name lies outside it.
-    fn answer(&self, alloc: Global, query: &LowerQuery) -> Result<AuthLookup, LookupError>
-        ensures { IsAnswered self.now.zone query.now result ⊎ (result ≡ Err Memory) }
-    {
-        if !self.is_owned {
-            return Err(LookupError::ResponseCode(ResponseCode::SERV_FAIL));
-        }
-        let zone = self.updatable.in_memory();
-        let soa = denial_soa(alloc, zone)?;
-        whole(alloc, zone, query, self.has, soa.as_slice())
-    }
-
-    /// The records by which the catalog completes a reply. ServFail where an owner name lies outside the zone.
-    fn found(
-        &self,
-        alloc: Global,
-        name: &LowerName,
-        record_type: RecordType,
-    ) -> Result<AuthLookup, LookupError>
-        ensures { IsFound self.now.zone name.now record_type result ⊎ (result ≡ Err Memory) }
-    {
-        if self.is_owned {
-            let zone = self.updatable.in_memory();
-            let soa = denial_soa(alloc, zone)?;
-            return records(alloc, zone, name, record_type, self.has, soa.as_slice());
-        }
-        Err(LookupError::ResponseCode(ResponseCode::SERV_FAIL))
     }
 }
 
@@ -208,8 +127,9 @@ impl<V: Verifier> ZoneHandler for DynamicZone<V> {
         record_type: RecordType,
         _info: Option<&RequestInfo<'_>>,
         _options: LookupOptions,
-    ) -> LookupControlFlow<AuthLookup> {
-        LookupControlFlow::Continue(self.found(alloc, name, record_type))
+    ) -> LookupControlFlow<AuthLookup<'_>> {
+        let zone = self.updatable.in_memory();
+        self.overview.lookup(alloc, zone, name, record_type)
     }
 
     fn search(
@@ -217,36 +137,26 @@ impl<V: Verifier> ZoneHandler for DynamicZone<V> {
         alloc: Global,
         request: &Request,
         _options: LookupOptions,
-    ) -> (LookupControlFlow<AuthLookup>, Option<TSigResponseContext>) {
-        let query = match request.request_info() {
-            Ok(info) => info.query,
-            Err(e) => return (LookupControlFlow::Break(Err(e)), None),
-        };
-        (LookupControlFlow::Continue(self.answer(alloc, query)), None)
+    ) -> (
+        LookupControlFlow<AuthLookup<'_>>,
+        Option<TSigResponseContext>,
+    ) {
+        let zone = self.updatable.in_memory();
+        (self.overview.search(alloc, zone, request), None)
     }
 
-    fn stored_answer(
-        &self,
-        request: &Request,
-        _options: LookupOptions,
-    ) -> Option<StoredAnswer<'_>> {
-        match request.request_info() {
-            Ok(info) if self.is_owned => {
-                stored(self.alloc, self.updatable.in_memory(), info.query, self.has)
-            }
-            _ => None,
-        }
-    }
-
-    fn consult(
-        &self,
+    fn consult<'z>(
+        &'z self,
         _alloc: Global,
         _name: &LowerName,
         _record_type: RecordType,
         _info: Option<&RequestInfo<'_>>,
         _options: LookupOptions,
-        last: LookupControlFlow<AuthLookup>,
-    ) -> (LookupControlFlow<AuthLookup>, Option<TSigResponseContext>) {
+        last: LookupControlFlow<AuthLookup<'z>>,
+    ) -> (
+        LookupControlFlow<AuthLookup<'z>>,
+        Option<TSigResponseContext>,
+    ) {
         (last, None)
     }
 
@@ -262,15 +172,7 @@ impl<V: Verifier> ZoneHandler for DynamicZone<V> {
             Option<TSigResponseContext>,
         ),
     > {
-        let query = match request.request_info() {
-            Ok(info) => info.query,
-            Err(e) => return Some((Err(e), None)),
-        };
-        if names_zone(self.updatable.in_memory().origin(), query) {
-            self.updatable.zone_transfer(alloc, request, options, now)
-        } else {
-            Some((Err(LookupError::ResponseCode(ResponseCode::NOT_AUTH)), None))
-        }
+        transfer(&self.updatable, alloc, request, options, now)
     }
 
     fn nsec_records(
@@ -278,7 +180,7 @@ impl<V: Verifier> ZoneHandler for DynamicZone<V> {
         _alloc: Global,
         _name: &LowerName,
         _options: LookupOptions,
-    ) -> LookupControlFlow<AuthLookup> {
+    ) -> LookupControlFlow<AuthLookup<'_>> {
         LookupControlFlow::Skip
     }
 
@@ -287,7 +189,7 @@ impl<V: Verifier> ZoneHandler for DynamicZone<V> {
         _alloc: Global,
         _info: Nsec3QueryInfo<'_>,
         _options: LookupOptions,
-    ) -> LookupControlFlow<AuthLookup> {
+    ) -> LookupControlFlow<AuthLookup<'_>> {
         LookupControlFlow::Skip
     }
 
@@ -300,16 +202,7 @@ impl<V: Verifier> ZoneHandler for DynamicZone<V> {
         read_sets(self.updatable.in_memory());
         let (answer, context) = self.updatable.update(alloc, request, now);
         if has_changed(&answer) {
-            read_sets(self.updatable.in_memory());
-            let updates = request.message().updates();
-            if self.is_owned && are_named(updates) {
-                identities();
-                self.has = with_records(self.has, updates);
-            } else {
-                let (has, is_owned) = seen(self.updatable.in_memory());
-                self.has = has;
-                self.is_owned = is_owned;
-            }
+            self.overview = self.overview.after(&self.updatable, request);
         }
         (answer, context)
     }

@@ -6,10 +6,12 @@ pub mod Consulting
 pub mod Deciding
 pub mod DecodedReplies
 pub mod ForwardedReplies
+pub mod KeptRecords
 pub mod LastUpTo
 pub mod Lookups
 pub mod Nearest
 pub mod OneAnswer
+pub mod OneHandler
 pub mod OneReply
 pub mod Places
 pub mod QueryReplies
@@ -17,7 +19,6 @@ pub mod RepliesFit
 pub mod Runs
 pub mod SentInOrder
 pub mod SentReplies
-pub mod StoredReplies
 pub mod TransferReplies
 pub mod Transferring
 pub mod Updating

@@ -46,6 +46,12 @@ get_at [] i x lt is = absurd (omega (arith, lt))
 get_at (y ∷ ys) zero x lt is = ap Some (sym is)
 get_at (y ∷ ys) (suc i) x lt is = get_at ys i x (omega (arith, lt)) is
 
+-- the item at a place
+pub at_place : {X : Type 0} (xs : List X) (i : ℕ) → i < length xs → (x : X) × (slice_get xs i ≡ Some x)
+at_place [] i lt = absurd (omega (arith, lt))
+at_place (y ∷ ys) zero lt = (y, refl)
+at_place (y ∷ ys) (suc i) lt = at_place ys i (omega (arith, lt))
+
 -- the replies to a transfer that is asked for
 pub transferred : {H : Type 0} (server : Server H) (chain : List H) (request : ReceivedRequest) (edns : Option EdnsFields) (now : ℕ) (query : Query) (replies : List Reply) → (query.query_type == 252) ≡ true
     → ChainTransfers server chain request edns now replies → ZoneReplies server chain request edns now query replies

@@ -38,6 +38,8 @@ use Rattle.hickory_catalog.specs.Server.{Server}
 use Rattle.hickory_catalog.specs.Signing.{SignedReply, Signer, failed, plain, signed}
 use Rattle.hickory_catalog.specs.Transfers.{message_of_transfer, transfer_contents, transfer_fault}
 use Rattle.hickory_catalog.specs.Updates.{UpdateReply, answered, no_apex, no_handler, unnamed}
+use Rattle.hickory_catalog.specs.WholeTransfers.{ChainTransfers, TransferReplies}
+use Rattle.hickory_catalog.specs.WholeTransfers as whole_transfers
 
 -- codes of twelve bits
 small_code : (codes : List ℕ) (code : ℕ) → AllByRecursion (λ c. c < 2 ^ 12) codes → is_one_of codes code ≡ true → code < 2 ^ 12
@@ -153,6 +155,17 @@ module _ {H : Type 0} (server : Server H) (forwarded : ForwardedCodes) (codes : 
   query_fits replies (other_count _ is) = fits_alone request.message edns _ replies is (error_fits request.message edns 1 (omega arith))
   query_fits replies (no_zone _ _ is) = fits_alone request.message edns _ replies is (error_fits request.message edns 5 (omega arith))
   query_fits replies (zone _ _ r) = zone_all_fit _ _ replies r
+
+-- so is each reply to a query that is answered by what is given as a transfer
+module _ {H : Type 0} (server : Server H) (request : ReceivedRequest) (edns : Option EdnsFields) (now : ℕ) where
+  chain_fits : (chain : List H) (replies : List Reply) → ChainTransfers server chain request edns now replies → AllByRecursion (RepliesTo request.message edns) replies
+  chain_fits chain replies (whole_transfers.nobody _ is) = fits_alone request.message edns _ replies is (error_fits request.message edns 2 (omega arith))
+  chain_fits chain replies (whole_transfers.given {result = result} {context = context} _ g) = given_fits request edns replies server.signer result context g
+
+  pub transferred_fits : (replies : List Reply) → TransferReplies server request edns now replies → AllByRecursion (RepliesTo request.message edns) replies
+  transferred_fits replies (whole_transfers.other_count _ is) = fits_alone request.message edns _ replies is (error_fits request.message edns 1 (omega arith))
+  transferred_fits replies (whole_transfers.no_zone _ _ is) = fits_alone request.message edns _ replies is (error_fits request.message edns 5 (omega arith))
+  transferred_fits replies (whole_transfers.zone _ _ c) = chain_fits _ replies c
 
 -- so is the reply to an update
 pub update_fits : {H : Type 0} (server : Server H) (request : ReceivedRequest) (edns : Option EdnsFields) (now : ℕ) (reply : Reply) (zones : List (DomainName × List H))

@@ -28,6 +28,7 @@ use Rattle.hickory_catalog.specs.Requests.{RequestAnswered}
 use Rattle.hickory_catalog.specs.Server.{server_of}
 use Rattle.hickory_catalog.specs.Signing.{Signer, SignedReply}
 use Rattle.hickory_catalog.specs.Updates.{UpdateReply}
+use Rattle.hickory_catalog.specs.WholeTransfers.{TransferReplies}
 use Rattle.hickory_catalog.specs.declared.catalog.Catalog.{Catalog}
 
 -- A header for a reply to this request: its id and opcode, a code of twelve bits (RFC 6891 section 6.1.3), and no TC.
@@ -62,6 +63,11 @@ abbrev pub RequestRepliesFit : {S H : Type 0} → Ghosts H → (S → Signer) �
 RequestRepliesFit {S} {H} handler signature_for = (catalog : Catalog S H) (request : ReceivedRequest) (now : ℕ) (replies : List Reply) (zones : List (DomainName × List H))
     → RequestAnswered (server_of handler signature_for catalog) request now replies zones
     → AllByRecursion (RepliesTo request.message (reply_edns catalog.nsid request.message.edns)) replies
+
+-- each reply to a query that is answered by what is given as a transfer,
+abbrev pub TransferRepliesFit : {S H : Type 0} → Ghosts H → (S → Signer) → Type 0
+TransferRepliesFit {S} {H} handler signature_for = (catalog : Catalog S H) (request : ReceivedRequest) (edns : Option EdnsFields) (now : ℕ) (replies : List Reply)
+    → TransferReplies (server_of handler signature_for catalog) request edns now replies → AllByRecursion (RepliesTo request.message edns) replies
 
 -- each error reply,
 abbrev pub ErrorRepliesFit : Type 0

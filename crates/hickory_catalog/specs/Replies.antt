@@ -9,7 +9,6 @@ use Rattle.wire_messages.specs.declared.rr.record.Record.{Record}
 use Rattle.hickory_base.specs.responses.Responses.{error_metadata}
 use Rattle.hickory_base.specs.declared.requests.message_request.MessageRequest.{MessageRequest}
 use Rattle.hickory_catalog.specs.ReplyEdns.{with_high_code}
-use Rattle.hickory_catalog.specs.declared.contents.LentContents.{LentContents}
 use Rattle.hickory_catalog.specs.declared.contents.ReplyContents.{ReplyContents}
 
 -- What a reply says beside the questions and the EDNS of its request: its metadata, and the records of its sections but for OPT and TSIG
@@ -53,7 +52,3 @@ error_reply request edns code = unsigned_reply request edns (error_contents requ
 -- what a reply says, by what the program keeps of it: the authority section in three parts
 abbrev pub contents_of : ReplyContents → Contents
 contents_of made = record { metadata = made.metadata; answers = made.answers; authorities = option_to_list made.soa ++ (made.authorities ++ made.other_authorities); additionals = made.additionals }
-
--- the same where the records lie in a zone
-abbrev pub lent_contents : LentContents → Contents
-lent_contents lent = record { metadata = lent.metadata; answers = lent.answers.now; authorities = lent.authorities.now; additionals = [] }

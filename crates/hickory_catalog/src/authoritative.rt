@@ -3,16 +3,19 @@
 ghost use Rattle.std.specs.Prelude.{◌≡◌, false, IfOk, IfErr, Ok, Err, None};
 ghost use Rattle.hickory_base.specs.zone_store.Lookups.{Flow, answers_of};
 ghost use Rattle.hickory_catalog.specs.Authoritative.{AuthoritativeReply, BesideAnswer, additional_section, authoritative_metadata, is_referral, negative_code, negative_contents, positive_contents, refusal_code};
-ghost use Rattle.hickory_catalog.specs.Denying.{records_given};
+ghost use Rattle.hickory_base.specs.declared.zone_store.lookup.LookupControlFlow.TheVariants.{Continue};
+ghost use Rattle.hickory_catalog.specs.Denying.{DenialOfNegative, records_given};
 ghost use Rattle.hickory_catalog.specs.Replies.{contents_of};
 ghost use Rattle.hickory_catalog.specs.Transcripts.{options_of, wants_memory};
 
 use crate::chains::{is_memory, options_of};
 use crate::contents::ReplyContents;
-use crate::denying::{answer_denial, answers, nothing_denial};
+use crate::denying::{answer_denial, nothing_denial};
 use hickory_base::errors::{CatalogError, LookupError};
 use hickory_base::server::Request;
-use hickory_base::zone_store::{AuthLookup, LookupControlFlow, LookupOptions, ZoneHandler};
+use hickory_base::zone_store::{
+    AuthLookup, LookupControlFlow, LookupOptions, RecordList, ZoneHandler,
+};
 use hickory_wire::{Items, LowerQuery, Metadata, Record, RecordType, ResponseCode};
 use std::alloc::Global;
 use std::mem;
@@ -69,105 +72,117 @@ pub(crate) fn is_referral(query_type: RecordType, records: &[Record]) -> bool
     }
 }
 
-/// Takes out the records that were found, and those of the additional section.
-fn take_records(alloc: Global, found: &mut AuthLookup) -> (Items<Record>, Items<Record>)
-    ensures answers { result.0 ≡ answers_of found.old }
-    ensures additionals { result.1 ≡ additional_section found.old }
+/// Takes out the records that were found.
+fn take_answers<'z>(alloc: Global, found: &mut AuthLookup<'z>) -> RecordList<'z>
+    ensures { result ≡ answers_of found.old }
 {
     match found {
-        AuthLookup::Empty => (Items::new(alloc), Items::new(alloc)),
+        AuthLookup::Empty => RecordList::empty(),
         AuthLookup::Resolved(found) => {
-            let answers = mem::replace(&mut found.answers, Items::new(alloc));
-            (answers, Items::new(alloc))
+            RecordList::owned(mem::replace(&mut found.answers, Items::new(alloc)))
         }
-        AuthLookup::Records {
-            answers,
-            additionals,
-        } => {
-            let answers = mem::replace(answers, Items::new(alloc));
-            (answers, mem::replace(additionals, Items::new(alloc)))
-        }
-        AuthLookup::Whole(reply) => {
-            let answers = mem::replace(&mut reply.answers, Items::new(alloc));
-            (answers, Items::new(alloc))
-        }
+        AuthLookup::Records { answers, .. } => answers.take(),
+        AuthLookup::Whole(reply) => reply.answers.take(),
     }
 }
 
-/// The records of a handler's answer, none where it is an error or a `Skip`. Want of memory ends the call.
-fn records_given(
+/// Takes out the records of the additional section.
+fn take_additionals<'z>(found: &mut AuthLookup<'z>) -> RecordList<'z>
+    ensures taken { result ≡ additional_section found.old }
+    ensures answers { answers_of found.new ≡ answers_of found.old }
+{
+    match found {
+        AuthLookup::Records { additionals, .. } => additionals.take(),
+        _ => RecordList::empty(),
+    }
+}
+
+/// The records of an outcome, which are taken out, none where it is an error. Want of memory ends the call.
+fn records_in<'z>(
     alloc: Global,
-    answer: LookupControlFlow<AuthLookup>,
-) -> Result<Items<Record>, CatalogError>
-    ensures given { IfOk result (λ records. (records ≡ records_given answer) × (wants_memory answer ≡ false)) }
+    outcome: &mut Result<AuthLookup<'z>, LookupError>,
+) -> Result<RecordList<'z>, CatalogError>
+    ensures given { IfOk result (λ records. (records ≡ records_given (Continue outcome.old)) × (wants_memory (Continue outcome.old) ≡ false)) }
     ensures refused { IfErr result (λ e. e ≡ CatalogError.Memory) }
 {
-    match answer.map_result() {
-        None => Ok(Items::new(alloc)),
-        Some(Ok(found)) => {
-            let mut found = found;
-            Ok(take_records(alloc, &mut found).0)
-        }
-        Some(Err(e)) => {
-            if is_memory(&e) {
+    match outcome {
+        Ok(found) => Ok(take_answers(alloc, found)),
+        Err(e) => {
+            if is_memory(e) {
                 Err(CatalogError::Memory)
             } else {
-                Ok(Items::new(alloc))
+                Ok(RecordList::empty())
             }
         }
     }
 }
 
+/// The records of a handler's answer, which are taken out, none where it is an error or a `Skip`. Want of memory ends the call.
+fn records_given<'z>(
+    alloc: Global,
+    answer: &mut LookupControlFlow<AuthLookup<'z>>,
+) -> Result<RecordList<'z>, CatalogError>
+    ensures given { IfOk result (λ records. (records ≡ records_given answer.old) × (wants_memory answer.old ≡ false)) }
+    ensures refused { IfErr result (λ e. e ≡ CatalogError.Memory) }
+{
+    match answer {
+        LookupControlFlow::Continue(outcome) => records_in(alloc, outcome),
+        LookupControlFlow::Break(outcome) => records_in(alloc, outcome),
+        LookupControlFlow::Skip => Ok(RecordList::empty()),
+    }
+}
+
 /// What a reply says with records that were found, which are taken out, and with what the handler gave beside them.
-fn positive_contents(
+fn positive_contents<'z>(
     alloc: Global,
     request: &Metadata,
     query_type: RecordType,
-    found: &mut AuthLookup,
-    beside: Items<Record>,
-) -> ReplyContents
-    ensures { (given : Flow) → records_given given ≡ beside → contents_of result ≡ positive_contents request.now query_type found.old given }
+    found: &mut AuthLookup<'z>,
+    beside: RecordList<'z>,
+) -> ReplyContents<'z>
+    ensures { (given : Flow) → records_given given ≡ beside.entry → contents_of result ≡ positive_contents request.now query_type found.old given }
 {
-    let (answers, additionals) = take_records(alloc, found);
-    let mut contents = ReplyContents::bare(
-        alloc,
-        authoritative_metadata(request, ResponseCode::NO_ERROR),
-    );
-    if is_referral(query_type, answers.as_slice()) {
-        contents.authorities = answers;
-    } else {
-        contents.answers = answers;
+    let additionals = take_additionals(found);
+    let answers = take_answers(alloc, found);
+    let mut contents = ReplyContents {
+        metadata: authoritative_metadata(request, ResponseCode::NO_ERROR),
+        answers,
+        soa: None,
+        authorities: RecordList::empty(),
+        other_authorities: beside,
+        additionals,
+    };
+    if is_referral(query_type, contents.answers.as_slice()) {
+        contents.authorities = contents.answers.take();
     }
-    contents.other_authorities = beside;
-    contents.additionals = additionals;
     contents
 }
 
 /// What else a handler gives for the authority section of a positive reply.
-fn beside_answer<H: ZoneHandler>(
-    handler: &H,
+fn beside_answer<'z, H: ZoneHandler>(
+    handler: &'z H,
     alloc: Global,
     query: &LowerQuery,
-    found: &AuthLookup,
+    found: &AuthLookup<'_>,
     options: LookupOptions,
-) -> LookupControlFlow<AuthLookup>
+) -> LookupControlFlow<AuthLookup<'z>>
     ensures { BesideAnswer H.ZoneHandler handler.now query.now options found.now result }
 {
     if query.query_type().value() == RecordType::SOA.value() {
         handler.lookup(alloc, handler.origin(), RecordType::NS, None, options)
     } else {
-        answer_denial(handler, alloc, query, answers(found), options)
+        answer_denial(handler, alloc, query, found.answers(), options)
     }
 }
 
 /// What else a handler gives for the authority section of a positive reply, as records. Want of memory ends the call.
-fn records_beside<H: ZoneHandler>(
-    handler: &H,
+fn records_beside<'z, H: ZoneHandler>(
+    handler: &'z H,
     alloc: Global,
     query: &LowerQuery,
-    found: &AuthLookup,
+    found: &AuthLookup<'_>,
     options: LookupOptions,
-) -> Result<Items<Record>, CatalogError>
+) -> Result<RecordList<'z>, CatalogError>
     ensures given { IfOk result (λ records. (beside : Flow) × BesideAnswer H.ZoneHandler handler.now query.now options found.now beside × (records ≡ records_given beside) × (wants_memory beside ≡ false)) }
     ensures refused { IfErr result (λ e. e ≡ CatalogError.Memory) }
 {
@@ -175,19 +190,22 @@ fn records_beside<H: ZoneHandler>(
     let is_nothing_denied = handler.nx_proof_kind().is_none();
     // Mostly nothing more is asked, and no room is made for what would be answered.
     if !is_soa && is_nothing_denied {
-        return Ok(Items::new(alloc));
+        return Ok(RecordList::empty());
     }
-    records_given(alloc, beside_answer(handler, alloc, query, found, options))
+    let mut beside = beside_answer(handler, alloc, query, found, options);
+    let records = records_given(alloc, &mut beside);
+    drop(beside);
+    records
 }
 
 /// What a handler replies with records that were found, which may be taken out.
-fn found_contents<H: ZoneHandler>(
-    handler: &H,
+fn found_contents<'z, H: ZoneHandler>(
+    handler: &'z H,
     alloc: Global,
     request: &Request,
     query: &LowerQuery,
-    found: &mut AuthLookup,
-) -> Result<ReplyContents, CatalogError>
+    found: &mut AuthLookup<'z>,
+) -> Result<ReplyContents<'z>, CatalogError>
     ensures replied { IfOk result (λ contents. AuthoritativeReply H.ZoneHandler handler.now request.now query.now (contents_of contents) (Ok found.old)) }
     ensures refused { IfErr result (λ e. e ≡ CatalogError.Memory) }
 {
@@ -196,58 +214,80 @@ fn found_contents<H: ZoneHandler>(
     Ok(positive_contents(alloc, request.metadata(), query_type, found, beside))
 }
 
-/// What a reply says where there is nothing, with this denial and this SOA.
-fn negative_contents(
+/// The denial in the place of records, as records. Want of memory ends the call.
+fn denial_records<'z, H: ZoneHandler>(
+    handler: &'z H,
+    alloc: Global,
+    query: &LowerQuery,
+    options: LookupOptions,
+) -> Result<RecordList<'z>, CatalogError>
+    ensures given { IfOk result (λ records. (denial : Flow) × DenialOfNegative H.ZoneHandler handler.now query.now options denial × (records ≡ records_given denial) × (wants_memory denial ≡ false)) }
+    ensures refused { IfErr result (λ e. e ≡ CatalogError.Memory) }
+{
+    // Mostly none is asked for, and no room is made for it.
+    if !options.dnssec_ok {
+        return Ok(RecordList::empty());
+    }
+    let mut denial = nothing_denial(handler, alloc, query, options);
+    let records = records_given(alloc, &mut denial);
+    drop(denial);
+    records
+}
+
+/// What a reply says where there is nothing, with this denial and this SOA, which is taken out.
+fn negative_contents<'z>(
     alloc: Global,
     request: &Metadata,
     e: &LookupError,
-    denial: Items<Record>,
-    soa: LookupControlFlow<AuthLookup>,
-) -> Result<ReplyContents, CatalogError>
-    ensures replied { IfOk result (λ contents. (wants_memory soa ≡ false) ×
-        ((given : Flow) → records_given given ≡ denial → contents_of contents ≡ negative_contents request.now e.now given soa)) }
+    denial: RecordList<'z>,
+    soa: &mut LookupControlFlow<AuthLookup<'z>>,
+) -> Result<ReplyContents<'z>, CatalogError>
+    ensures replied { IfOk result (λ contents. (wants_memory soa.old ≡ false) ×
+        ((given : Flow) → records_given given ≡ denial.entry → contents_of contents ≡ negative_contents request.now e.now given soa.old)) }
     ensures refused { IfErr result (λ e. e ≡ CatalogError.Memory) }
 {
-    let is_skipped = matches!(soa, LookupControlFlow::Skip);
-    let soa = records_given(alloc, soa)?;
-    let mut contents = ReplyContents::bare(
-        alloc,
-        authoritative_metadata(request, negative_code(e)),
-    );
-    if !is_skipped {
-        contents.authorities = denial;
+    let mut denial = denial;
+    if matches!(soa, LookupControlFlow::Skip) {
+        drop(denial.take());
     }
-    contents.other_authorities = soa;
-    Ok(contents)
+    Ok(ReplyContents {
+        metadata: authoritative_metadata(request, negative_code(e)),
+        answers: RecordList::empty(),
+        soa: None,
+        authorities: denial,
+        other_authorities: records_given(alloc, soa)?,
+        additionals: RecordList::empty(),
+    })
 }
 
 /// What a handler replies where there is nothing.
-fn nothing_contents<H: ZoneHandler>(
-    handler: &H,
+fn nothing_contents<'z, H: ZoneHandler>(
+    handler: &'z H,
     alloc: Global,
     request: &Request,
     query: &LowerQuery,
     e: &LookupError,
-) -> Result<ReplyContents, CatalogError>
+) -> Result<ReplyContents<'z>, CatalogError>
     requires { refusal_code e.now ≡ None }
     ensures replied { IfOk result (λ contents. AuthoritativeReply H.ZoneHandler handler.now request.now query.now (contents_of contents) (Err e.now)) }
     ensures refused { IfErr result (λ e. e ≡ CatalogError.Memory) }
 {
     let options = options_of(request);
-    let denial = nothing_denial(handler, alloc, query, options);
-    let denial = records_given(alloc, denial)?;
-    let soa = handler.lookup(alloc, handler.origin(), RecordType::SOA, None, options);
-    negative_contents(alloc, request.metadata(), e, denial, soa)
+    let denial = denial_records(handler, alloc, query, options)?;
+    let mut soa = handler.lookup(alloc, handler.origin(), RecordType::SOA, None, options);
+    let contents = negative_contents(alloc, request.metadata(), e, denial, &mut soa);
+    drop(soa);
+    contents
 }
 
 /// What a handler that holds the zone replies to what the chain answered in the end, whose records may be taken out.
-pub(crate) fn authoritative_contents<H: ZoneHandler>(
-    handler: &H,
+pub(crate) fn authoritative_contents<'z, H: ZoneHandler>(
+    handler: &'z H,
     alloc: Global,
     request: &Request,
     query: &LowerQuery,
-    outcome: &mut Result<AuthLookup, LookupError>,
-) -> Result<ReplyContents, CatalogError>
+    outcome: &mut Result<AuthLookup<'z>, LookupError>,
+) -> Result<ReplyContents<'z>, CatalogError>
     ensures replied { IfOk result (λ contents. AuthoritativeReply H.ZoneHandler handler.now request.now query.now (contents_of contents) outcome.old) }
     ensures refused { IfErr result (λ e. e ≡ CatalogError.Memory) }
 {
@@ -256,7 +296,7 @@ pub(crate) fn authoritative_contents<H: ZoneHandler>(
         Err(e) => match refusal_code(e) {
             Some(code) => {
                 let metadata = authoritative_metadata(request.metadata(), code);
-                Ok(ReplyContents::bare(alloc, metadata))
+                Ok(ReplyContents::bare(metadata))
             }
             None => nothing_contents(handler, alloc, request, query, e),
         },

@@ -15,11 +15,14 @@ use std::mem;
 
 /// What the handlers of a chain answer.
 #[derive(Drop)]
-pub(crate) struct ChainAnswer {
+pub(crate) struct ChainAnswer<'z> {
     /// The place of the handler that was asked, or how many there are where all skip.
     pub place: usize,
     /// The answer, and what a signer of the reply has to know, kept as handlers give them.
-    pub given: (LookupControlFlow<AuthLookup>, Option<TSigResponseContext>),
+    pub given: (
+        LookupControlFlow<AuthLookup<'z>>,
+        Option<TSigResponseContext>,
+    ),
 }
 
 /// Whether memory was refused.
@@ -30,7 +33,7 @@ pub(crate) fn is_memory(e: &LookupError) -> bool
 }
 
 /// Whether an answer says that memory was refused.
-pub(crate) fn wants_memory(answer: &LookupControlFlow<AuthLookup>) -> bool
+pub(crate) fn wants_memory(answer: &LookupControlFlow<AuthLookup<'_>>) -> bool
     ensures { result ≡ wants_memory answer.now }
 {
     match answer {
@@ -49,7 +52,7 @@ pub(crate) fn options_of(request: &Request) -> LookupOptions
 
 /// Asks the handlers of a chain from left to right. A `Skip` goes on with the rest and drops its context.
 #[inline(never)]
-fn ask<H: ZoneHandler>(chain: &[H], alloc: Global, request: &Request) -> ChainAnswer
+fn ask<'z, H: ZoneHandler>(chain: &'z [H], alloc: Global, request: &Request) -> ChainAnswer<'z>
     ensures asked { Asked H.ZoneHandler request.now (options_of request.now) chain.now result.place result.given.0 result.given.1 }
     ensures place { IsAnswer result.given.0 → result.place < length chain.now }
 {
@@ -69,15 +72,18 @@ fn ask<H: ZoneHandler>(chain: &[H], alloc: Global, request: &Request) -> ChainAn
 
 /// Consults handlers from left to right about an answer. A context that one of them gives takes the place of the one
 /// before. Want of memory ends it.
-fn consult<H: ZoneHandler>(
-    handlers: &[H],
+fn consult<'z, H: ZoneHandler>(
+    handlers: &'z [H],
     alloc: Global,
     info: &RequestInfo<'_>,
     options: LookupOptions,
-    first: LookupControlFlow<AuthLookup>,
+    first: LookupControlFlow<AuthLookup<'z>>,
     first_context: Option<TSigResponseContext>,
-) -> (LookupControlFlow<AuthLookup>, Option<TSigResponseContext>)
-    ensures { Consulted H.ZoneHandler (information_of info.now) options handlers.now first first_context result.0 result.1 }
+) -> (
+    LookupControlFlow<AuthLookup<'z>>,
+    Option<TSigResponseContext>,
+)
+    ensures { Consulted H.ZoneHandler (information_of info.now) options handlers.now first.entry first_context result.0 result.1 }
 {
     let mut last = first;
     let mut context = first_context;
@@ -104,12 +110,12 @@ fn consult<H: ZoneHandler>(
 /// Consults each handler but the one that was asked about its answer, and puts what they answer in its place. It stands
 /// apart, so that where nobody is consulted no room is made for what they would answer.
 #[inline(never)]
-fn consult_others<H: ZoneHandler>(
-    chain: &[H],
+fn consult_others<'z, H: ZoneHandler>(
+    chain: &'z [H],
     alloc: Global,
     info: &RequestInfo<'_>,
     options: LookupOptions,
-    asked: &mut ChainAnswer,
+    asked: &mut ChainAnswer<'z>,
 )
     requires { asked.old.place < length chain.now }
     ensures place { asked.new.place ≡ asked.old.place }
@@ -124,13 +130,13 @@ fn consult_others<H: ZoneHandler>(
 }
 
 /// What a chain of handlers answers: one is asked, and after its `Continue` each other one is consulted.
-pub(crate) fn chain_answer<H: ZoneHandler>(
-    chain: &[H],
+pub(crate) fn chain_answer<'z, H: ZoneHandler>(
+    chain: &'z [H],
     alloc: Global,
     request: &Request,
     info: &RequestInfo<'_>,
     options: LookupOptions,
-) -> ChainAnswer
+) -> ChainAnswer<'z>
     ensures answers { ChainAnswers H.ZoneHandler request.now (information_of info.now) options chain.now result.place result.given.0 result.given.1 }
     ensures place { IsSome (result_of result.given.0) → result.place < length chain.now }
 {

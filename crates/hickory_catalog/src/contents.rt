@@ -9,8 +9,8 @@ ghost use Rattle.hickory_catalog.specs.Replies.{bare_contents, contents_of, erro
 
 use hickory_base::message_request::MessageRequest;
 use hickory_base::message_response::{EmptySection, MessageResponse, MessageResponseBuilder};
-use hickory_wire::{Boxed, Edns, Items, Metadata, Record, ResponseCode};
-use std::alloc::Global;
+use hickory_base::zone_store::RecordList;
+use hickory_wire::{Boxed, Edns, Metadata, Record, ResponseCode};
 use std::iter::{self, Chain};
 use std::slice::{self, Iter};
 
@@ -18,43 +18,43 @@ use std::slice::{self, Iter};
 ///
 /// Contracts speak of it as `contents_of`.
 #[derive(Drop)]
-pub(crate) struct ReplyContents {
+pub(crate) struct ReplyContents<'z> {
     /// The header but for its counts.
     pub metadata: Metadata,
     /// The answer section.
-    pub answers: Items<Record>,
+    pub answers: RecordList<'z>,
     /// What stands first in the authority section, if anything does before its records.
     pub soa: Option<Boxed<Record>>,
     /// The front of the records of the authority section.
-    pub authorities: Items<Record>,
+    pub authorities: RecordList<'z>,
     /// The rest of the authority section.
-    pub other_authorities: Items<Record>,
+    pub other_authorities: RecordList<'z>,
     /// The additional section.
-    pub additionals: Items<Record>,
+    pub additionals: RecordList<'z>,
 }
 
-impl ReplyContents {
+impl<'z> ReplyContents<'z> {
     /// Metadata and no records.
-    pub fn bare(alloc: Global, metadata: Metadata) -> ReplyContents
+    pub fn bare(metadata: Metadata) -> ReplyContents<'z>
         ensures { contents_of result ≡ bare_contents metadata }
     {
         ReplyContents {
             metadata,
-            answers: Items::new(alloc),
+            answers: RecordList::empty(),
             soa: None,
-            authorities: Items::new(alloc),
-            other_authorities: Items::new(alloc),
-            additionals: Items::new(alloc),
+            authorities: RecordList::empty(),
+            other_authorities: RecordList::empty(),
+            additionals: RecordList::empty(),
         }
     }
 
     /// What an error reply says: a response code, and no records.
-    pub fn error(alloc: Global, request: &Metadata, code: ResponseCode) -> ReplyContents
+    pub fn error(request: &Metadata, code: ResponseCode) -> ReplyContents<'z>
         ensures { contents_of result ≡ error_contents request.now code }
     {
         let mut metadata = Metadata::response_from_request(request);
         metadata.response_code = code;
-        ReplyContents::bare(alloc, metadata)
+        ReplyContents::bare(metadata)
     }
 
     /// What stands first in the authority section.
@@ -82,7 +82,7 @@ pub(crate) type Response<'q> = MessageResponse<
 pub(crate) fn response<'q>(
     request: &'q MessageRequest,
     edns: Option<&'q Edns>,
-    contents: &'q ReplyContents,
+    contents: &'q ReplyContents<'_>,
 ) -> Response<'q>
     ensures parts { IsBuilt (record { questions = request.now.queries; edns = option_copied edns.entry }) contents.now.metadata result }
     ensures answers { iter_rest result.answers ≡ contents.now.answers }
@@ -108,27 +108,14 @@ pub(crate) fn response<'q>(
     )
 }
 
-/// What a reply says whose records lie elsewhere, in a zone.
-///
-/// Contracts speak of it as `lent_contents`.
-#[derive(Clone, Copy)]
-pub(crate) struct LentContents<'z> {
-    /// The header but for its counts.
-    pub metadata: Metadata,
-    /// The answer section.
-    pub answers: &'z [Record],
-    /// The authority section.
-    pub authorities: &'z [Record],
-}
-
-/// A reply whose answers and authorities are lent, and which has no other records.
+/// A reply whose records are lent, a slice for each section.
 type LentResponse<'q> = MessageResponse<
     'q,
     'q,
     Iter<'q, Record>,
     Iter<'q, Record>,
     EmptySection<'q>,
-    EmptySection<'q>,
+    Iter<'q, Record>,
 >;
 
 /// The reply to a request of this metadata and these records, with this EDNS, and without a signature.
@@ -138,18 +125,19 @@ pub(crate) fn lent_response<'q>(
     metadata: Metadata,
     answers: &'q [Record],
     authorities: &'q [Record],
+    additionals: &'q [Record],
 ) -> LentResponse<'q>
     ensures parts { IsBuilt (record { questions = request.now.queries; edns = option_copied edns.entry }) metadata result }
     ensures answers { iter_rest result.answers ≡ answers.now }
     ensures authorities { iter_rest result.authorities ≡ authorities.now }
     ensures soa { once_item result.soa ≡ None }
-    ensures additionals { once_item result.additionals ≡ None }
+    ensures additionals { iter_rest result.additionals ≡ additionals.now }
 {
     MessageResponseBuilder::new(&request.queries, edns).build(
         metadata,
         answers.iter(),
         authorities.iter(),
         iter::empty::<&Record>(),
-        iter::empty::<&Record>(),
+        additionals.iter(),
     )
 }

@@ -2,7 +2,6 @@
 
 ghost use Rattle.std.specs.Prelude.{◌≡◌};
 ghost use Rattle.std.specs.Option.{option_copied};
-ghost use Rattle.hickory_base.specs.zone_store.Lookups.{answers_of};
 ghost use Rattle.hickory_catalog.specs.Denying.{DenialBesideAnswer, DenialGiven, DenialOfNegative, is_expanded, is_wildcard_match, needs_denial, signed_labels};
 
 use hickory_base::zone_store::{
@@ -10,18 +9,6 @@ use hickory_base::zone_store::{
 };
 use hickory_wire::{LowerQuery, RData, Record, RecordType};
 use std::alloc::Global;
-
-/// The records that were asked for.
-pub(crate) fn answers(found: &AuthLookup) -> &[Record]
-    ensures { result.now ≡ answers_of found.now }
-{
-    match found {
-        AuthLookup::Empty => &[],
-        AuthLookup::Resolved(found) => found.answers.as_slice(),
-        AuthLookup::Records { answers, .. } => answers.as_slice(),
-        AuthLookup::Whole(reply) => reply.answers.as_slice(),
-    }
-}
 
 /// The labels field of a signature record: the fourth octet of the data of an RRSIG (RFC 4034 section 3.1.3).
 fn signed_labels(rdata: &RData) -> Option<u8>
@@ -64,13 +51,13 @@ fn needs_denial(kind: Option<&NxProofKind>, from_wildcard: bool) -> bool
 }
 
 /// What a handler gives as a denial of a query, by what it can deny with.
-fn denial<H: ZoneHandler>(
-    handler: &H,
+fn denial<'z, H: ZoneHandler>(
+    handler: &'z H,
     alloc: Global,
     query: &LowerQuery,
     from_wildcard: bool,
     options: LookupOptions,
-) -> LookupControlFlow<AuthLookup>
+) -> LookupControlFlow<AuthLookup<'z>>
     ensures { DenialGiven H.ZoneHandler handler.now query.now from_wildcard options (H.nx_proof_kind_of handler.now) result }
 {
     match handler.nx_proof_kind() {
@@ -98,13 +85,13 @@ fn denial<H: ZoneHandler>(
 }
 
 /// The denial beside records that were found.
-pub(crate) fn answer_denial<H: ZoneHandler>(
-    handler: &H,
+pub(crate) fn answer_denial<'z, H: ZoneHandler>(
+    handler: &'z H,
     alloc: Global,
     query: &LowerQuery,
     records: &[Record],
     options: LookupOptions,
-) -> LookupControlFlow<AuthLookup>
+) -> LookupControlFlow<AuthLookup<'z>>
     ensures { DenialBesideAnswer H.ZoneHandler handler.now query.now (is_wildcard_match records.now) options result }
 {
     let kind = handler.nx_proof_kind();
@@ -120,12 +107,12 @@ pub(crate) fn answer_denial<H: ZoneHandler>(
 }
 
 /// The denial in the place of records.
-pub(crate) fn nothing_denial<H: ZoneHandler>(
-    handler: &H,
+pub(crate) fn nothing_denial<'z, H: ZoneHandler>(
+    handler: &'z H,
     alloc: Global,
     query: &LowerQuery,
     options: LookupOptions,
-) -> LookupControlFlow<AuthLookup>
+) -> LookupControlFlow<AuthLookup<'z>>
     ensures { DenialOfNegative H.ZoneHandler handler.now query.now options result }
 {
     if options.dnssec_ok {

@@ -1,6 +1,6 @@
 //! What a server that asked elsewhere replies.
 
-ghost use Rattle.std.specs.Prelude.{◌≡◌, false, filter, option_to_list};
+ghost use Rattle.std.specs.Prelude.{◌≡◌, false, IfOk, filter, option_to_list};
 ghost use Rattle.std.specs.List.{list_all, list_any};
 ghost use Rattle.hickory_base.specs.zone_store.Lookups.{asks_for_dnssec};
 ghost use Rattle.hickory_catalog.specs.Forwarded.{code_alone, findings_contents, findings_of, forwarded_code, forwarded_contents, forwarded_metadata, has_name, is_authentic, is_bogus, is_bogus_proof, is_dnssec_bogus, is_dnssec_type, is_named, is_no_soa, is_passed_on, is_secure, is_secure_proof, nothing_found, passed_on, records_found, seen_findings, validated, without_bogus};
@@ -9,68 +9,68 @@ ghost use Rattle.hickory_catalog.specs.Replies.{contents_of};
 use crate::contents::ReplyContents;
 use hickory_base::errors::{DnsError, LookupError};
 use hickory_base::message_request::MessageRequest;
-use hickory_base::zone_store::{AuthLookup, LookupOptions};
+use hickory_base::zone_store::{AuthLookup, LookupOptions, RecordList};
 use hickory_wire::{
     Boxed, Items, LowerQuery, Metadata, Name, Proof, Record, RecordType, ResponseCode,
 };
-use std::alloc::Global;
+use std::alloc::{AllocError, Global};
 
 /// What there is to pass on.
 #[derive(Drop)]
-pub(crate) struct Findings {
+pub(crate) struct Findings<'z> {
     /// The response code.
     pub code: ResponseCode,
     /// The answers.
-    pub answers: Items<Record>,
+    pub answers: RecordList<'z>,
     /// The authorities, without SOA records where nothing was found.
-    pub authorities: Items<Record>,
+    pub authorities: RecordList<'z>,
     /// The SOA of a negative answer (RFC 2308 sections 2.1 and 2.2).
     pub soa: Option<Boxed<Record>>,
     /// The additionals.
-    pub additionals: Items<Record>,
+    pub additionals: RecordList<'z>,
     /// Whether the proof is known to be wrong, whatever the records say.
     pub is_bogus: bool,
 }
 
 /// A response code alone.
-fn code_alone(alloc: Global, code: ResponseCode, is_bogus: bool) -> Findings
+fn code_alone<'z>(code: ResponseCode, is_bogus: bool) -> Findings<'z>
     ensures { seen_findings result ≡ code_alone code is_bogus }
 {
     Findings {
         code,
-        answers: Items::new(alloc),
-        authorities: Items::new(alloc),
+        answers: RecordList::empty(),
+        authorities: RecordList::empty(),
         soa: None,
-        additionals: Items::new(alloc),
+        additionals: RecordList::empty(),
         is_bogus,
     }
 }
 
 /// Answers, without a response code and anything else.
-fn answers_alone(alloc: Global, answers: Items<Record>) -> Findings
-    ensures { seen_findings result ≡ record (code_alone 0 false) { answers = answers } }
+fn answers_alone<'z>(answers: RecordList<'z>) -> Findings<'z>
+    ensures { seen_findings result ≡ record (code_alone 0 false) { answers = answers.entry } }
 {
-    let mut findings = code_alone(alloc, ResponseCode::NO_ERROR, false);
+    let mut findings = code_alone(ResponseCode::NO_ERROR, false);
     findings.answers = answers;
     findings
 }
 
 /// What there is to pass on of records that were found.
-fn records_found(alloc: Global, found: AuthLookup) -> Findings
-    ensures { seen_findings result ≡ records_found found }
+fn records_found<'z>(found: AuthLookup<'z>) -> Findings<'z>
+    ensures { seen_findings result ≡ records_found found.entry }
 {
     match found {
-        AuthLookup::Empty => code_alone(alloc, ResponseCode::NO_ERROR, false),
+        AuthLookup::Empty => code_alone(ResponseCode::NO_ERROR, false),
         AuthLookup::Resolved(found) => Findings {
             code: ResponseCode::NO_ERROR,
-            answers: found.answers,
-            authorities: found.authorities,
+            answers: RecordList::owned(found.answers),
+            authorities: RecordList::owned(found.authorities),
             soa: None,
-            additionals: found.additionals,
+            additionals: RecordList::owned(found.additionals),
             is_bogus: false,
         },
-        AuthLookup::Records { answers, .. } => answers_alone(alloc, answers),
-        AuthLookup::Whole(reply) => answers_alone(alloc, reply.answers),
+        AuthLookup::Records { answers, .. } => answers_alone(answers),
+        AuthLookup::Whole(reply) => answers_alone(reply.answers),
     }
 }
 
@@ -113,10 +113,10 @@ fn forwarded_code(name: &Name, e: &LookupError) -> ResponseCode
 }
 
 /// What there is to pass on of a negative answer.
-fn nothing_found(alloc: Global, name: &Name, e: LookupError) -> Findings
+fn nothing_found<'z>(name: &Name, e: LookupError) -> Findings<'z>
     ensures { seen_findings result ≡ nothing_found name.now e }
 {
-    let mut findings = code_alone(alloc, forwarded_code(name, &e), false);
+    let mut findings = code_alone(forwarded_code(name, &e), false);
     match e {
         LookupError::Net(
             DnsError::NoRecords {
@@ -125,7 +125,7 @@ fn nothing_found(alloc: Global, name: &Name, e: LookupError) -> Findings
                 ..
             },
         ) => {
-            findings.authorities = without_soa(authorities);
+            findings.authorities = RecordList::owned(without_soa(authorities));
             findings.soa = soa;
         }
         _ => {}
@@ -141,16 +141,16 @@ fn is_dnssec_bogus(e: &LookupError) -> bool
 }
 
 /// What there is to pass on for an answer.
-fn findings_of(alloc: Global, name: &Name, outcome: Result<AuthLookup, LookupError>) -> Findings
-    ensures { seen_findings result ≡ findings_of name.now outcome }
+fn findings_of<'z>(name: &Name, outcome: Result<AuthLookup<'z>, LookupError>) -> Findings<'z>
+    ensures { seen_findings result ≡ findings_of name.now outcome.entry }
 {
     match outcome {
-        Ok(found) => records_found(alloc, found),
+        Ok(found) => records_found(found),
         Err(e) => {
             if e.is_no_records_found() || e.is_nx_domain() {
-                nothing_found(alloc, name, e)
+                nothing_found(name, e)
             } else {
-                code_alone(alloc, ResponseCode::SERV_FAIL, is_dnssec_bogus(&e))
+                code_alone(ResponseCode::SERV_FAIL, is_dnssec_bogus(&e))
             }
         }
     }
@@ -185,7 +185,7 @@ fn all_are_secure(records: &[Record]) -> bool
 }
 
 /// Whether what there is to pass on is known to be wrong.
-fn is_bogus(found: &Findings) -> bool
+fn is_bogus(found: &Findings<'_>) -> bool
     ensures { result ≡ is_bogus (seen_findings found.now) }
 {
     found.is_bogus
@@ -198,7 +198,7 @@ fn is_bogus(found: &Findings) -> bool
 }
 
 /// Whether there are records, and all are proved.
-fn is_secure(found: &Findings) -> bool
+fn is_secure(found: &Findings<'_>) -> bool
     ensures { result ≡ is_secure (seen_findings found.now) }
 {
     if is_bogus(found) {
@@ -216,13 +216,13 @@ fn is_secure(found: &Findings) -> bool
 }
 
 /// What is passed on of a bogus answer.
-fn without_bogus(alloc: Global, found: Findings) -> Findings
-    ensures { seen_findings result ≡ without_bogus (seen_findings found) }
+fn without_bogus<'z>(found: Findings<'z>) -> Findings<'z>
+    ensures { seen_findings result ≡ without_bogus (seen_findings found.entry) }
 {
     let mut found = found;
     found.code = ResponseCode::SERV_FAIL;
     if found.soa.is_none() {
-        found.answers = Items::new(alloc);
+        found.answers = RecordList::empty();
     } else {
         found.soa = None;
     }
@@ -230,11 +230,11 @@ fn without_bogus(alloc: Global, found: Findings) -> Findings
 }
 
 /// What is passed on, for a handler that validates or not.
-fn validated(alloc: Global, validates: bool, request: &Metadata, found: Findings) -> Findings
-    ensures { seen_findings result ≡ validated validates request.now (seen_findings found) }
+fn validated<'z>(validates: bool, request: &Metadata, found: Findings<'z>) -> Findings<'z>
+    ensures { seen_findings result ≡ validated validates request.now (seen_findings found.entry) }
 {
     if validates && is_bogus(&found) && !request.checking_disabled {
-        without_bogus(alloc, found)
+        without_bogus(found)
     } else {
         found
     }
@@ -248,7 +248,7 @@ fn asks_for_dnssec(request: &MessageRequest) -> bool
 }
 
 /// Whether the reply has AD.
-fn is_authentic(validates: bool, request: &MessageRequest, found: &Findings) -> bool
+fn is_authentic(validates: bool, request: &MessageRequest, found: &Findings<'_>) -> bool
     ensures { result ≡ is_authentic validates request.now (seen_findings found.now) }
 {
     validates && is_secure(found) && (request.metadata.authentic_data || asks_for_dnssec(request))
@@ -281,15 +281,40 @@ fn is_passed_on(dnssec_ok: bool, query_type: RecordType, given: &Record) -> bool
     dnssec_ok || !is_dnssec_type(record_type) || record_type.value() == query_type.value()
 }
 
-/// The records that are passed on.
-fn passed_on(request: &MessageRequest, query: &LowerQuery, records: Items<Record>) -> Items<Record>
-    ensures { result ≡ passed_on request.now query.now records }
+/// Whether all records are passed on.
+fn all_are_passed_on(dnssec_ok: bool, query_type: RecordType, records: &[Record]) -> bool
+    ensures { result ≡ list_all (is_passed_on dnssec_ok query_type) records.now }
 {
-    let dnssec_ok = asks_for_dnssec(request);
-    let query_type = query.query_type();
+    records
+        .iter()
+        .all(|record| is_passed_on(dnssec_ok, query_type, record))
+}
+
+/// Those of the records that are passed on.
+fn filtered(dnssec_ok: bool, query_type: RecordType, records: Items<Record>) -> Items<Record>
+    ensures { result ≡ filter (is_passed_on dnssec_ok query_type) records }
+{
     let mut records = records.into_vec();
     records.retain(|record| is_passed_on(dnssec_ok, query_type, record));
     Items::from_vec(records)
+}
+
+/// The records that are passed on. It takes memory only where some are left out of a list that is lent.
+fn passed_on<'z>(
+    alloc: Global,
+    request: &MessageRequest,
+    query: &LowerQuery,
+    records: RecordList<'z>,
+) -> Result<RecordList<'z>, AllocError>
+    ensures { IfOk result (λ kept. kept ≡ passed_on request.now query.now records.entry) }
+{
+    let dnssec_ok = asks_for_dnssec(request);
+    let query_type = query.query_type();
+    if all_are_passed_on(dnssec_ok, query_type, records.as_slice()) {
+        return Ok(records);
+    }
+    let records = records.into_items(alloc)?;
+    Ok(RecordList::owned(filtered(dnssec_ok, query_type, records)))
 }
 
 /// The SOA that is passed on.
@@ -324,42 +349,42 @@ fn forwarded_metadata(request: &Metadata, authentic: bool, code: ResponseCode) -
 }
 
 /// What the reply says with what is passed on.
-fn findings_contents(
+fn findings_contents<'z>(
     alloc: Global,
     request: &MessageRequest,
     query: &LowerQuery,
     authentic: bool,
-    found: Findings,
-) -> ReplyContents
-    ensures { contents_of result ≡ findings_contents request.now query.now authentic (seen_findings found) }
+    found: Findings<'z>,
+) -> Result<ReplyContents<'z>, AllocError>
+    ensures { IfOk result (λ contents. contents_of contents ≡ findings_contents request.now query.now authentic (seen_findings found.entry)) }
 {
-    ReplyContents {
+    Ok(ReplyContents {
         metadata: forwarded_metadata(&request.metadata, authentic, found.code),
-        answers: passed_on(request, query, found.answers),
+        answers: passed_on(alloc, request, query, found.answers)?,
         soa: soa_passed_on(request, query, found.soa),
-        authorities: Items::new(alloc),
-        other_authorities: passed_on(request, query, found.authorities),
-        additionals: passed_on(request, query, found.additionals),
-    }
+        authorities: RecordList::empty(),
+        other_authorities: passed_on(alloc, request, query, found.authorities)?,
+        additionals: passed_on(alloc, request, query, found.additionals)?,
+    })
 }
 
 /// What a handler that asks elsewhere replies to what the chain answered in the end.
-pub(crate) fn forwarded_contents(
+pub(crate) fn forwarded_contents<'z>(
     alloc: Global,
     request: &MessageRequest,
     query: &LowerQuery,
     validates: bool,
-    outcome: Result<AuthLookup, LookupError>,
-) -> ReplyContents
-    ensures { contents_of result ≡ forwarded_contents request.now query.now validates outcome }
+    outcome: Result<AuthLookup<'z>, LookupError>,
+) -> Result<ReplyContents<'z>, AllocError>
+    ensures { IfOk result (λ contents. contents_of contents ≡ forwarded_contents request.now query.now validates outcome.entry) }
 {
     if !request.metadata.recursion_desired {
         drop(outcome);
         let refused = forwarded_metadata(&request.metadata, false, ResponseCode::REFUSED);
-        return ReplyContents::bare(alloc, refused);
+        return Ok(ReplyContents::bare(refused));
     }
-    let found = findings_of(alloc, &query.original().name, outcome);
+    let found = findings_of(&query.original().name, outcome);
     let authentic = is_authentic(validates, request, &found);
-    let found = validated(alloc, validates, &request.metadata, found);
+    let found = validated(validates, &request.metadata, found);
     findings_contents(alloc, request, query, authentic, found)
 }

@@ -6,7 +6,7 @@ ghost use Rattle.wire_messages.specs.declared.op.header.Header.{Header};
 ghost use Rattle.wire_messages.specs.declared.op.header.Metadata.{Metadata};
 ghost use Rattle.hickory_catalog.specs.Alone.{ApexesStay, OfZoneIsDecided, OneChain, OthersStay, ServedAlone};
 ghost use Rattle.hickory_catalog.specs.AuthoritativeLaws.{AuthoritativeCodes, AuthoritativeHeaders, NegativeReplies, ReferralsAreNoAnswers};
-ghost use Rattle.hickory_catalog.specs.DecodedReplies.{CatalogReplyDecodes, ErrorRepliesFit, QueryRepliesFit, ReplyEdnsFits, RequestRepliesFit, SignedRepliesFit, UpdateRepliesFit};
+ghost use Rattle.hickory_catalog.specs.DecodedReplies.{CatalogReplyDecodes, ErrorRepliesFit, QueryRepliesFit, ReplyEdnsFits, RequestRepliesFit, SignedRepliesFit, TransferRepliesFit, UpdateRepliesFit};
 ghost use Rattle.hickory_catalog.specs.ForwardedLaws.{AuthenticWhereProved, DnssecRecordsOnDemand, ForwardedCodes, ForwardedHeaders, NothingBogusPassedOn, RefusedWithoutRecursion, SoaOfNegativeAnswer};
 ghost use Rattle.hickory_catalog.specs.OneReply.{OneReply};
 ghost use Rattle.hickory_catalog.specs.Sending.{AreTaken, SendsInOrder};
@@ -41,12 +41,13 @@ pub fn authoritative_replies<H: ZoneHandler>()
     ensures negative { NegativeReplies H.ZoneHandler }
 {}
 
-/// What the replies of a catalog, to a query, to an update, with an error, or to whatever the request is, have of their requests: id, opcode, questions, and EDNS with the
+/// What the replies of a catalog, to a query, to one that is answered by a transfer, to an update, with an error, or to whatever the request is, have of their requests: id, opcode, questions, and EDNS with the
 /// high bits of their code. None has TC of its own (RFC 1035 section 4.1.1, RFC 6891 section 6.1.3).
 pub fn replies_of_requests<S: ReplySigner, H: ZoneHandler>()
     ensures queries { QueryRepliesFit H.ZoneHandler S.signature_for }
     ensures updates { UpdateRepliesFit H.ZoneHandler S.signature_for }
     ensures requests { RequestRepliesFit H.ZoneHandler S.signature_for }
+    ensures transfers { TransferRepliesFit H.ZoneHandler S.signature_for }
     ensures errors { ErrorRepliesFit }
     ensures signed { SignedRepliesFit }
     ensures edns { ReplyEdnsFits }

@@ -14,7 +14,6 @@ mod requests;
 mod sending;
 pub mod signer;
 mod signing;
-mod stored;
 mod transfer_replies;
 mod transfers;
 mod updates;

@@ -1,14 +1,14 @@
 //! From a query to its replies.
 
-ghost use Rattle.std.specs.Prelude.{◌≡◌, ◌==◌, ◌<◌, ◌^◌, true, false, List, Option, IfOk, IfErr, IfSome, IsSome, Some, length, slice_get};
-ghost use Rattle.wire_messages.specs.op.EdnsFields.{EdnsFields};
+ghost use Rattle.std.specs.Prelude.{◌≡◌, ◌==◌, ◌<◌, ◌^◌, ◌∷◌, [], ℕ, true, false, List, Option, IfOk, IfErr, IsSome, None, Some, length, slice_get};
 ghost use Rattle.wire_messages.specs.serialize.writing.Reply.{Reply};
-ghost use Rattle.hickory_base.specs.zone_store.Lookups.{result_of};
+ghost use Rattle.wire_messages.specs.declared.rr.tsig.TSigResponseContext.{TSigResponseContext};
+ghost use Rattle.hickory_base.specs.zone_store.Lookups.{result_of, whole_reply};
 ghost use Rattle.hickory_base.specs.requests.Requests.{information};
 ghost use Rattle.hickory_base.specs.responses.Responses.{header_of};
 ghost use Rattle.hickory_catalog.specs.Forwarded.{forwarded_contents};
 ghost use Rattle.hickory_catalog.specs.Queries.{GivenReplies, HandlerReply, QueryReplies, ReplyByType, ZoneReplies, ZoneReply, consult_options, is_out_of_memory, whole_contents};
-ghost use Rattle.hickory_catalog.specs.Replies.{Contents, contents_of, lent_contents, unsigned_reply};
+ghost use Rattle.hickory_catalog.specs.Replies.{Contents, contents_of};
 ghost use Rattle.hickory_catalog.specs.Sending.{IsUntouched, Sends, SendsInOrder};
 ghost use Rattle.hickory_catalog.specs.Server.{server_of};
 ghost use Rattle.hickory_catalog.specs.Signing.{SignedReply};
@@ -18,23 +18,22 @@ ghost use Rattle.hickory_catalog.specs.WholeTransfers.{ChainTransfers};
 
 use crate::authoritative::authoritative_contents;
 use crate::catalog::Catalog;
-use crate::chains::{ChainAnswer, chain_answer, is_memory};
-use crate::contents::{LentContents, ReplyContents};
+use crate::chains::{chain_answer, is_memory, options_of};
+use crate::contents::ReplyContents;
+use crate::edns::set_high_code;
 use crate::forwarded::forwarded_contents;
 use crate::sending::{send_error, send_lent};
 use crate::signer::ReplySigner;
-use crate::signing::send_signed;
-use crate::stored::stored_contents;
+use crate::signing::{send_signed, send_with_signature};
 use crate::transfer_replies::send_transfer;
 use crate::transfers::{ask_for_transfer, split_records, transfer_contents};
 use hickory_base::errors::{CatalogError, LookupError};
+use hickory_base::message_request::MessageRequest;
 use hickory_base::server::{Request, RequestInfo, ResponseHandler, ResponseInfo};
 use hickory_base::zone_store::{
     AuthLookup, LookupControlFlow, LookupOptions, WholeReply, ZoneHandler, ZoneTransfer, ZoneType,
 };
-use hickory_wire::{
-    Edns, Items, LowerQuery, Metadata, RecordType, ResponseCode, TSigResponseContext,
-};
+use hickory_wire::{Edns, LowerQuery, Metadata, RecordType, ResponseCode, TSigResponseContext};
 use std::alloc::Global;
 use std::mem;
 
@@ -65,87 +64,138 @@ fn is_out_of_memory<T>(outcome: &Result<T, LookupError>) -> bool
 }
 
 /// What a handler that asks elsewhere replies to what the chain answered in the end, which is taken out.
-fn external_contents<H: ZoneHandler>(
+fn external_contents<'z, H: ZoneHandler>(
     handler: &H,
     alloc: Global,
     request: &Request,
     query: &LowerQuery,
-    outcome: &mut Result<AuthLookup, LookupError>,
-) -> ReplyContents
-    ensures { contents_of result ≡ forwarded_contents request.now.message query.now (H.validates_dnssec handler.now) outcome.old }
+    outcome: &mut Result<AuthLookup<'z>, LookupError>,
+) -> Result<ReplyContents<'z>, CatalogError>
+    ensures replied { IfOk result (λ contents. contents_of contents ≡ forwarded_contents request.now.message query.now (H.validates_dnssec handler.now) outcome.old) }
+    ensures refused { IfErr result (λ e. e ≡ CatalogError.Memory) }
 {
     let validates = handler.can_validate_dnssec();
     let outcome = mem::replace(outcome, Ok(AuthLookup::Empty));
-    forwarded_contents(alloc, request.message(), query, validates, outcome)
+    let contents = forwarded_contents(alloc, request.message(), query, validates, outcome)?;
+    Ok(contents)
 }
 
-/// What a reply says that a handler has whole, whose records are taken out.
-fn whole_contents(alloc: Global, request: &Metadata, reply: &mut WholeReply) -> ReplyContents
-    ensures says { contents_of result ≡ whole_contents request.now reply.old }
-    ensures in_range { reply.old.response_code < 2 ^ 12 }
+/// The metadata of a reply that a handler has whole.
+fn whole_metadata(request: &Metadata, reply: &WholeReply<'_>) -> Metadata
+    ensures says { result ≡ (whole_contents request.now reply.now).metadata }
+    ensures in_range { reply.now.response_code < 2 ^ 12 }
 {
     // That a code has twelve bits is known of one whose number was looked at.
     let _ = reply.response_code.value();
     let mut metadata = Metadata::response_from_request(request);
     metadata.authoritative = reply.authoritative;
     metadata.response_code = reply.response_code;
-    let mut contents = ReplyContents::bare(alloc, metadata);
-    contents.answers = mem::replace(&mut reply.answers, Items::new(alloc));
-    contents.authorities = mem::replace(&mut reply.authorities, Items::new(alloc));
-    contents.additionals = mem::replace(&mut reply.additionals, Items::new(alloc));
+    metadata
+}
+
+/// What a reply says that a handler has whole, whose records are taken out.
+fn whole_contents<'z>(request: &Metadata, reply: &mut WholeReply<'z>) -> ReplyContents<'z>
+    ensures says { contents_of result ≡ whole_contents request.now reply.old }
+    ensures in_range { reply.old.response_code < 2 ^ 12 }
+{
+    let mut contents = ReplyContents::bare(whole_metadata(request, reply));
+    contents.answers = reply.answers.take();
+    contents.authorities = reply.authorities.take();
+    contents.additionals = reply.additionals.take();
     contents
 }
 
-/// What the handler that was asked replies to what the chain answered in the end, whose records may be taken out.
-fn handler_contents<H: ZoneHandler>(
-    handler: &H,
+/// Answers by a reply that a handler has whole, whose records are taken out, signed as this context has it.
+#[inline(never)]
+fn answer_whole_signed<S: ReplySigner, R: ResponseHandler>(
+    signer: &S,
+    alloc: Global,
+    request: &MessageRequest,
+    edns: &mut Option<Edns>,
+    whole: &mut WholeReply<'_>,
+    context: &TSigResponseContext,
+    sink: &mut R,
+) -> Result<ResponseInfo, CatalogError>
+    ensures replied { IfOk result (λ info. (reply : Reply) × (whole.old.response_code < 2 ^ 12) ×
+        SignedReply (S.signature_for signer.now) request.now edns.old (whole_contents request.now.metadata whole.old) (Some context.entry.now) reply ×
+        Sends R.ResponseHandler request.now.metadata sink.old sink.new reply (header_of info)) }
+    ensures refused { IfErr result (λ e. (e ≡ CatalogError.Memory) × IsUntouched R.ResponseHandler sink.old sink.new) }
+{
+    let contents = whole_contents(&request.metadata, whole);
+    let told = send_with_signature(signer, alloc, request, edns, &contents, context, sink);
+    drop(contents);
+    told
+}
+
+/// Answers by a reply that a handler has whole. Its records stay where they lie, but where it is signed.
+fn answer_whole<S: ReplySigner, R: ResponseHandler>(
+    signer: &S,
+    alloc: Global,
+    request: &MessageRequest,
+    edns: &mut Option<Edns>,
+    whole: &mut WholeReply<'_>,
+    context: &Option<TSigResponseContext>,
+    sink: &mut R,
+) -> Result<ResponseInfo, CatalogError>
+    ensures replied { IfOk result (λ info. (reply : Reply) × (whole.old.response_code < 2 ^ 12) ×
+        SignedReply (S.signature_for signer.now) request.now edns.old (whole_contents request.now.metadata whole.old) context.now reply ×
+        Sends R.ResponseHandler request.now.metadata sink.old sink.new reply (header_of info)) }
+    ensures refused { IfErr result (λ e. (e ≡ CatalogError.Memory) × IsUntouched R.ResponseHandler sink.old sink.new) }
+{
+    match context {
+        Some(context) => { answer_whole_signed(signer, alloc, request, edns, whole, context, sink) }
+        None => {
+            let metadata = whole_metadata(&request.metadata, whole);
+            set_high_code(metadata.response_code, edns);
+            Ok(send_lent(
+                sink,
+                alloc,
+                request,
+                edns.as_ref(),
+                metadata,
+                whole.answers.as_slice(),
+                whole.authorities.as_slice(),
+                whole.additionals.as_slice(),
+            ))
+        }
+    }
+}
+
+/// What the handler that was asked replies to what the chain answered in the end, whose records may be taken out, where that is not the whole reply.
+fn handler_contents<'z, H: ZoneHandler>(
+    handler: &'z H,
     alloc: Global,
     request: &Request,
     query: &LowerQuery,
-    outcome: &mut Result<AuthLookup, LookupError>,
-) -> Result<ReplyContents, CatalogError>
+    outcome: &mut Result<AuthLookup<'z>, LookupError>,
+) -> Result<ReplyContents<'z>, CatalogError>
     ensures replied { IfOk result (λ contents. (is_out_of_memory outcome.old ≡ false) ×
-        HandlerReply H.ZoneHandler handler.now (H.zone_type_of handler.now) request.now query.now outcome.old (contents_of contents)) }
+        ReplyByType H.ZoneHandler handler.now (H.zone_type_of handler.now) request.now query.now outcome.old (contents_of contents)) }
     ensures refused { IfErr result (λ e. e ≡ CatalogError.Memory) }
 {
     if is_out_of_memory(outcome) {
         return Err(CatalogError::Memory);
     }
-    match outcome {
-        Ok(AuthLookup::Whole(reply)) => Ok(whole_contents(alloc, request.metadata(), reply)),
-        other => contents_by_type(handler, alloc, request, query, other),
-    }
-}
-
-/// The same where that is not the whole reply.
-fn contents_by_type<H: ZoneHandler>(
-    handler: &H,
-    alloc: Global,
-    request: &Request,
-    query: &LowerQuery,
-    outcome: &mut Result<AuthLookup, LookupError>,
-) -> Result<ReplyContents, CatalogError>
-    ensures replied { IfOk result (λ contents. ReplyByType H.ZoneHandler handler.now (H.zone_type_of handler.now) request.now query.now outcome.old (contents_of contents)) }
-    ensures refused { IfErr result (λ e. e ≡ CatalogError.Memory) }
-{
     match handler.zone_type() {
         ZoneType::Primary | ZoneType::Secondary => {
             authoritative_contents(handler, alloc, request, query, outcome)
         }
-        ZoneType::External => { Ok(external_contents(handler, alloc, request, query, outcome)) }
+        ZoneType::External => external_contents(handler, alloc, request, query, outcome),
     }
 }
 
-/// Answers to what a chain answered in the end, whose records may be taken out, where the handler at this place was asked.
-fn answer_outcome<S: ReplySigner, H: ZoneHandler, R: ResponseHandler>(
-    asked: &ZoneQuery<'_, S, H>,
+/// Answers to what a chain answered in the end, whose records may be taken out, where the handler at this place was asked and that is not the whole reply.
+#[inline(never)]
+fn answer_by_contents<'q, S: ReplySigner, H: ZoneHandler, R: ResponseHandler>(
+    asked: &ZoneQuery<'q, S, H>,
     place: usize,
-    outcome: &mut Result<AuthLookup, LookupError>,
+    outcome: &mut Result<AuthLookup<'q>, LookupError>,
     context: &Option<TSigResponseContext>,
     edns: &mut Option<Edns>,
     sink: &mut R,
 ) -> Result<ResponseInfo, CatalogError>
-    requires { place < length asked.now.chain.now }
+    requires place { place < length asked.now.chain.now }
+    requires other { whole_reply outcome.old ≡ None }
     ensures replied { IfOk result (λ info. (handler : H) × (contents : Contents) × (reply : Reply) ×
         (slice_get asked.now.chain.now place ≡ Some handler) × (is_out_of_memory outcome.old ≡ false) ×
         HandlerReply H.ZoneHandler handler (H.zone_type_of handler) asked.now.request.now asked.now.query.now outcome.old contents ×
@@ -168,6 +218,37 @@ fn answer_outcome<S: ReplySigner, H: ZoneHandler, R: ResponseHandler>(
     told
 }
 
+/// Answers to what a chain answered in the end, whose records may be taken out, where the handler at this place was asked.
+fn answer_outcome<'q, S: ReplySigner, H: ZoneHandler, R: ResponseHandler>(
+    asked: &ZoneQuery<'q, S, H>,
+    place: usize,
+    outcome: &mut Result<AuthLookup<'q>, LookupError>,
+    context: &Option<TSigResponseContext>,
+    edns: &mut Option<Edns>,
+    sink: &mut R,
+) -> Result<ResponseInfo, CatalogError>
+    requires { place < length asked.now.chain.now }
+    ensures replied { IfOk result (λ info. (handler : H) × (contents : Contents) × (reply : Reply) ×
+        (slice_get asked.now.chain.now place ≡ Some handler) × (is_out_of_memory outcome.old ≡ false) ×
+        HandlerReply H.ZoneHandler handler (H.zone_type_of handler) asked.now.request.now asked.now.query.now outcome.old contents ×
+        SignedReply (S.signature_for asked.now.catalog.now.signer) asked.now.request.now.message edns.old contents context.now reply ×
+        Sends R.ResponseHandler asked.now.request.now.message.metadata sink.old sink.new reply (header_of info)) }
+    ensures refused { IfErr result (λ e. (e ≡ CatalogError.Memory) × IsUntouched R.ResponseHandler sink.old sink.new) }
+{
+    match outcome {
+        Ok(AuthLookup::Whole(whole)) => answer_whole(
+            &asked.catalog.signer,
+            asked.alloc,
+            asked.request.message(),
+            edns,
+            whole,
+            context,
+            sink,
+        ),
+        other => answer_by_contents(asked, place, other, context, edns, sink),
+    }
+}
+
 /// Answers to what a handler gave for a transfer, in one reply.
 fn answer_transferred<S: ReplySigner, R: ResponseHandler>(
     signer: &S,
@@ -187,7 +268,7 @@ fn answer_transferred<S: ReplySigner, R: ResponseHandler>(
         drop(outcome);
         return Err(CatalogError::Memory);
     }
-    let contents = transfer_contents(alloc, request.metadata(), outcome);
+    let contents = transfer_contents(request.metadata(), outcome);
     let told = send_signed(
         signer,
         alloc,
@@ -265,23 +346,30 @@ fn answer_transfer<S: ReplySigner, H: ZoneHandler, R: ResponseHandler>(
     give_transfer(asked, edns, sink)
 }
 
-/// Answers to what the chain of a zone answered, whose records may be taken out, and hands the reply over, with this EDNS.
-fn answer_chained<S: ReplySigner, H: ZoneHandler, R: ResponseHandler>(
-    asked: &ZoneQuery<'_, S, H>,
-    answered: &mut ChainAnswer,
+/// Answers to what the chain of a zone answered, at this place if it did, and hands the reply over, with this EDNS. The records of the answer may be
+/// taken out.
+fn answer_chained<'q, S: ReplySigner, H: ZoneHandler, R: ResponseHandler>(
+    asked: &ZoneQuery<'q, S, H>,
+    place: usize,
+    given: &mut (
+        LookupControlFlow<AuthLookup<'q>>,
+        Option<TSigResponseContext>,
+    ),
     edns: &mut Option<Edns>,
     sink: &mut R,
 ) -> Result<ResponseInfo, CatalogError>
     requires lookup { (asked.now.query.now.query_type == 252) ≡ false }
-    requires answers { ChainAnswers H.ZoneHandler asked.now.request.now (information asked.now.request.now asked.now.query.now) (consult_options edns.old) asked.now.chain.now answered.old.place answered.old.given.0 answered.old.given.1 }
-    requires place { IsSome (result_of answered.old.given.0) → answered.old.place < length asked.now.chain.now }
+    requires skipped { result_of given.old.0 ≡ None → (behind : ℕ) × (context : Option TSigResponseContext) ×
+        ChainAnswers H.ZoneHandler asked.now.request.now (information asked.now.request.now asked.now.query.now) (consult_options edns.old) asked.now.chain.now behind given.old.0 context }
+    requires answered { IsSome (result_of given.old.0) →
+        ChainAnswers H.ZoneHandler asked.now.request.now (information asked.now.request.now asked.now.query.now) (consult_options edns.old) asked.now.chain.now place given.old.0 given.old.1 }
+    requires place { IsSome (result_of given.old.0) → place < length asked.now.chain.now }
     ensures replied { IfOk result (λ info. (reply : Reply) ×
         ZoneReply (server_of H.ZoneHandler S.signature_for asked.now.catalog.now) asked.now.chain.now asked.now.request.now edns.old asked.now.moment asked.now.query.now reply ×
         Sends R.ResponseHandler asked.now.request.now.message.metadata sink.old sink.new reply (header_of info)) }
     ensures refused { IfErr result (λ e. (e ≡ CatalogError.Memory) × IsUntouched R.ResponseHandler sink.old sink.new) }
 {
-    let place = answered.place;
-    match &mut answered.given.0 {
+    match &mut given.0 {
         LookupControlFlow::Skip => Ok(send_error(
             sink,
             asked.alloc,
@@ -290,30 +378,41 @@ fn answer_chained<S: ReplySigner, H: ZoneHandler, R: ResponseHandler>(
             ResponseCode::SERV_FAIL,
         )),
         LookupControlFlow::Continue(outcome) => {
-            answer_outcome(asked, place, outcome, &answered.given.1, edns, sink)
+            answer_outcome(asked, place, outcome, &given.1, edns, sink)
         }
         LookupControlFlow::Break(outcome) => {
-            answer_outcome(asked, place, outcome, &answered.given.1, edns, sink)
+            answer_outcome(asked, place, outcome, &given.1, edns, sink)
         }
     }
 }
 
-/// What the one handler of a zone replies with what lies in it, where it keeps its answers. Nobody else is there to be consulted.
-fn stored_in_chain<'q, S: ReplySigner, H: ZoneHandler>(
+/// Answers a query of a zone of one handler, but for a transfer, and hands the reply over, with this EDNS. Nobody else is there to be consulted, and the
+/// answer stays where the handler puts it.
+fn answer_alone<'q, S: ReplySigner, H: ZoneHandler, R: ResponseHandler>(
     asked: &ZoneQuery<'q, S, H>,
-) -> Option<LentContents<'q>>
-    ensures { (asked.now.query.now.query_type == 252) ≡ false → IfSome result (λ contents. (edns : Option EdnsFields) →
-        ZoneReply (server_of H.ZoneHandler S.signature_for asked.now.catalog.now) asked.now.chain.now asked.now.request.now edns asked.now.moment asked.now.query.now
-        (unsigned_reply asked.now.request.now.message edns (lent_contents contents))) }
+    handler: &'q H,
+    edns: &mut Option<Edns>,
+    sink: &mut R,
+) -> Result<ResponseInfo, CatalogError>
+    requires lookup { (asked.now.query.now.query_type == 252) ≡ false }
+    requires alone { asked.now.chain.now ≡ handler.now ∷ [] }
+    ensures replied { IfOk result (λ info. (reply : Reply) ×
+        ZoneReply (server_of H.ZoneHandler S.signature_for asked.now.catalog.now) asked.now.chain.now asked.now.request.now edns.old asked.now.moment asked.now.query.now reply ×
+        Sends R.ResponseHandler asked.now.request.now.message.metadata sink.old sink.new reply (header_of info)) }
+    ensures refused { IfErr result (λ e. (e ≡ CatalogError.Memory) × IsUntouched R.ResponseHandler sink.old sink.new) }
 {
-    match asked.chain {
-        [handler] => stored_contents(handler, asked.request, asked.query),
-        _ => None,
-    }
+    let request = asked.request;
+    let options = options_of(request);
+    answer_chained(
+        asked,
+        0,
+        &mut handler.search(asked.alloc, request, options),
+        edns,
+        sink,
+    )
 }
 
-/// Answers a query of a zone, but for a transfer, by what its handlers say, and hands the reply over, with this EDNS. It stands apart, so that no room is made for an
-/// answer where the zone keeps one.
+/// Answers a query of a zone of other chains, but for a transfer, and hands the reply over, with this EDNS.
 #[inline(never)]
 fn answer_by_chain<S: ReplySigner, H: ZoneHandler, R: ResponseHandler>(
     asked: &ZoneQuery<'_, S, H>,
@@ -336,7 +435,7 @@ fn answer_by_chain<S: ReplySigner, H: ZoneHandler, R: ResponseHandler>(
     );
     let options = LookupOptions::from_edns(edns.as_ref());
     let mut answered = chain_answer(asked.chain, alloc, request, &info, options);
-    let told = answer_chained(asked, &mut answered, edns, sink);
+    let told = answer_chained(asked, answered.place, &mut answered.given, edns, sink);
     drop(answered);
     told
 }
@@ -353,25 +452,10 @@ fn answer_lookup<S: ReplySigner, H: ZoneHandler, R: ResponseHandler>(
         Sends R.ResponseHandler asked.now.request.now.message.metadata sink.old sink.new reply (header_of info)) }
     ensures refused { IfErr result (λ e. (e ≡ CatalogError.Memory) × IsUntouched R.ResponseHandler sink.old sink.new) }
 {
-    if let Some(contents) = stored_in_chain(asked) {
-        let LentContents {
-            metadata,
-            answers,
-            authorities,
-        } = contents;
-        let message = asked.request.message();
-        let told = send_lent(
-            sink,
-            asked.alloc,
-            message,
-            edns,
-            metadata,
-            answers,
-            authorities,
-        );
-        return Ok(told);
+    match asked.chain {
+        [handler] => answer_alone(asked, handler, edns, sink),
+        _ => answer_by_chain(asked, edns, sink),
     }
-    answer_by_chain(asked, edns, sink)
 }
 
 /// Answers a query, and hands the replies over, with this EDNS.

@@ -1,11 +1,11 @@
 //! Handing replies to a sink.
 
-ghost use Rattle.std.specs.Prelude.{◌≡◌, [], IfOk, IfErr};
+ghost use Rattle.std.specs.Prelude.{◌≡◌, IfOk, IfErr};
 ghost use Rattle.std.specs.Iterator.{IsFinite};
 ghost use Rattle.std.specs.Option.{option_copied};
 ghost use Rattle.wire_messages.specs.serialize.writing.Reply.{Reply};
 ghost use Rattle.hickory_base.specs.responses.Responses.{IsReplyBy, header_of};
-ghost use Rattle.hickory_catalog.specs.Replies.{contents_of, error_reply, plain_reply, unsigned_reply};
+ghost use Rattle.hickory_catalog.specs.Replies.{contents_of, error_reply, plain_reply};
 ghost use Rattle.hickory_catalog.specs.Sending.{Fails, Sends, Takes, failure_header};
 ghost use Rattle.hickory_catalog.specs.Transfers.{message_of_transfer};
 
@@ -87,7 +87,7 @@ pub(crate) fn send_contents<R: ResponseHandler>(
     alloc: Global,
     request: &MessageRequest,
     edns: Option<&Edns>,
-    contents: &ReplyContents,
+    contents: &ReplyContents<'_>,
     signature: Option<Boxed<Record<TSIG>>>,
 ) -> ResponseInfo
     ensures { Sends R.ResponseHandler request.now.metadata sink.old sink.new
@@ -95,6 +95,24 @@ pub(crate) fn send_contents<R: ResponseHandler>(
 {
     let mut response = response(request, edns, contents);
     response.signature = signature;
+    told(send_once(sink, alloc, &request.metadata, response))
+}
+
+/// Hands over a reply of this metadata and these records where they lie, with this EDNS and without a signature.
+pub(crate) fn send_lent<R: ResponseHandler>(
+    sink: &mut R,
+    alloc: Global,
+    request: &MessageRequest,
+    edns: Option<&Edns>,
+    metadata: Metadata,
+    answers: &[Record],
+    authorities: &[Record],
+    additionals: &[Record],
+) -> ResponseInfo
+    ensures { Sends R.ResponseHandler request.now.metadata sink.old sink.new
+        (plain_reply request.now (option_copied edns.entry) (record { metadata = metadata; answers = answers.now; authorities = authorities.now; additionals = additionals.now })) (header_of result) }
+{
+    let response = lent_response(request, edns, metadata, answers, authorities, additionals);
     told(send_once(sink, alloc, &request.metadata, response))
 }
 
@@ -111,26 +129,8 @@ pub(crate) fn send_records<R: ResponseHandler>(
     ensures failed { IfErr result (λ info. Fails R.ResponseHandler request.now.metadata sink.old sink.new (message_of_transfer request.now (option_copied edns.entry) records.now) (header_of info)) }
 {
     let metadata = authoritative_metadata(&request.metadata, ResponseCode::NO_ERROR);
-    let response = lent_response(request, edns, metadata, records, &[]);
+    let response = lent_response(request, edns, metadata, records, &[], &[]);
     send_once(sink, alloc, &request.metadata, response)
-}
-
-/// Hands a reply over that has this metadata and these records, with this EDNS, and is not signed.
-pub(crate) fn send_lent<R: ResponseHandler>(
-    sink: &mut R,
-    alloc: Global,
-    request: &MessageRequest,
-    edns: &mut Option<Edns>,
-    metadata: Metadata,
-    answers: &[Record],
-    authorities: &[Record],
-) -> ResponseInfo
-    ensures { Sends R.ResponseHandler request.now.metadata sink.old sink.new
-        (unsigned_reply request.now edns.old (record { metadata = metadata; answers = answers.now; authorities = authorities.now; additionals = [] })) (header_of result) }
-{
-    set_high_code(metadata.response_code, edns);
-    let response = lent_response(request, edns.as_ref(), metadata, answers, authorities);
-    told(send_once(sink, alloc, &request.metadata, response))
 }
 
 /// Hands an error reply over, with this EDNS: a response code, and no records.
@@ -144,6 +144,6 @@ pub(crate) fn send_error<R: ResponseHandler>(
     ensures { Sends R.ResponseHandler request.now.metadata sink.old sink.new (error_reply request.now edns.old code) (header_of result) }
 {
     set_high_code(code, edns);
-    let contents = ReplyContents::error(alloc, &request.metadata, code);
+    let contents = ReplyContents::error(&request.metadata, code);
     send_contents(sink, alloc, request, edns.as_ref(), &contents, None)
 }

@@ -28,7 +28,7 @@ fn emit(
     encoder: &mut BinEncoder<'_>,
     request: &MessageRequest,
     edns: Option<&Edns>,
-    contents: &ReplyContents,
+    contents: &ReplyContents<'_>,
 ) -> Result<ResponseInfo, ProtoError>
     requires { written_bytes encoder.old ≡ [] }
     ensures same_vector { IsSameVector encoder.old encoder.new }
@@ -43,7 +43,7 @@ fn written(
     alloc: Global,
     request: &MessageRequest,
     edns: Option<&Edns>,
-    contents: &ReplyContents,
+    contents: &ReplyContents<'_>,
 ) -> Result<Vec<u8>, ProtoError>
     ensures written { IfOk result (λ bytes. (fronts : Fronts) × Written 65535 (plain_reply request.now (option_copied edns.entry) (contents_of contents.now)) bytes.items fronts) }
     ensures refused { IfErr result (λ e. e ≢ ProtoError.Memory → CannotBeWritten 65535 (plain_reply request.now (option_copied edns.entry) (contents_of contents.now)) e) }
@@ -75,7 +75,7 @@ fn signature<S: ReplySigner>(
     alloc: Global,
     request: &MessageRequest,
     edns: Option<&Edns>,
-    contents: &ReplyContents,
+    contents: &ReplyContents<'_>,
     context: &TSigResponseContext,
 ) -> Result<Boxed<Record<TSIG>>, SignError>
     ensures signed { IfOk result (λ signature. IsSignatureOf (S.signature_for signer.now) context.entry.now (plain_reply request.now (option_copied edns.entry) (contents_of contents.now)) (Some signature)) }
@@ -87,26 +87,24 @@ fn signature<S: ReplySigner>(
     }
 }
 
-/// Hands over the reply that says this, with this EDNS, signed where the answer came with a context. Where it cannot be
-/// signed, the reply is ServFail without a signature.
-pub(crate) fn send_signed<S: ReplySigner, R: ResponseHandler>(
+/// Hands over the reply that says this, with this EDNS, signed as this context has it. Where it cannot be signed, the reply is ServFail without a
+/// signature.
+#[inline(never)]
+pub(crate) fn send_with_signature<S: ReplySigner, R: ResponseHandler>(
     signer: &S,
     alloc: Global,
     request: &MessageRequest,
     edns: &mut Option<Edns>,
-    contents: &ReplyContents,
-    context: &Option<TSigResponseContext>,
+    contents: &ReplyContents<'_>,
+    context: &TSigResponseContext,
     sink: &mut R,
 ) -> Result<ResponseInfo, CatalogError>
     ensures replied { IfOk result (λ info. (reply : Reply) ×
-        SignedReply (S.signature_for signer.now) request.now edns.old (contents_of contents.now) context.now reply ×
+        SignedReply (S.signature_for signer.now) request.now edns.old (contents_of contents.now) (Some context.entry.now) reply ×
         Sends R.ResponseHandler request.now.metadata sink.old sink.new reply (header_of info)) }
     ensures refused { IfErr result (λ e. (e ≡ CatalogError.Memory) × IsUntouched R.ResponseHandler sink.old sink.new) }
 {
     set_high_code(contents.metadata.response_code, edns);
-    let Some(context) = context else {
-        return Ok(send_contents(sink, alloc, request, edns.as_ref(), contents, None));
-    };
     match signature(signer, alloc, request, edns.as_ref(), contents, context) {
         Ok(made) => Ok(send_contents(sink, alloc, request, edns.as_ref(), contents, Some(made))),
         Err(SignError::Failed) => Ok(send_error(
@@ -117,5 +115,32 @@ pub(crate) fn send_signed<S: ReplySigner, R: ResponseHandler>(
             ResponseCode::SERV_FAIL,
         )),
         Err(SignError::Memory) => Err(CatalogError::Memory),
+    }
+}
+
+/// The same, signed where the answer came with a context.
+#[inline(always)]
+pub(crate) fn send_signed<S: ReplySigner, R: ResponseHandler>(
+    signer: &S,
+    alloc: Global,
+    request: &MessageRequest,
+    edns: &mut Option<Edns>,
+    contents: &ReplyContents<'_>,
+    context: &Option<TSigResponseContext>,
+    sink: &mut R,
+) -> Result<ResponseInfo, CatalogError>
+    ensures replied { IfOk result (λ info. (reply : Reply) ×
+        SignedReply (S.signature_for signer.now) request.now edns.old (contents_of contents.now) context.now reply ×
+        Sends R.ResponseHandler request.now.metadata sink.old sink.new reply (header_of info)) }
+    ensures refused { IfErr result (λ e. (e ≡ CatalogError.Memory) × IsUntouched R.ResponseHandler sink.old sink.new) }
+{
+    match context {
+        Some(context) => {
+            send_with_signature(signer, alloc, request, edns, contents, context, sink)
+        }
+        None => {
+            set_high_code(contents.metadata.response_code, edns);
+            Ok(send_contents(sink, alloc, request, edns.as_ref(), contents, None))
+        }
     }
 }

@@ -9,7 +9,7 @@ use crate::chains::options_of;
 use crate::contents::ReplyContents;
 use hickory_base::errors::LookupError;
 use hickory_base::server::Request;
-use hickory_base::zone_store::{ZoneHandler, ZoneTransfer};
+use hickory_base::zone_store::{RecordList, ZoneHandler, ZoneTransfer};
 use hickory_wire::{Metadata, Protocol, Record, ResponseCode, TSigResponseContext};
 use std::alloc::Global;
 
@@ -68,20 +68,19 @@ fn transfer_fault(e: &LookupError) -> ResponseCode
 }
 
 /// What the reply to a transfer says.
-pub(crate) fn transfer_contents(
-    alloc: Global,
+pub(crate) fn transfer_contents<'z>(
     request: &Metadata,
     outcome: Result<ZoneTransfer, LookupError>,
-) -> ReplyContents
+) -> ReplyContents<'z>
     ensures { contents_of result ≡ transfer_contents request.now outcome }
 {
     match outcome {
         Ok(transfer) => {
             let metadata = authoritative_metadata(request, ResponseCode::NO_ERROR);
-            let mut contents = ReplyContents::bare(alloc, metadata);
-            contents.answers = transfer.records;
+            let mut contents = ReplyContents::bare(metadata);
+            contents.answers = RecordList::owned(transfer.records);
             contents
         }
-        Err(e) => ReplyContents::error(alloc, request, transfer_fault(&e)),
+        Err(e) => ReplyContents::error(request, transfer_fault(&e)),
     }
 }

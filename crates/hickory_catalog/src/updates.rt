@@ -94,12 +94,12 @@ fn update_code(answer: &Result<bool, UpdateFault>) -> Option<ResponseCode>
 }
 
 /// What the reply to an update says, for the id of the request.
-fn update_contents(alloc: Global, id: u16, code: ResponseCode) -> ReplyContents
+fn update_contents<'z>(id: u16, code: ResponseCode) -> ReplyContents<'z>
     ensures { contents_of result ≡ update_contents id code }
 {
     let mut metadata = Metadata::new(id, MessageType::Response, OpCode::UPDATE);
     metadata.response_code = code;
-    ReplyContents::bare(alloc, metadata)
+    ReplyContents::bare(metadata)
 }
 
 /// The fault that says that memory was refused after a handler gave this answer.
@@ -130,7 +130,7 @@ fn answer_updated<S: ReplySigner, R: ResponseHandler>(
     let Some(code) = update_code(answer) else {
         return Err(CatalogError::Memory);
     };
-    let contents = update_contents(alloc, request.metadata().id, code);
+    let contents = update_contents(request.metadata().id, code);
     let message = request.message();
     let told = send_signed(signer, alloc, message, edns, &contents, context, sink);
     drop(contents);

@@ -18,7 +18,7 @@ use Rattle.hickory_base.specs.requests.Requests.{ReceivedRequest}
 use Rattle.hickory_base.specs.responses.EncodingSinks.{IsEncodingOf}
 use Rattle.hickory_base.specs.declared.zone_store.handler.ZoneHandler.{Ghosts}
 use Rattle.hickory_catalog.specs.Alone.{OfZoneIsDecided, OneChain, OthersStay, ServedAlone, ApexesStay}
-use Rattle.hickory_catalog.specs.DecodedReplies.{ErrorRepliesFit, RepliesTo, RequestRepliesFit}
+use Rattle.hickory_catalog.specs.DecodedReplies.{ErrorRepliesFit, RepliesTo, RequestRepliesFit, TransferRepliesFit}
 use Rattle.hickory_catalog.specs.ReplyEdns.{reply_edns, with_high_code}
 use Rattle.hickory_catalog.specs.Server.{Server, server_of}
 use Rattle.hickory_catalog.specs.Signing.{Signer}
@@ -47,10 +47,10 @@ not_refused rules r passes (query, is, inl other) = other (passes query is).0
 not_refused rules r passes (query, is, inr (transfer, may_not)) = may_not ((passes query is).2 transfer).0
 
 not_truncated : (rules : Rules) (r : ReceivedRequest) → IsRuling rules r Pass → IsRuling rules r Truncate → ⊥
-not_truncated rules r passes (query, is, class, transfer, may, udp) = ((passes query is).2 transfer).1 udp
+not_truncated rules r passes (query, is, class, transfer, whole, may, udp) = ((passes query is).2 transfer).1 udp
 
 not_transferred : (rules : Rules) (r : ReceivedRequest) → IsRuling rules r Pass → IsRuling rules r Transfer → ⊥
-not_transferred rules r passes (query, is, class, incremental, may, stream) = (passes query is).1 incremental
+not_transferred rules r passes (query, is, class, incremental, may) = (passes query is).1 incremental
 
 module _ {S H : Type 0} (handler : Ghosts H) (signature_for : S → Signer) where
   pub steps : LetThroughSteps handler signature_for
@@ -88,7 +88,7 @@ module _ {S H : Type 0} (handler : Ghosts H) (signature_for : S → Signer) wher
   -- ---- limits
 
   module _ (limited : (limit : ℕ) (reply : Reply) (bytes : List ℕ) (header : Header) → Encoded limit reply bytes header → length bytes ≤ max limit 12)
-      (fit : RequestRepliesFit handler signature_for) (errors_fit : ErrorRepliesFit) where
+      (fit : RequestRepliesFit handler signature_for) (transfers_fit : TransferRepliesFit handler signature_for) (errors_fit : ErrorRepliesFit) where
     -- whatever a client takes is at least a header
     edns_limit : (identifier : Option (List ℕ)) (asked : Option EdnsFields) (code : ℕ) → max (size_limit Udp (with_high_code code (reply_edns identifier asked))) 12 ≤ payload_limit asked
     edns_limit identifier None code = omega arith
@@ -126,7 +126,8 @@ module _ {S H : Type 0} (handler : Ghosts H) (signature_for : S → Signer) wher
         let here = limited _ (truncation r) bytes m.0 m.1.encoded in
         let there = plain_limit None r.message.edns in
         rw is (omega (arith, here, there), tt)
-    taken rules catalog r now encoded zones udp (transferred (query, is, class, incremental, may, stream) _ _ _) = absurd (stream udp)
+    taken rules catalog r now encoded zones udp (transferred {replies = replies} _ replied made _) =
+        all_take catalog.nsid r replies encoded (transfers_fit catalog r (reply_edns catalog.nsid r.message.edns) now replies replied) (rw udp at made)
     taken rules catalog r now encoded zones udp (passed {replies = replies} _ answered made) = all_take catalog.nsid r replies encoded (fit catalog r now replies zones answered) (rw udp at made)
 
     bounded_both : (rules : Rules) (r : ReceivedRequest) (encoded sent : List (List ℕ)) → AllZip (IsBounded (udp_limit rules)) encoded sent → AllByRecursion (Takes r) encoded

@@ -48,13 +48,14 @@ IsIncremental query = query.query_type ≡ 251
 abbrev pub MayTransfer : Rules → ReceivedRequest → Type 0
 MayTransfer rules request = IsAllowed rules.transfers.deny rules.transfers.allow (socket_ip request.source)
 
--- What the rules make of a request. A query of a class that is not served, and a transfer to an address that may have none, is refused; any other
--- transfer over UDP is truncated, as it is for TCP (RFC 5936 section 4.2); over a stream a query for what changed in a zone is answered by the whole zone,
--- since no increments are kept (RFC 1995 section 4); all else passes.
+-- What the rules make of a request. A query of a class that is not served, and a transfer to an address that may have none, is refused; a query for what
+-- changed in a zone is answered by what the zone's handlers give as a transfer, over UDP too (RFC 1995 sections 2 and 4); one for a whole zone over UDP is
+-- truncated, as it is for TCP (RFC 5936 section 4.2); all else passes.
 abbrev pub IsRuling : Rules → ReceivedRequest → Ruling → Type 0
 IsRuling rules request Refuse = (query : Query) × IsQuery request.message query × (¬ (IsOfServedClass query) ⊎ (IsTransfer query × ¬ (MayTransfer rules request)))
-IsRuling rules request Truncate = (query : Query) × IsQuery request.message query × IsOfServedClass query × IsTransfer query × MayTransfer rules request × (request.protocol ≡ Udp)
-IsRuling rules request Transfer = (query : Query) × IsQuery request.message query × IsOfServedClass query × IsIncremental query × MayTransfer rules request × (request.protocol ≢ Udp)
+IsRuling rules request Truncate = (query : Query) × IsQuery request.message query × IsOfServedClass query × IsTransfer query × ¬ (IsIncremental query) × MayTransfer rules request
+    × (request.protocol ≡ Udp)
+IsRuling rules request Transfer = (query : Query) × IsQuery request.message query × IsOfServedClass query × IsIncremental query × MayTransfer rules request
 IsRuling rules request Pass = (query : Query) → IsQuery request.message query
     → IsOfServedClass query × ¬ (IsIncremental query) × (IsTransfer query → MayTransfer rules request × (request.protocol ≢ Udp))
 

@@ -11,7 +11,7 @@ pub use hickory_base::message_sameness::message_comparisons;
 pub use hickory_base::update_request::UpdateRequest;
 pub use hickory_base::zone_store::{
     AuthLookup, AxfrPolicy, Lookup, LookupControlFlow, LookupOptions, Nsec3QueryInfo, NxProofKind,
-    StoredAnswer, WholeReply, ZoneHandler, ZoneTransfer, ZoneType,
+    RecordList, WholeReply, ZoneHandler, ZoneTransfer, ZoneType,
 };
 pub use hickory_base::{message_response, request_laws, update_request};
 pub use hickory_catalog::catalog::Catalog;

@@ -3,6 +3,6 @@
 pub use hickory_base::errors::{DnsError, LookupError, UpdateFault};
 pub use hickory_base::zone_store::{
     AuthLookup, AxfrPolicy, Either, InMemoryZoneHandler, Lookup, LookupControlFlow, LookupOptions,
-    Nsec3QueryInfo, NxProofKind, RecordSet, StoredAnswer, WholeReply, ZoneHandler, ZoneTransfer,
+    Nsec3QueryInfo, NxProofKind, RecordList, RecordSet, WholeReply, ZoneHandler, ZoneTransfer,
     ZoneType,
 };

@@ -16,7 +16,8 @@ use Rattle.hickory_base.specs.zone_store.ZoneRecords.{is_at}
 use Rattle.hickory_base.specs.zone_store.ZoneSets.{IsSoaData}
 use Rattle.hickory_store.specs.Changes.{comes, fold, goes_when, has_ttl, in_rrset, is_cleared, is_ignored, is_newer, is_spared, is_there, is_type, replaces_rrset, turn}
 use Rattle.hickory_store.specs.Identity.{SameZone, same_record, ttl_at}
-use Rattle.hickory_store.specs.Serials.{is_greater, next_serial}
+use Rattle.hickory_base.specs.zone_store.Serials.{is_greater}
+use Rattle.hickory_store.specs.Serials.{next_serial}
 use Rattle.hickory_store.specs.UpdateAnswers.{incremented, is_apex_soa, next_data}
 use Rattle.hickory_store.specs.UpdateLaws.{IsOneSoa, has_cname}
 use Rattle.hickory_store.proofs.ApexNs.{OfOneType, Records, Resource, and_both, and_left, and_right, false_or, name_eq_via, names, nat_eq_is, nat_eq_so, not_so, not_true}

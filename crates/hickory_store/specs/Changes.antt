@@ -6,9 +6,9 @@ use Rattle.wire_messages.specs.rr.RecordData.{type_of}
 use Rattle.wire_messages.specs.declared.rr.rdata.RData.{RData}
 use Rattle.wire_messages.specs.declared.rr.rdata.RData.TheVariants as rdata
 use Rattle.wire_messages.specs.declared.rr.record.Record.{Record}
+use Rattle.hickory_base.specs.zone_store.Serials.{is_greater}
 use Rattle.hickory_base.specs.zone_store.ZoneRecords.{is_at}
 use Rattle.hickory_store.specs.Identity.{same_record, ttl_at}
-use Rattle.hickory_store.specs.Serials.{is_greater}
 
 -- the record is of this type
 abbrev pub is_type : ℕ → Record RData → Bool

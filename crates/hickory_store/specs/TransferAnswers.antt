@@ -5,7 +5,7 @@ use Rattle.wire_messages.specs.declared.rr.tsig.TSigResponseContext.{TSigRespons
 use Rattle.hickory_base.specs.zone_store.Lookups.{Flow}
 use Rattle.hickory_base.specs.requests.Questions.{one_query}
 use Rattle.hickory_base.specs.requests.Requests.{ReceivedRequest}
-use Rattle.hickory_base.specs.zone_store.ZoneAnswers.{MemoryZone, Searched, whole_zone, zone_soa}
+use Rattle.hickory_base.specs.zone_store.ZoneAnswers.{MemoryZone, Searched, soa_alone, whole_zone, zone_soa}
 use Rattle.hickory_base.specs.declared.errors.DnsError.TheVariants.{Other}
 use Rattle.hickory_base.specs.declared.errors.LookupError.{LookupError}
 use Rattle.hickory_base.specs.declared.errors.LookupError.TheVariants.{Net, ResponseCode, Memory}
@@ -30,6 +30,11 @@ transfer_or_code zone (Some code) = Err (ResponseCode code)
 abbrev pub TransferredAs : MemoryZone → Permission → Option (Result ZoneTransfer LookupError × Option TSigResponseContext) → Type 0
 TransferredAs zone permission answer =
     (answer ≡ Some (transfer_or_code zone permission.refusal, permission.context)) ⊎ (answer ≡ Some (Err Memory, None))
+
+-- The SOA alone in the place of a transfer, by the same permission.
+abbrev pub SoaTransferredAs : MemoryZone → Permission → Option (Result ZoneTransfer LookupError × Option TSigResponseContext) → Type 0
+SoaTransferredAs zone permission answer =
+    (answer ≡ Some (soa_alone (transfer_or_code zone permission.refusal), permission.context)) ⊎ (answer ≡ Some (Err Memory, None))
 
 -- Type AXFR, 252, asks for a transfer, which no search answers (RFC 5936 section 2.1).
 abbrev pub asks_for_transfer : Result Query LookupError → Bool

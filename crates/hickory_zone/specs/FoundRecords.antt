@@ -103,10 +103,10 @@ outcome_of sets name found.NoData = no_data
 outcome_of sets name found.NoName = no_name
 outcome_of sets name (found.Redirected by) = redirection (length name.labels - by.labels) by.dname.now
 
--- The wildcard below the encloser stands for what does not exist there, if there is one.
-abbrev pub WildFound : Sets → DomainName → ℕ → Found → Type 0
-WildFound sets encloser t found = (Exists sets (wildcard encloser) × ((name : DomainName) → outcome_of sets name found ≡ by_wildcard (at_node sets (wildcard encloser) t)))
-    ⊎ ((¬ (Exists sets (wildcard encloser))) × ((name : DomainName) → outcome_of sets name found ≡ no_name))
+-- There is no wildcard below the encloser, or this is what it stands for.
+abbrev pub WildFound : Sets → DomainName → ℕ → Option Found → Type 0
+WildFound sets encloser t None = ¬ (Exists sets (wildcard encloser))
+WildFound sets encloser t (Some found) = Exists sets (wildcard encloser) × ((name : DomainName) → outcome_of sets name found ≡ by_wildcard (at_node sets (wildcard encloser) t))
 
 -- the first of two RRsets that there is
 abbrev pub first_or : Option Records → Option Records → Option Records

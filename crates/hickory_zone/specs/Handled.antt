@@ -1,5 +1,5 @@
 -- How the zone's replies are given as a handler of the catalog.
-use Rattle.std.specs.Prelude.{◌≡◌, ◌⊎◌, ◌==◌, ◌&&◌, ℕ, Bool, true, false, cond, [], Option, None, Some, Result, Ok, Err}
+use Rattle.std.specs.Prelude.{◌≡◌, ◌⊎◌, ◌==◌, ◌&&◌, ◌||◌, ◌∷◌, ℕ, Bool, true, false, not, cond, [], Option, None, Some, Result, Ok, Err}
 use Rattle.std.specs.Bool.{MatchBool}
 use Rattle.std.specs.List.{AllByRecursion}
 use Rattle.wire_names.specs.rr.domain.DomainName.{DomainName}
@@ -8,7 +8,8 @@ use Rattle.wire_messages.specs.declared.op.query.Query.{Query}
 use Rattle.hickory_base.specs.requests.Questions.{one_query}
 use Rattle.hickory_base.specs.requests.Requests.{ReceivedRequest}
 use Rattle.hickory_base.specs.zone_store.Lookups.{Flow}
-use Rattle.hickory_base.specs.zone_store.ZoneAnswers.{MemoryZone, Transferred, no_data, no_name}
+use Rattle.hickory_base.specs.zone_store.Serials.{is_greater}
+use Rattle.hickory_base.specs.zone_store.ZoneAnswers.{MemoryZone, SoaTransferred, Transferred, no_data, no_name, soa_serial, zone_soa}
 use Rattle.hickory_base.specs.declared.errors.LookupError.{LookupError}
 use Rattle.hickory_base.specs.declared.errors.LookupError.TheVariants.{Memory, ResponseCode}
 use Rattle.hickory_base.specs.declared.zone_store.handler.ZoneType.{ZoneType}
@@ -18,10 +19,14 @@ use Rattle.hickory_base.specs.declared.zone_store.lookup.AuthLookup.TheVariants 
 use Rattle.hickory_base.specs.declared.zone_store.lookup.LookupControlFlow.TheVariants.{Break, Continue}
 use Rattle.hickory_base.specs.declared.zone_store.lookup.WholeReply.{WholeReply}
 use Rattle.hickory_base.specs.declared.zone_store.lookup.ZoneTransfer.{ZoneTransfer}
+use Rattle.wire_messages.specs.declared.protocol.Protocol.{Protocol}
+use Rattle.wire_messages.specs.declared.protocol.Protocol.TheVariants.{Udp}
+use Rattle.wire_messages.specs.declared.rr.rdata.RData.{RData}
+use Rattle.wire_messages.specs.declared.rr.rdata.RData.TheVariants as rdata
 use Rattle.wire_messages.specs.declared.rr.tsig.TSigResponseContext.{TSigResponseContext}
 use Rattle.hickory_zone.specs.Additionals.{is_hostless}
 use Rattle.hickory_zone.specs.Replies.{RepliesTo, class_in, code_no_error, code_nx_domain, denial_soa, is_class, whole, zone_of}
-use Rattle.hickory_zone.specs.Zones.{Records, Zone, type_soa}
+use Rattle.hickory_zone.specs.Zones.{Records, Zone, type_ixfr, type_soa}
 
 -- the server holds the zone or a copy of it, so that the catalog puts the SOA into its denials
 abbrev pub is_held : ZoneType → Bool
@@ -69,10 +74,38 @@ LookedUp zone name t answer = (result : _) × (IsLookedUp (zone_of zone) name t 
 abbrev pub names_zone : Zone → Query → Bool
 names_zone zone query = is_class query.query_class && name_eq zone.origin (lower_name query.name)
 
--- A transfer of the zone is answered as by a zone in memory; of any other name the server holds no zone: NOTAUTH, which is 9 (RFC 5936 section 2.2.1).
-abbrev pub TransferredFor : MemoryZone → Result Query LookupError → Option (Result ZoneTransfer LookupError × Option TSigResponseContext) → Type 0
-TransferredFor zone (Ok query) answer = MatchBool (names_zone (zone_of zone) query) (Transferred zone answer) (answer ≡ Some (Err (ResponseCode 9), None))
-TransferredFor zone (Err e) answer = answer ≡ Some (Err e, None)
+-- the serial of the version of the zone that the client of an IXFR has: that of the SOA in the authority section (RFC 1995 section 3)
+abbrev pub held_serial : Records → Option ℕ
+held_serial (r ∷ rs) = serial_in r.rdata where
+  serial_in : RData → Option ℕ
+  serial_in (rdata.SOA soa) = Some soa.serial
+  serial_in other = None
+held_serial [] = None
+
+-- The version of this serial, if there is one, is the zone's, of this serial, or newer.
+abbrev pub is_no_older : Option ℕ → ℕ → Bool
+is_no_older (Some held) own = not (is_greater own held)
+is_no_older None own = false
+
+abbrev pub is_datagram : Protocol → Bool
+is_datagram Udp = true
+is_datagram other = false
+
+-- A query for what changed, IXFR, gets the SOA alone over UDP, where the client turns to TCP for more, and where the version that the client has is no older
+-- than the zone's (RFC 1995 section 2).
+abbrev pub is_by_soa : MemoryZone → ReceivedRequest → Query → Bool
+is_by_soa zone request query =
+    query.query_type == type_ixfr && (is_datagram request.protocol || is_no_older (held_serial request.message.authorities) (soa_serial (zone_soa zone)))
+
+-- What is given for a transfer of the zone: as by a zone in memory, and the SOA alone where that is enough.
+abbrev pub IsGiven : MemoryZone → ReceivedRequest → Query → Option (Result ZoneTransfer LookupError × Option TSigResponseContext) → Type 0
+IsGiven zone request query answer = MatchBool (is_by_soa zone request query) (SoaTransferred zone answer) (Transferred zone answer)
+
+-- A transfer is given of the zone; of any other name the server holds no zone: NOTAUTH,
+-- which is 9 (RFC 5936 section 2.2.1).
+abbrev pub TransferredFor : MemoryZone → ReceivedRequest → Result Query LookupError → Option (Result ZoneTransfer LookupError × Option TSigResponseContext) → Type 0
+TransferredFor zone request (Ok query) answer = MatchBool (names_zone (zone_of zone) query) (IsGiven zone request query answer) (answer ≡ Some (Err (ResponseCode 9), None))
+TransferredFor zone request (Err e) answer = answer ≡ Some (Err e, None)
 
 abbrev pub TransferAnswered : MemoryZone → ReceivedRequest → Option (Result ZoneTransfer LookupError × Option TSigResponseContext) → Type 0
-TransferAnswered zone request answer = TransferredFor zone (one_query request.message.queries.queries) answer
+TransferAnswered zone request answer = TransferredFor zone request (one_query request.message.queries.queries) answer

@@ -10,6 +10,7 @@ pub mod KeysBeside
 pub mod Parents
 pub mod Redirections
 pub mod Replies
+pub mod ReplyAtOnce
 pub mod WorkedRedirections
 pub mod WorkedReplies
 pub mod WorkedZones

@@ -1,19 +1,20 @@
 //! Records that help to use others.
 
-ghost use Rattle.std.specs.Prelude.{◌≡◌, ◌↔◌, ◌++◌, IfOk, IsTrue, OnOk};
-ghost use Rattle.std.specs.List.{list_any};
+ghost use Rattle.std.specs.Prelude.{◌≡◌, ◌↔◌, ◌++◌, IfOk, IsTrue, OnOk, true};
+ghost use Rattle.std.specs.List.{AllByRecursion, list_any};
+ghost use Rattle.std.specs.Option.{option_copied};
 ghost use Rattle.hickory_base.specs.zone_store.ZoneRecords.{is_of};
 ghost use Rattle.hickory_base.specs.zone_store.ZoneSets.{sets_of};
 ghost use Rattle.wire_names.specs.declared.error.DecodeError.TheVariants as decode_error;
-ghost use Rattle.hickory_zone.specs.Zones.{AreOwners, rrset};
+ghost use Rattle.hickory_zone.specs.Zones.{AreOwners, type_a, type_aaaa};
 ghost use Rattle.hickory_zone.specs.Features.{AreFeatures};
 ghost use Rattle.hickory_zone.specs.declared.additionals.Source.TheVariants as source;
 ghost use Rattle.hickory_zone.specs.Additionals.{AreAdditionals, Gains, IsHad, at_most_one, first_name, host_in, hosts_of, is_hostless, is_of_hosts, name_from, some_records, target_start};
-ghost use Rattle.hickory_zone.specs.Grown.{AreGained, IsGrown};
+ghost use Rattle.hickory_zone.specs.Grown.{AreGained, IsGlue, IsGrown};
 
 use crate::chains::{append_copies, append_name, append_name_owned, append_owned, is_in};
 use crate::features::Features;
-use crate::find::{Found, look_up, set_under};
+use crate::find::{Addresses, Found, addresses_at, look_up};
 use hickory_base::zone_store::RecordSet;
 use hickory_wire::{BinDecoder, DecodeError, LowerName, Name, RData, Record, RecordType, RrKey};
 use std::alloc::{AllocError, Global};
@@ -41,6 +42,29 @@ fn target_start(record_type: RecordType) -> Option<usize>
     } else {
         None
     }
+}
+
+/// Whether data of the type may name a host.
+fn is_of_hosts(record_type: RecordType) -> bool
+    ensures { result ≡ is_of_hosts record_type }
+{
+    record_type == RecordType::NS
+        || record_type == RecordType::MX
+        || target_start(record_type).is_some()
+}
+
+/// Whether a record is of a type whose data name no host.
+fn is_hostless(q: &Record) -> bool
+    ensures { result ≡ is_hostless q.now.rdata }
+{
+    !is_of_hosts(q.rdata.record_type())
+}
+
+/// Whether all records are.
+pub(crate) fn are_hostless(records: &[Record]) -> bool
+    ensures { IsTrue result ↔ AllByRecursion (λ q. is_hostless q.rdata ≡ true) records.now }
+{
+    records.iter().all(|q| is_hostless(q))
 }
 
 /// Whether memory was refused.
@@ -94,22 +118,6 @@ fn host(alloc: Global, q: &Record) -> Result<Option<Name>, AllocError>
     }
 }
 
-/// Whether data of the type may name a host.
-fn is_of_hosts(record_type: RecordType) -> bool
-    ensures { result ≡ is_of_hosts record_type }
-{
-    record_type.value() == RecordType::NS.value()
-        || record_type.value() == RecordType::MX.value()
-        || target_start(record_type).is_some()
-}
-
-/// Whether a record is of a type that names no host.
-pub(crate) fn is_hostless(q: &Record) -> bool
-    ensures { result ≡ is_hostless q.now.rdata }
-{
-    !is_of_hosts(q.rdata.record_type())
-}
-
 /// Puts the host that a record names last, if it names one.
 fn append_host(alloc: Global, q: &Record, hosts: &mut Vec<Name>) -> Result<(), AllocError>
     ensures { OnOk result (hosts.new.items ≡ hosts.old.items ++ at_most_one (host_in q.now.rdata)) }
@@ -155,18 +163,26 @@ fn has_of(key: &RrKey, record_type: RecordType, records: &[Record]) -> bool
     records.iter().any(|q| is_of(key, record_type, q))
 }
 
-/// Puts copies of the RRset of the key's name and a type last, if the zone has it.
-fn append_glue(
-    alloc: Global,
-    sets: &BTreeMap<RrKey, Rc<RecordSet>>,
-    host: &RrKey,
-    record_type: RecordType,
-    all: &mut Vec<Record>,
-) -> Result<(), AllocError>
-    ensures { OnOk result (all.new.items ≡ all.old.items ++ some_records (rrset (sets_of sets.now) host.now.name record_type)) }
+/// The addresses that stand in the zone under the key's name, where they are taken from there. No type is below that of the key.
+fn glue<'z>(source: Source, sets: &'z BTreeMap<RrKey, Rc<RecordSet>>, host: &RrKey) -> Addresses<'z>
+    requires { host.now.record_type ≡ 0 }
+    ensures four { IsGlue source (sets_of sets.now) host.now.name type_a (option_copied result.four) }
+    ensures six { IsGlue source (sets_of sets.now) host.now.name type_aaaa (option_copied result.six) }
 {
-    let key = RrKey::new(host.name.clone()?, record_type);
-    match set_under(sets, &key) {
+    match source {
+        Source::Answer => Addresses {
+            four: None,
+            six: None,
+        },
+        Source::Glue => addresses_at(sets, host),
+    }
+}
+
+/// Puts copies of the records last, if there are any.
+fn append_glue(found: Option<&[Record]>, all: &mut Vec<Record>) -> Result<(), AllocError>
+    ensures { OnOk result (all.new.items ≡ all.old.items ++ some_records (option_copied found.entry)) }
+{
+    match found {
         Some(records) => append_copies(all, records),
         None => Ok(()),
     }
@@ -199,7 +215,8 @@ fn append_answer(
     }
 }
 
-/// Puts copies of the records last that are to be had for the key's name and a type. No type is below that of the key.
+/// Puts copies of the records last that are to be had for the key's name and a type, of which these stand in the zone. No type is below
+/// that of the key.
 fn append_from(
     alloc: Global,
     origin: &LowerName,
@@ -207,17 +224,19 @@ fn append_from(
     source: Source,
     host: &RrKey,
     record_type: RecordType,
+    stands: Option<&[Record]>,
     has: Features,
     all: &mut Vec<Record>,
 ) -> Result<(), AllocError>
     requires least { host.now.record_type ≡ 0 }
     requires owners { AreOwners origin.now (sets_of sets.now) }
     requires features { AreFeatures (record { origin = origin.now; sets = sets_of sets.now }) has }
+    requires stands { IsGlue source (sets_of sets.now) host.now.name record_type (option_copied stands) }
     ensures { OnOk result (IsGrown (IsHad source (record { origin = origin.now; sets = sets_of sets.now }) host.now.name record_type) all.old.items all.new.items) }
 {
     match source {
         Source::Answer => append_answer(alloc, origin, sets, host, record_type, has, all),
-        Source::Glue => append_glue(alloc, sets, host, record_type, all),
+        Source::Glue => append_glue(stands, all),
     }
 }
 
@@ -230,18 +249,30 @@ fn append_once(
     answers: &[Record],
     host: &RrKey,
     record_type: RecordType,
+    stands: Option<&[Record]>,
     has: Features,
     all: &mut Vec<Record>,
 ) -> Result<(), AllocError>
     requires least { host.now.record_type ≡ 0 }
     requires owners { AreOwners origin.now (sets_of sets.now) }
     requires features { AreFeatures (record { origin = origin.now; sets = sets_of sets.now }) has }
+    requires stands { IsGlue source (sets_of sets.now) host.now.name record_type (option_copied stands) }
     ensures { OnOk result (IsGrown (Gains source (record { origin = origin.now; sets = sets_of sets.now }) (answers.now ++ all.old.items) host.now.name record_type) all.old.items all.new.items) }
 {
     if has_of(host, record_type, answers) || has_of(host, record_type, all.as_slice()) {
         return Ok(());
     }
-    append_from(alloc, origin, sets, source, host, record_type, has, all)
+    append_from(
+        alloc,
+        origin,
+        sets,
+        source,
+        host,
+        record_type,
+        stands,
+        has,
+        all,
+    )
 }
 
 /// Puts copies of a host's addresses last that the reply does not have yet.
@@ -260,6 +291,7 @@ fn append_addresses(
     ensures { OnOk result (AreGained source (record { origin = origin.now; sets = sets_of sets.now }) answers.now name.now all.old.items all.new.items) }
 {
     let host = RrKey::new(LowerName::new(alloc, name)?, RecordType::new(0));
+    let stand = glue(source, sets, &host);
     append_once(
         alloc,
         origin,
@@ -268,6 +300,7 @@ fn append_addresses(
         answers,
         &host,
         RecordType::A,
+        stand.four,
         has,
         all,
     )?;
@@ -279,6 +312,7 @@ fn append_addresses(
         answers,
         &host,
         RecordType::AAAA,
+        stand.six,
         has,
         all,
     )

@@ -1,28 +1,26 @@
-//! What the zone replies to a question, whole or where it lies.
+//! What the zone replies to a question.
 
-ghost use Rattle.std.specs.Prelude.{◌≡◌, ◌↔◌, ◌==◌, [], IfOk, IfSome, IsTrue, false, true};
-ghost use Rattle.std.specs.List.{All, AllByRecursion};
+ghost use Rattle.std.specs.Prelude.{◌≡◌, ◌↔◌, [], IfOk, IfSome, IsTrue, OnOk, false};
+ghost use Rattle.std.specs.Option.{option_copied};
+ghost use Rattle.std.specs.List.{All};
 ghost use Rattle.std.specs.BTreeMap.{keys};
 ghost use Rattle.hickory_base.specs.zone_store.ZoneSets.{sets_of};
-ghost use Rattle.hickory_base.specs.zone_store.Lookups.{stored_result};
 ghost use Rattle.wire_names.specs.rr.domain.NameOrder.{lower_name};
-ghost use Rattle.hickory_zone.specs.Additionals.{is_hostless};
 ghost use Rattle.hickory_zone.specs.Chains.{IsIn};
 ghost use Rattle.hickory_zone.specs.Features.{AreFeatures};
-ghost use Rattle.hickory_zone.specs.Handled.{StandsFor, is_held, question};
-ghost use Rattle.hickory_zone.specs.Replies.{IsOfZone, IsReplied, RepliesTo, denial_soa, is_class, whole, zone_of};
-ghost use Rattle.hickory_zone.specs.Zones.{AreOwners, IsOwner, type_soa};
+ghost use Rattle.hickory_zone.specs.Handled.{question};
+ghost use Rattle.hickory_zone.specs.Replies.{IsReplied, RepliesTo, denial_soa, is_class, whole, zone_of};
+ghost use Rattle.hickory_zone.specs.Zones.{AreOwners, IsOwner};
 
-use crate::additionals::is_hostless;
-use crate::chains::{follow, is_in};
+use crate::chains::{follow, is_in, one_link};
 use crate::features::Features;
-use crate::find::{Found, look_up};
-use crate::replies::{bare, reply_of};
+use crate::find::look_up;
+use crate::replies::{put_at_once, put_reply};
 use hickory_base::zone_store::{
-    InMemoryZoneHandler, RecordSet, StoredAnswer, WholeReply, ZoneHandler, ZoneType,
+    InMemoryZoneHandler, RecordList, RecordSet, WholeReply, ZoneHandler,
 };
 use hickory_wire::{
-    DNSClass, LowerName, LowerQuery, Name, Record, RecordType, ResponseCode, RrKey,
+    DNSClass, Items, LowerName, LowerQuery, Name, Record, RecordType, ResponseCode, RrKey,
 };
 use std::alloc::{AllocError, Global};
 use std::collections::BTreeMap;
@@ -55,26 +53,37 @@ pub fn are_owners(origin: &LowerName, sets: &BTreeMap<RrKey, Rc<RecordSet>>) -> 
     are_all_owners(origin, sets)
 }
 
-/// What the zone replies where a name in it is asked for, which is the key's in some letter case. No type is below that of the key.
-fn reply_within(
+/// Makes this what the zone replies where a name in it is asked for, which is the key's in some letter case. No type is below that of the key.
+fn put_within<'z>(
     alloc: Global,
-    zone: &InMemoryZoneHandler,
+    zone: &'z InMemoryZoneHandler,
     name: &Name,
     first: &RrKey,
     record_type: RecordType,
     has: Features,
-    soa: &[Record],
-) -> Result<WholeReply, AllocError>
+    soa: Option<&'z [Record]>,
+    reply: &mut WholeReply<'z>,
+) -> Result<(), AllocError>
     requires least { first.now.record_type ≡ 0 }
     requires owners { AreOwners zone.now.origin zone.now.sets }
     requires features { AreFeatures (zone_of zone.now) has }
-    requires soa { soa.now ≡ denial_soa (zone_of zone.now) }
+    requires soa { IfSome (option_copied soa) (λ rs. rs ≡ denial_soa (zone_of zone.now)) }
     requires spelled { first.now.name ≡ lower_name name.now }
     requires within { IsIn (zone_of zone.now) first.now.name }
-    ensures { IfOk result (IsReplied (zone_of zone.now) name.now record_type) }
+    ensures { OnOk result (IsReplied (zone_of zone.now) name.now record_type reply.new) }
 {
     let origin = zone.origin();
     let sets = zone.records();
+    let found = look_up(alloc, origin, sets, first, record_type, has)?;
+    // Mostly the reply is made of what was found alone.
+    // speed: served, an address
+    if put_at_once(found, soa, reply) {
+        return Ok(());
+    }
+    if let Some(link) = one_link(found) {
+        let answers = RecordList::lent(link.answers);
+        return put_reply(alloc, origin, sets, has, soa, answers, link.end, reply);
+    }
     let mut answers = Vec::new(alloc);
     let end = follow(
         alloc,
@@ -85,9 +94,11 @@ fn reply_within(
         record_type,
         MAX_ALIASES,
         has,
+        found,
         &mut answers,
     )?;
-    reply_of(alloc, origin, sets, has, soa, answers, end)
+    let answers = RecordList::owned(Items::from_vec(answers));
+    put_reply(alloc, origin, sets, has, soa, answers, end, reply)
 }
 
 /// Whether the class is IN or any.
@@ -98,29 +109,38 @@ pub(crate) fn is_class(class: DNSClass) -> bool
 }
 
 /// The reply to a question that is not of the zone.
-fn refused(alloc: Global) -> WholeReply
+pub(crate) fn refused<'z>() -> WholeReply<'z>
     ensures { result ≡ whole 5 false [] [] [] }
 {
-    bare(alloc, ResponseCode::REFUSED, false, Vec::new(alloc))
+    WholeReply {
+        response_code: ResponseCode::REFUSED,
+        authoritative: false,
+        answers: RecordList::empty(),
+        authorities: RecordList::empty(),
+        additionals: RecordList::empty(),
+    }
 }
 
-/// What the zone replies to a question. `soa` is its SOA record as it stands in denials.
-pub fn reply(
+/// Makes this what the zone replies to a question: records where they lie, but for those that are synthesized, followed or put together. `soa` is its SOA record as
+/// it stands in denials, if that was made before.
+pub(crate) fn answer<'z>(
     alloc: Global,
-    zone: &InMemoryZoneHandler,
+    zone: &'z InMemoryZoneHandler,
     query: &LowerQuery,
     has: Features,
-    soa: &[Record],
-) -> Result<WholeReply, AllocError>
+    soa: Option<&'z [Record]>,
+    reply: &mut WholeReply<'z>,
+) -> Result<(), AllocError>
     requires owners { AreOwners zone.now.origin zone.now.sets }
     requires features { AreFeatures (zone_of zone.now) has }
-    requires soa { soa.now ≡ denial_soa (zone_of zone.now) }
-    ensures { IfOk result (RepliesTo (zone_of zone.now) query.now) }
+    requires soa { IfSome (option_copied soa) (λ rs. rs ≡ denial_soa (zone_of zone.now)) }
+    ensures { OnOk result (RepliesTo (zone_of zone.now) query.now reply.new) }
 {
     if !is_class(query.query_class()) || !is_in(zone.origin(), query.name()) {
-        return Ok(refused(alloc));
+        *reply = refused();
+        return Ok(());
     }
-    reply_within(
+    put_within(
         alloc,
         zone,
         &query.original().name,
@@ -128,112 +148,49 @@ pub fn reply(
         query.query_type(),
         has,
         soa,
+        reply,
     )
 }
 
-/// The same of a name, a type and the class IN.
-pub fn reply_to(
+/// What the zone replies to a question: records where they lie, but for those that are synthesized, followed or put together. `soa` is its SOA record as it
+/// stands in denials, if that was made before.
+pub fn reply<'z>(
     alloc: Global,
-    zone: &InMemoryZoneHandler,
+    zone: &'z InMemoryZoneHandler,
+    query: &LowerQuery,
+    has: Features,
+    soa: Option<&'z [Record]>,
+) -> Result<WholeReply<'z>, AllocError>
+    requires owners { AreOwners zone.now.origin zone.now.sets }
+    requires features { AreFeatures (zone_of zone.now) has }
+    requires soa { IfSome (option_copied soa) (λ rs. rs ≡ denial_soa (zone_of zone.now)) }
+    ensures { IfOk result (RepliesTo (zone_of zone.now) query.now) }
+{
+    let mut reply = refused();
+    answer(alloc, zone, query, has, soa, &mut reply)?;
+    Ok(reply)
+}
+
+/// The same of a name, a type and the class IN.
+pub fn reply_to<'z>(
+    alloc: Global,
+    zone: &'z InMemoryZoneHandler,
     name: &LowerName,
     record_type: RecordType,
     has: Features,
-    soa: &[Record],
-) -> Result<WholeReply, AllocError>
+    soa: Option<&'z [Record]>,
+) -> Result<WholeReply<'z>, AllocError>
     requires owners { AreOwners zone.now.origin zone.now.sets }
     requires features { AreFeatures (zone_of zone.now) has }
-    requires soa { soa.now ≡ denial_soa (zone_of zone.now) }
+    requires soa { IfSome (option_copied soa) (λ rs. rs ≡ denial_soa (zone_of zone.now)) }
     ensures { IfOk result (RepliesTo (zone_of zone.now) (question name.now record_type)) }
 {
+    let mut reply = refused();
     if !is_in(zone.origin(), name) {
-        return Ok(refused(alloc));
+        return Ok(reply);
     }
     let first = RrKey::new(name.clone()?, RecordType::new(0));
-    reply_within(alloc, zone, name.as_name(), &first, record_type, has, soa)
-}
-
-/// Whether none of the records names a host.
-fn are_hostless(records: &[Record]) -> bool
-    ensures { IsTrue result ↔ AllByRecursion (λ q. is_hostless q.rdata ≡ true) records.now }
-{
-    records.iter().all(|q| is_hostless(q))
-}
-
-/// Whether records of this type are the whole reply: none names a host, and they are not the SOA.
-fn may_be_lent(record_type: RecordType, records: &[Record]) -> bool
-    ensures other { IsTrue result → (record_type == type_soa) ≡ false }
-    ensures hostless { IsTrue result → AllByRecursion (λ q. is_hostless q.rdata ≡ true) records.now }
-{
-    record_type.value() != RecordType::SOA.value() && are_hostless(records)
-}
-
-/// Whether answers of the type are made and not lent: the servers of the zone go with the SOA, and for any type records of all types are
-/// put together.
-fn is_always_made(record_type: RecordType) -> bool {
-    record_type.value() == RecordType::SOA.value() || record_type.value() == RecordType::ANY.value()
-}
-
-/// Whether the server holds the zone or a copy of it.
-fn is_held(zone_type: ZoneType) -> bool
-    ensures { result ≡ is_held zone_type }
-{
-    !matches!(zone_type, ZoneType::External)
-}
-
-/// What stands for the zone's reply where it lies, if nothing is synthesized, followed or added.
-pub fn stored<'z>(
-    alloc: Global,
-    zone: &'z InMemoryZoneHandler,
-    query: &LowerQuery,
-    has: Features,
-) -> Option<StoredAnswer<'z>>
-    requires owners { AreOwners zone.now.origin zone.now.sets }
-    requires features { AreFeatures (zone_of zone.now) has }
-    ensures { IfSome result (λ answer. StandsFor zone.now query.now (stored_result answer)) }
-{
-    if !is_held(zone.zone_type())
-        || !is_class(query.query_class())
-        || !is_in(zone.origin(), query.name())
-    {
-        return None;
-    }
-    stored_within(alloc, zone, query, has)
-}
-
-/// The same of a question of the zone, which the server holds.
-fn stored_within<'z>(
-    alloc: Global,
-    zone: &'z InMemoryZoneHandler,
-    query: &LowerQuery,
-    has: Features,
-) -> Option<StoredAnswer<'z>>
-    requires held { is_held zone.now.zone_type ≡ true }
-    requires owners { AreOwners zone.now.origin zone.now.sets }
-    requires features { AreFeatures (zone_of zone.now) has }
-    requires of { IsOfZone (zone_of zone.now) query.now }
-    ensures { IfSome result (λ answer. StandsFor zone.now query.now (stored_result answer)) }
-{
-    let record_type = query.query_type();
-    if is_always_made(record_type) {
-        return None;
-    }
-    match look_up(
-        alloc,
-        zone.origin(),
-        zone.records(),
-        query.first_key(),
-        record_type,
-        has,
-    ) {
-        Ok(Found::Answer(records)) => {
-            if may_be_lent(record_type, records) {
-                Some(StoredAnswer::Records(records))
-            } else {
-                None
-            }
-        }
-        Ok(Found::NoData) => Some(StoredAnswer::NoData),
-        Ok(Found::NoName) => Some(StoredAnswer::NoName),
-        _ => None,
-    }
+    let name = name.as_name();
+    put_within(alloc, zone, name, &first, record_type, has, soa, &mut reply)?;
+    Ok(reply)
 }

@@ -1,21 +1,22 @@
 //! A zone that answers standard queries, as a handler of the catalog.
 
-ghost use Rattle.std.specs.Prelude.{◌≡◌, ◌↔◌, Err, None, false, IfOk, IsTrue};
+ghost use Rattle.std.specs.Prelude.{◌≡◌, ◌↔◌, ◌⊎◌, Err, None, false, IfOk, IsTrue};
+ghost use Rattle.hickory_base.specs.declared.errors.LookupError.TheVariants.{Memory};
 ghost use Rattle.hickory_base.specs.declared.errors.UpdateFault.TheVariants.{Code};
 ghost use Rattle.hickory_base.specs.declared.zone_store.lookup.LookupControlFlow.TheVariants.{Skip};
-ghost use Rattle.hickory_zone.specs.Handled.{LookedUp, Searched, TransferAnswered};
+ghost use Rattle.hickory_zone.specs.Handled.{LookedUp, Searched, StandsFor, TransferAnswered};
 ghost use Rattle.hickory_zone.specs.Replies.{RepliesTo, zone_of};
 ghost use Rattle.hickory_zone.specs.Zones.{AreOwners};
 
-use crate::answers::{are_owners, reply, stored};
+use crate::answers::{are_owners, reply};
 use crate::denials::denial_soa;
 use crate::features::{Features, features_of};
-use crate::handled::{records, transfer, whole};
+use crate::handled::{records, transfer, unasked, whole};
 use hickory_base::errors::{LookupError, UpdateFault};
 use hickory_base::server::{Request, RequestInfo};
 use hickory_base::zone_store::{
     AuthLookup, AxfrPolicy, InMemoryZoneHandler, LookupControlFlow, LookupOptions, Nsec3QueryInfo,
-    NxProofKind, StoredAnswer, WholeReply, ZoneHandler, ZoneTransfer, ZoneType,
+    NxProofKind, WholeReply, ZoneHandler, ZoneTransfer, ZoneType,
 };
 use hickory_wire::{LowerName, LowerQuery, Record, RecordType, ResponseCode, TSigResponseContext};
 use std::alloc::{AllocError, Global};
@@ -24,7 +25,6 @@ use std::marker::Model;
 /// A zone that answers standard queries as RFC 1034 section 4.3.2 says, each with one whole reply.
 #[derive(Drop)]
 pub struct AuthoritativeZone {
-    alloc: Global,
     zone: InMemoryZoneHandler,
     // What the zone has at all.
     has: Features,
@@ -62,12 +62,7 @@ impl AuthoritativeZone {
     {
         let has = features_of(zone.origin(), zone.records());
         let soa = denial_soa(alloc, &zone)?;
-        Ok(AuthoritativeZone {
-            alloc,
-            zone,
-            has,
-            soa,
-        })
+        Ok(AuthoritativeZone { zone, has, soa })
     }
 
     /// The zone that it was made of.
@@ -78,10 +73,33 @@ impl AuthoritativeZone {
     }
 
     /// What the zone replies to a question, whole.
-    pub fn reply(&self, alloc: Global, query: &LowerQuery) -> Result<WholeReply, AllocError>
+    pub fn reply(&self, alloc: Global, query: &LowerQuery) -> Result<WholeReply<'_>, AllocError>
         ensures { IfOk result (RepliesTo (zone_of self.now) query.now) }
     {
-        reply(alloc, &self.zone, query, self.has, self.soa.as_slice())
+        reply(
+            alloc,
+            &self.zone,
+            query,
+            self.has,
+            Some(self.soa.as_slice()),
+        )
+    }
+
+    /// The same as a handler gives it.
+    pub(crate) fn whole(
+        &self,
+        alloc: Global,
+        query: &LowerQuery,
+    ) -> Result<AuthLookup<'_>, LookupError>
+        ensures { StandsFor self.now query.now result ⊎ (result ≡ Err Memory) }
+    {
+        whole(
+            alloc,
+            &self.zone,
+            query,
+            self.has,
+            Some(self.soa.as_slice()),
+        )
     }
 }
 
@@ -137,14 +155,14 @@ impl ZoneHandler for AuthoritativeZone {
         record_type: RecordType,
         _info: Option<&RequestInfo<'_>>,
         _options: LookupOptions,
-    ) -> LookupControlFlow<AuthLookup> {
+    ) -> LookupControlFlow<AuthLookup<'_>> {
         LookupControlFlow::Continue(records(
             alloc,
             &self.zone,
             name,
             record_type,
             self.has,
-            self.soa.as_slice(),
+            Some(self.soa.as_slice()),
         ))
     }
 
@@ -153,47 +171,29 @@ impl ZoneHandler for AuthoritativeZone {
         alloc: Global,
         request: &Request,
         _options: LookupOptions,
-    ) -> (LookupControlFlow<AuthLookup>, Option<TSigResponseContext>) {
+    ) -> (
+        LookupControlFlow<AuthLookup<'_>>,
+        Option<TSigResponseContext>,
+    ) {
         let query = match request.request_info() {
             Ok(info) => info.query,
-            Err(e) => return (LookupControlFlow::Break(Err(e)), None),
+            Err(e) => return unasked(e),
         };
-        (
-            LookupControlFlow::Continue(whole(
-                alloc,
-                &self.zone,
-                query,
-                self.has,
-                self.soa.as_slice(),
-            )),
-            None,
-        )
+        (LookupControlFlow::Continue(self.whole(alloc, query)), None)
     }
 
-    fn stored_answer(
-        &self,
-        request: &Request,
-        _options: LookupOptions,
-    ) -> Option<StoredAnswer<'_>> {
-        match request.request_info() {
-            Ok(info) => stored(self.alloc, &self.zone, info.query, self.has),
-            Err(_) => None,
-        }
-    }
-
-    fn stored_soa(&self, _options: LookupOptions) -> Option<&[Record]> {
-        Some(self.soa.as_slice())
-    }
-
-    fn consult(
-        &self,
+    fn consult<'z>(
+        &'z self,
         _alloc: Global,
         _name: &LowerName,
         _record_type: RecordType,
         _info: Option<&RequestInfo<'_>>,
         _options: LookupOptions,
-        last: LookupControlFlow<AuthLookup>,
-    ) -> (LookupControlFlow<AuthLookup>, Option<TSigResponseContext>) {
+        last: LookupControlFlow<AuthLookup<'z>>,
+    ) -> (
+        LookupControlFlow<AuthLookup<'z>>,
+        Option<TSigResponseContext>,
+    ) {
         (last, None)
     }
 
@@ -217,7 +217,7 @@ impl ZoneHandler for AuthoritativeZone {
         _alloc: Global,
         _name: &LowerName,
         _options: LookupOptions,
-    ) -> LookupControlFlow<AuthLookup> {
+    ) -> LookupControlFlow<AuthLookup<'_>> {
         LookupControlFlow::Skip
     }
 
@@ -226,7 +226,7 @@ impl ZoneHandler for AuthoritativeZone {
         _alloc: Global,
         _info: Nsec3QueryInfo<'_>,
         _options: LookupOptions,
-    ) -> LookupControlFlow<AuthLookup> {
+    ) -> LookupControlFlow<AuthLookup<'_>> {
         LookupControlFlow::Skip
     }
 

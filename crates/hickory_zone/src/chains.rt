@@ -1,12 +1,14 @@
 //! CNAMEs that are followed, those too that a DNAME makes.
 
-ghost use Rattle.std.specs.Prelude.{◌≡◌, ◌↔◌, ◌++◌, ◌&&◌, IsTrue, OnOk, IfOk, MatchOption, true, cond};
+ghost use Rattle.std.specs.Prelude.{◌≡◌, ◌↔◌, ◌++◌, ◌&&◌, ℕ, [], IsTrue, OnOk, IfOk, IfSome, MatchOption, true, cond};
+ghost use Rattle.wire_names.specs.rr.domain.DomainName.{DomainName};
 ghost use Rattle.hickory_base.specs.zone_store.ZoneAnswers.{records_at};
 ghost use Rattle.hickory_base.specs.zone_store.ZoneRecords.{is_at};
 ghost use Rattle.hickory_base.specs.zone_store.ZoneSets.{sets_of};
 ghost use Rattle.wire_names.specs.rr.domain.NameOrder.{Encloses, lower_name};
-ghost use Rattle.hickory_zone.specs.Zones.{AreOwners, Sets};
-ghost use Rattle.hickory_zone.specs.Chains.{IsIn, canonical, is_cname, is_dname, not_yet, owned_by, owns_cname, without_dname};
+ghost use Rattle.hickory_zone.specs.Zones.{Answers, AreOwners, Sets, Zone};
+ghost use Rattle.hickory_zone.specs.FoundRecords.{outcome_of};
+ghost use Rattle.hickory_zone.specs.Chains.{IsIn, canonical, ends, is_cname, is_dname, not_yet, owned_by, owns_cname, step, without_dname};
 ghost use Rattle.hickory_zone.specs.Features.{AreFeatures};
 ghost use Rattle.hickory_zone.specs.ChainEnds.{Chased, IsAllPut, Linked, ending_of};
 ghost use Rattle.hickory_zone.specs.declared.chains.ChainEnd.TheVariants.{Answer, NoData};
@@ -35,9 +37,13 @@ pub(crate) fn append_copies(all: &mut Vec<Record>, records: &[Record]) -> Result
 fn owned_copy(q: &Record, owner: &Name) -> Result<Record, AllocError>
     ensures { IfOk result (λ copy. copy ≡ record q.now { name = owner.now }) }
 {
-    let mut copy = q.clone()?;
-    copy.name = owner.clone()?;
-    Ok(copy)
+    Ok(Record {
+        name: owner.clone()?,
+        dns_class: q.dns_class,
+        ttl: q.ttl,
+        rdata: q.rdata.clone()?,
+        proof: q.proof,
+    })
 }
 
 /// Puts copies of the records last, owned by another name. Where memory is refused, those of a front of them may have been put.
@@ -217,26 +223,43 @@ fn canonical(cname: &[Record]) -> Result<Option<Name>, AllocError>
     }
 }
 
-/// Puts what the zone has for one name last, which is the key's in the letter case in which it was asked.
+/// A chain of one name, with records that lie in the zone as they are asked for, if it has any.
+#[derive(Clone, Copy)]
+pub(crate) struct OneLink<'z> {
+    pub(crate) answers: &'z [Record],
+    pub(crate) end: ChainEnd<'z>,
+}
+
+/// What was found for the first name of a chain, where the chain ends there and nothing is synthesized or put together.
+pub(crate) fn one_link<'z>(found: Found<'z>) -> Option<OneLink<'z>>
+    ensures { IfSome result (λ link. (sets : Sets) (low name : DomainName) (t : ℕ) → step t [] name (outcome_of sets low found.entry) ≡ ends link.answers.now (ending_of link.end)) }
+{
+    let (answers, end): (&'z [Record], ChainEnd<'z>) = match found {
+        Found::Answer(records) => (records, ChainEnd::Answer),
+        Found::Referral(servers) => (&[], ChainEnd::Referral(servers)),
+        Found::NoData => (&[], ChainEnd::NoData),
+        Found::NoName => (&[], ChainEnd::NoName),
+        _ => return None,
+    };
+    Some(OneLink { answers, end })
+}
+
+/// Puts what was found for one name last, which is the key's in the letter case in which it was asked.
 fn append_link<'z>(
     alloc: Global,
-    origin: &LowerName,
     sets: &'z BTreeMap<RrKey, Rc<RecordSet>>,
     name: &Name,
     first: &RrKey,
     record_type: RecordType,
-    has: Features,
+    found: Found<'z>,
     answers: &mut Vec<Record>,
 ) -> Result<Link<'z>, AllocError>
     requires least { first.now.record_type ≡ 0 }
     requires spelled { first.now.name ≡ lower_name name.now }
-    requires qualified { first.now.name.is_fqdn ≡ true }
-    requires owners { AreOwners origin.now (sets_of sets.now) }
-    requires within { Encloses origin.now.labels first.now.name.labels }
-    requires features { AreFeatures (record { origin = origin.now; sets = sets_of sets.now }) has }
-    ensures { IfOk result (Linked (record { origin = origin.now; sets = sets_of sets.now }) record_type name.now answers.old.items answers.new.items) }
+    ensures { IfOk result (λ link. (zone : Zone) → zone.sets ≡ sets_of sets.now → Answers zone first.now.name record_type (outcome_of (sets_of sets.now) first.now.name found.entry)
+        → Linked zone record_type name.now answers.old.items answers.new.items link) }
 {
-    match look_up(alloc, origin, sets, first, record_type, has)? {
+    match found {
         Found::Answer(records) => {
             append_once(answers, name, records)?;
             Ok(Link::End(ChainEnd::Answer))
@@ -302,7 +325,7 @@ fn owns_cname(name: &LowerName, records: &[Record]) -> bool
 }
 
 /// Puts the records of the answer section for a name in the zone last, with at most so many CNAMEs followed. The name is the key's, in
-/// the letter case in which it was asked. The records of a chain that led here stand there.
+/// the letter case in which it was asked, and this was found for it. The records of a chain that led here stand there.
 pub fn follow<'z>(
     alloc: Global,
     origin: &LowerName,
@@ -312,6 +335,7 @@ pub fn follow<'z>(
     record_type: RecordType,
     left: u8,
     has: Features,
+    found: Found<'z>,
     answers: &mut Vec<Record>,
 ) -> Result<ChainEnd<'z>, AllocError>
     requires least { first.now.record_type ≡ 0 }
@@ -320,9 +344,10 @@ pub fn follow<'z>(
     requires owners { AreOwners origin.now (sets_of sets.now) }
     requires within { Encloses origin.now.labels first.now.name.labels }
     requires features { AreFeatures (record { origin = origin.now; sets = sets_of sets.now }) has }
+    requires found { Answers (record { origin = origin.now; sets = sets_of sets.now }) first.now.name record_type (outcome_of (sets_of sets.now) first.now.name found) }
     ensures { IfOk result (λ end. Chased (record { origin = origin.now; sets = sets_of sets.now }) record_type left name.now answers.old.items answers.new.items (ending_of end)) }
 {
-    let to = match append_link(alloc, origin, sets, name, first, record_type, has, answers)? {
+    let to = match append_link(alloc, sets, name, first, record_type, found, answers)? {
         Link::End(end) => return Ok(end),
         Link::Leads(to) => to,
     };
@@ -338,6 +363,7 @@ pub fn follow<'z>(
     if owns_cname(&next.name, answers.as_slice()) {
         return Ok(ChainEnd::LeftOpen);
     }
+    let found = look_up(alloc, origin, sets, &next, record_type, has)?;
     follow(
         alloc,
         origin,
@@ -347,6 +373,7 @@ pub fn follow<'z>(
         record_type,
         left - 1,
         has,
+        found,
         answers,
     )
 }

@@ -5,8 +5,8 @@ ghost use Rattle.std.specs.Bool.{OnTrue};
 ghost use Rattle.std.specs.Option.{option_copied};
 ghost use Rattle.hickory_base.specs.zone_store.ZoneAnswers.{records_at};
 ghost use Rattle.hickory_base.specs.zone_store.ZoneSets.{has_name, sets_of};
-ghost use Rattle.hickory_zone.specs.Zones.{AreOwners, Answers, AnswersDirectly, Exists, Sets, any_of, ancestor, at_node, by_wildcard, Zone, of_sets, rrset, type_any, type_cname, type_ds, type_ns, wildcard};
-ghost use Rattle.std.specs.Prelude.{IfSome, length};
+ghost use Rattle.hickory_zone.specs.Zones.{AreOwners, Answers, AnswersDirectly, Exists, Sets, any_of, ancestor, at_node, by_wildcard, Zone, of_sets, rrset, type_a, type_aaaa, type_any, type_cname, type_ds, type_ns, wildcard};
+ghost use Rattle.std.specs.Prelude.{IfSome, IsSome, length};
 ghost use Rattle.wire_names.specs.rr.domain.DomainName.{AreLabels, IsWire, wire_form};
 ghost use Rattle.hickory_zone.specs.Features.{AreFeatures, IsOfLength};
 ghost use Rattle.hickory_zone.specs.FoundRecords.{first_or};
@@ -96,6 +96,37 @@ fn node_at<'z>(
     }
 }
 
+/// The addresses that a name owns.
+#[derive(Clone, Copy)]
+pub(crate) struct Addresses<'z> {
+    /// The RRset of type A.
+    pub(crate) four: Option<&'z [Record]>,
+    /// The RRset of type AAAA.
+    pub(crate) six: Option<&'z [Record]>,
+}
+
+/// The addresses that the key's name owns, both in one search. No type is below that of the key.
+pub(crate) fn addresses_at<'z>(
+    sets: &'z BTreeMap<RrKey, Rc<RecordSet>>,
+    first: &RrKey,
+) -> Addresses<'z>
+    requires { first.now.record_type ≡ 0 }
+    ensures four { option_copied result.four ≡ rrset (sets_of sets.now) first.now.name type_a }
+    ensures six { option_copied result.six ≡ rrset (sets_of sets.now) first.now.name type_aaaa }
+{
+    let mut four = None;
+    let mut six = None;
+    for (key, set) in sets.range(first..) {
+        if first.name != key.name {
+            break;
+        }
+        let records = set.records();
+        four = first_or(four, RecordType::A == key.record_type, records);
+        six = first_or(six, RecordType::AAAA == key.record_type, records);
+    }
+    Addresses { four, six }
+}
+
 /// The keys on both sides of a name, in their order.
 #[derive(Clone, Copy)]
 pub(crate) struct Neighbours<'z> {
@@ -167,27 +198,6 @@ fn encloser_beside<'z>(
     } else {
         Ok(None)
     }
-}
-
-/// The same of a name that does not exist. Mostly the name right above it is at or above the key behind, and then no other key is looked for.
-fn closest_encloser<'z>(
-    sets: &'z BTreeMap<RrKey, Rc<RecordSet>>,
-    first: &RrKey,
-    behind: Option<&'z RrKey>,
-) -> Result<Option<LowerName>, AllocError>
-    requires least { first.now.record_type ≡ 0 }
-    requires qualified { first.now.name.is_fqdn ≡ true }
-    requires behind { StandsBehind sets.now first.now (option_copied behind) }
-    requires missing { ¬ (Exists (sets_of sets.now) first.now.name) }
-    ensures { (origin : DomainName) → AreOwners origin (sets_of sets.now) → IfOk result
-        (λ found. MatchOption found ((k : ℕ) → ¬ (Exists (sets_of sets.now) (ancestor first.now.name k))) (IsEncloser (sets_of sets.now) first.now.name)) }
-{
-    let mut parent = first.name.clone()?;
-    parent.remove_first_label();
-    if is_above(&parent, behind) {
-        return Ok(Some(parent));
-    }
-    encloser_beside(sets, first, behind)
 }
 
 /// The RRset under a key.
@@ -449,30 +459,30 @@ fn find_existing<'z>(
     found_at_existing(node, record_type)
 }
 
-/// What is found where a name does not exist, below its closest encloser.
+/// What is found at the wildcard right below a name, for a name that does not exist, if there is such a wildcard.
 fn find_wild<'z>(
     alloc: Global,
     sets: &'z BTreeMap<RrKey, Rc<RecordSet>>,
     encloser: &LowerName,
     record_type: RecordType,
     has: Features,
-) -> Result<Found<'z>, AllocError>
+) -> Result<Option<Found<'z>>, AllocError>
     requires qualified { encloser.now.is_fqdn ≡ true }
     requires features { AreLabels encloser.now.labels → Exists (sets_of sets.now) (wildcard encloser.now) → IsOfLength has.wildcards (length (wire_form encloser.now.labels)) }
     ensures { (origin : DomainName) → AreOwners origin (sets_of sets.now) → IfOk result (WildFound (sets_of sets.now) encloser.now record_type) }
 {
     if !has_length(has.wildcards, encloser.as_name().as_wire().len()) {
-        return Ok(Found::NoName);
+        return Ok(None);
     }
     let Some(source) = wildcard_below(alloc, encloser)? else {
-        return Ok(Found::NoName);
+        return Ok(None);
     };
     let first = RrKey::new(source, RecordType::new(0));
     let node = node_at(sets, &first, record_type);
     if is_above(&first.name, node.behind) {
-        Ok(find_at_wildcard(&first, node, record_type))
+        Ok(Some(find_at_wildcard(&first, node, record_type)))
     } else {
-        Ok(Found::NoName)
+        Ok(None)
     }
 }
 
@@ -483,7 +493,73 @@ fn referral_at_once<'z>(above: Option<&'z [Record]>, has: Features) -> Option<&'
     if has.dnames { None } else { above }
 }
 
-/// What the zone has for a name in it that does not exist.
+/// What the zone has for a name in it that does not exist, below its closest encloser, where this is found at the wildcard right below that one.
+fn found_below<'z>(
+    origin: &LowerName,
+    sets: &'z BTreeMap<RrKey, Rc<RecordSet>>,
+    encloser: &LowerName,
+    above: Option<&'z [Record]>,
+    has: Features,
+    wild: Option<Found<'z>>,
+) -> Result<Found<'z>, AllocError>
+    requires within { Encloses origin.now.labels encloser.now.labels }
+    requires features { AreFeatures (record { origin = origin.now; sets = sets_of sets.now }) has }
+    ensures { (name : DomainName) (t : ℕ) → IsEncloser (sets_of sets.now) name encloser.now → ¬ (Exists (sets_of sets.now) name)
+        → CutAbove (record { origin = origin.now; sets = sets_of sets.now }) name (option_copied above.entry) → WildFound (sets_of sets.now) encloser.now t wild.entry
+        → IfOk result (λ found. Answers (record { origin = origin.now; sets = sets_of sets.now }) name t (outcome_of (sets_of sets.now) name found)) }
+{
+    if let Some(by) = redirection_from(sets, origin, encloser, has)? {
+        return Ok(Found::Redirected(by));
+    }
+    if let Some(cut) = above {
+        return Ok(Found::Referral(cut));
+    }
+    match wild {
+        Some(found) => Ok(found),
+        None => Ok(Found::NoName),
+    }
+}
+
+/// Whether a name exists, as a wildcard right below it tells, or a key that is at it or below it. There may be others that tell so.
+fn is_told(name: &LowerName, wild: Option<Found<'_>>, key: Option<&RrKey>) -> bool
+    ensures { IsTrue result → IsSome wild.entry ⊎ IsAbove name.now (option_copied key.entry) }
+{
+    match wild {
+        Some(_) => true,
+        None => is_above(name, key),
+    }
+}
+
+/// What the zone has for a name in it that does not exist, where its closest encloser is looked for among the keys beside it.
+fn look_beside<'z>(
+    alloc: Global,
+    origin: &LowerName,
+    sets: &'z BTreeMap<RrKey, Rc<RecordSet>>,
+    first: &RrKey,
+    record_type: RecordType,
+    behind: Option<&'z RrKey>,
+    above: Option<&'z [Record]>,
+    has: Features,
+) -> Result<Found<'z>, AllocError>
+    requires least { first.now.record_type ≡ 0 }
+    requires qualified { first.now.name.is_fqdn ≡ true }
+    requires owners { AreOwners origin.now (sets_of sets.now) }
+    requires within { Encloses origin.now.labels first.now.name.labels }
+    requires behind { StandsBehind sets.now first.now (option_copied behind) }
+    requires missing { ¬ (Exists (sets_of sets.now) first.now.name) }
+    requires above { CutAbove (record { origin = origin.now; sets = sets_of sets.now }) first.now.name (option_copied above) }
+    requires features { AreFeatures (record { origin = origin.now; sets = sets_of sets.now }) has }
+    ensures { IfOk result (λ found. Answers (record { origin = origin.now; sets = sets_of sets.now }) first.now.name record_type (outcome_of (sets_of sets.now) first.now.name found)) }
+{
+    let Some(encloser) = encloser_beside(sets, first, behind)? else {
+        return Ok(Found::NoName);
+    };
+    let wild = find_wild(alloc, sets, &encloser, record_type, has)?;
+    found_below(origin, sets, &encloser, above, has, wild)
+}
+
+/// What the zone has for a name in it that does not exist. Mostly a wildcard right below the name above it or the key behind it tells that the name above exists, and
+/// then no other key is looked for.
 fn look_above<'z>(
     alloc: Global,
     origin: &LowerName,
@@ -504,16 +580,14 @@ fn look_above<'z>(
     requires features { AreFeatures (record { origin = origin.now; sets = sets_of sets.now }) has }
     ensures { IfOk result (λ found. Answers (record { origin = origin.now; sets = sets_of sets.now }) first.now.name record_type (outcome_of (sets_of sets.now) first.now.name found)) }
 {
-    let Some(encloser) = closest_encloser(sets, first, behind)? else {
-        return Ok(Found::NoName);
-    };
-    if let Some(by) = redirection_from(sets, origin, &encloser, has)? {
-        return Ok(Found::Redirected(by));
+    let mut parent = first.name.clone()?;
+    parent.remove_first_label();
+    // speed: served, a wildcard
+    let wild = find_wild(alloc, sets, &parent, record_type, has)?;
+    if is_told(&parent, wild, behind) {
+        return found_below(origin, sets, &parent, above, has, wild);
     }
-    if let Some(cut) = above {
-        return Ok(Found::Referral(cut));
-    }
-    find_wild(alloc, sets, &encloser, record_type, has)
+    look_beside(alloc, origin, sets, first, record_type, behind, above, has)
 }
 
 /// What the zone has for a name in it that exists and owns this.

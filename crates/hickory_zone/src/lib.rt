@@ -17,7 +17,7 @@ pub mod worked;
 mod zone_with_parent;
 
 pub use additionals::Source;
-pub use answers::{are_owners, reply, reply_to, stored};
+pub use answers::{are_owners, reply, reply_to};
 pub use authoritative_zone::AuthoritativeZone;
 pub use chains::{ChainEnd, follow};
 pub use features::{Features, Lengths, features_of, with_records};

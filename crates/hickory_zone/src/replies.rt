@@ -1,151 +1,225 @@
 //! The whole reply in which a chain ends.
 
-ghost use Rattle.std.specs.Prelude.{◌≡◌, [], true, IfOk};
+ghost use Rattle.std.specs.Prelude.{◌≡◌, ℕ, [], true, IfSome, IsTrue, OnOk, Some};
+ghost use Rattle.wire_names.specs.rr.domain.DomainName.{DomainName};
+ghost use Rattle.hickory_zone.specs.FoundRecords.{outcome_of};
+ghost use Rattle.std.specs.Option.{option_copied};
 ghost use Rattle.hickory_base.specs.zone_store.ZoneSets.{sets_of};
 ghost use Rattle.hickory_zone.specs.ChainEnds.{ending_of};
 ghost use Rattle.hickory_zone.specs.Endings as ended;
 ghost use Rattle.hickory_zone.specs.Features.{AreFeatures};
+ghost use Rattle.hickory_zone.specs.ReplyAtOnce.{IsReplyAtOnce};
 ghost use Rattle.hickory_zone.specs.Replies.{EndsIn, denial_soa, whole};
-ghost use Rattle.hickory_zone.specs.Zones.{AreOwners};
+ghost use Rattle.hickory_zone.specs.Zones.{AreOwners, Records, Zone};
 
-use crate::additionals::{Source, additionals};
-use crate::chains::{ChainEnd, append_copies};
+use crate::additionals::{Source, additionals, are_hostless};
+use crate::chains::ChainEnd;
+use crate::denials::soa_of;
 use crate::features::Features;
-use hickory_base::zone_store::{RecordSet, WholeReply};
+use crate::find::Found;
+use hickory_base::zone_store::{RecordList, RecordSet, WholeReply};
 use hickory_wire::{Items, LowerName, Record, ResponseCode, RrKey};
 use std::alloc::{AllocError, Global};
 use std::collections::BTreeMap;
 use std::rc::Rc;
 
-/// A reply by its parts.
-fn whole(
+/// Makes this the reply of these parts.
+fn put<'z>(
+    reply: &mut WholeReply<'z>,
     response_code: ResponseCode,
     authoritative: bool,
-    answers: Vec<Record>,
-    authorities: Vec<Record>,
-    additionals: Vec<Record>,
-) -> WholeReply
-    ensures { result ≡ whole response_code authoritative answers.items authorities.items additionals.items }
+    answers: RecordList<'z>,
+    authorities: RecordList<'z>,
+    additionals: RecordList<'z>,
+)
+    ensures { reply.new ≡ whole response_code authoritative answers.entry authorities.entry additionals.entry }
 {
-    WholeReply {
+    *reply = WholeReply {
         response_code,
         authoritative,
-        answers: Items::from_vec(answers),
-        authorities: Items::from_vec(authorities),
-        additionals: Items::from_vec(additionals),
+        answers,
+        authorities,
+        additionals,
+    };
+}
+
+/// Makes this the reply of records that lie in the zone.
+fn put_lent<'z>(
+    reply: &mut WholeReply<'z>,
+    response_code: ResponseCode,
+    answers: &'z [Record],
+    authorities: &'z [Record],
+)
+    ensures { reply.new ≡ whole response_code true answers.now authorities.now [] }
+{
+    *reply = WholeReply {
+        response_code,
+        authoritative: true,
+        answers: RecordList::lent(answers),
+        authorities: RecordList::lent(authorities),
+        additionals: RecordList::empty(),
+    };
+}
+
+/// Makes this the reply where a name has no such records, if the SOA record was made before. Whether it was.
+fn put_lent_denial<'z>(
+    reply: &mut WholeReply<'z>,
+    response_code: ResponseCode,
+    soa: Option<&'z [Record]>,
+) -> bool
+    ensures { IsTrue result → (rs : Records) × (option_copied soa.entry ≡ Some rs) × (reply.new ≡ whole response_code true [] rs []) }
+{
+    match soa {
+        Some(soa) => {
+            put_lent(reply, response_code, &[], soa);
+            true
+        }
+        None => false,
     }
 }
 
-/// A reply with answers alone.
-pub(crate) fn bare(
-    alloc: Global,
-    response_code: ResponseCode,
-    authoritative: bool,
-    answers: Vec<Record>,
-) -> WholeReply
-    ensures { result ≡ whole response_code authoritative answers.items [] [] }
+/// Makes this the reply where what was found is records that name no host, or nothing, and the zone's SOA record was made before. Whether it is one.
+pub(crate) fn put_at_once<'z>(
+    found: Found<'z>,
+    soa: Option<&'z [Record]>,
+    reply: &mut WholeReply<'z>,
+) -> bool
+    ensures { IsTrue result → (zone : Zone) (low name : DomainName) (t : ℕ) → IfSome (option_copied soa.entry) (λ rs. rs ≡ denial_soa zone) → IsReplyAtOnce zone t name (outcome_of zone.sets low found.entry) reply.new }
 {
-    whole(
+    match found {
+        Found::Answer(records) => {
+            if !are_hostless(records) {
+                return false;
+            }
+            put_lent(reply, ResponseCode::NO_ERROR, records, &[]);
+            true
+        }
+        Found::NoData => put_lent_denial(reply, ResponseCode::NO_ERROR, soa),
+        Found::NoName => put_lent_denial(reply, ResponseCode::NX_DOMAIN, soa),
+        _ => false,
+    }
+}
+
+/// Makes this a reply with answers alone.
+fn put_bare<'z>(reply: &mut WholeReply<'z>, response_code: ResponseCode, answers: RecordList<'z>)
+    ensures { reply.new ≡ whole response_code true answers.entry [] [] }
+{
+    put(
+        reply,
         response_code,
-        authoritative,
+        true,
         answers,
-        Vec::new(alloc),
-        Vec::new(alloc),
-    )
+        RecordList::empty(),
+        RecordList::empty(),
+    );
 }
 
 /// Records that were asked for, with the addresses of the hosts that they name.
-fn answer(
+fn put_answer<'z>(
     alloc: Global,
     origin: &LowerName,
-    sets: &BTreeMap<RrKey, Rc<RecordSet>>,
+    sets: &'z BTreeMap<RrKey, Rc<RecordSet>>,
     has: Features,
-    answers: Vec<Record>,
-) -> Result<WholeReply, AllocError>
+    answers: RecordList<'z>,
+    reply: &mut WholeReply<'z>,
+) -> Result<(), AllocError>
     requires owners { AreOwners origin.now (sets_of sets.now) }
     requires features { AreFeatures (record { origin = origin.now; sets = sets_of sets.now }) has }
-    ensures { IfOk result (EndsIn (record { origin = origin.now; sets = sets_of sets.now }) answers.items ended.answer) }
+    ensures { OnOk result (EndsIn (record { origin = origin.now; sets = sets_of sets.now }) answers.entry ended.answer reply.new) }
 {
     let records = answers.as_slice();
     let added = additionals(alloc, origin, sets, Source::Answer, records, records, has)?;
-    Ok(whole(
+    put(
+        reply,
         ResponseCode::NO_ERROR,
         true,
         answers,
-        Vec::new(alloc),
-        added,
-    ))
+        RecordList::empty(),
+        RecordList::owned(Items::from_vec(added)),
+    );
+    Ok(())
 }
 
 /// A referral to the servers of a zone below, with their addresses.
-fn referral(
+#[inline(never)]
+fn put_referral<'z>(
     alloc: Global,
     origin: &LowerName,
-    sets: &BTreeMap<RrKey, Rc<RecordSet>>,
+    sets: &'z BTreeMap<RrKey, Rc<RecordSet>>,
     has: Features,
-    answers: Vec<Record>,
-    servers: &[Record],
-) -> Result<WholeReply, AllocError>
+    answers: RecordList<'z>,
+    servers: &'z [Record],
+    reply: &mut WholeReply<'z>,
+) -> Result<(), AllocError>
     requires owners { AreOwners origin.now (sets_of sets.now) }
     requires features { AreFeatures (record { origin = origin.now; sets = sets_of sets.now }) has }
-    ensures { IfOk result (EndsIn (record { origin = origin.now; sets = sets_of sets.now }) answers.items (ended.referral servers.now)) }
+    ensures { OnOk result (EndsIn (record { origin = origin.now; sets = sets_of sets.now }) answers.entry (ended.referral servers.now) reply.new) }
 {
-    let added = additionals(
-        alloc,
-        origin,
-        sets,
-        Source::Glue,
-        answers.as_slice(),
-        servers,
-        has,
-    )?;
-    let mut authorities = Vec::new(alloc);
-    append_copies(&mut authorities, servers)?;
-    let is_behind_alias = !answers.is_empty();
-    Ok(whole(
+    let records = answers.as_slice();
+    let added = additionals(alloc, origin, sets, Source::Glue, records, servers, has)?;
+    let is_behind_alias = !records.is_empty();
+    put(
+        reply,
         ResponseCode::NO_ERROR,
         is_behind_alias,
         answers,
-        authorities,
-        added,
-    ))
+        RecordList::lent(servers),
+        RecordList::owned(Items::from_vec(added)),
+    );
+    Ok(())
 }
 
 /// A denial, with the SOA record of the zone as it stands in denials.
-fn denial(
-    alloc: Global,
+fn put_denial<'z>(
+    reply: &mut WholeReply<'z>,
     response_code: ResponseCode,
-    answers: Vec<Record>,
-    soa: &[Record],
-) -> Result<WholeReply, AllocError>
-    ensures { IfOk result (λ reply. reply ≡ whole response_code true answers.items soa.now []) }
+    answers: RecordList<'z>,
+    soa: RecordList<'z>,
+)
+    ensures { reply.new ≡ whole response_code true answers.entry soa.entry [] }
 {
-    let mut authorities = Vec::new(alloc);
-    append_copies(&mut authorities, soa)?;
-    Ok(whole(response_code, true, answers, authorities, Vec::new(alloc)))
+    let none = RecordList::empty();
+    put(reply, response_code, true, answers, soa, none);
 }
 
-/// The reply where the answer section has the records of a chain that ends so.
-pub(crate) fn reply_of(
+/// Makes this the reply where the answer section has the records of a chain that ends so.
+pub(crate) fn put_reply<'z>(
     alloc: Global,
     origin: &LowerName,
-    sets: &BTreeMap<RrKey, Rc<RecordSet>>,
+    sets: &'z BTreeMap<RrKey, Rc<RecordSet>>,
     has: Features,
-    soa: &[Record],
-    answers: Vec<Record>,
-    end: ChainEnd<'_>,
-) -> Result<WholeReply, AllocError>
+    soa: Option<&'z [Record]>,
+    answers: RecordList<'z>,
+    end: ChainEnd<'z>,
+    reply: &mut WholeReply<'z>,
+) -> Result<(), AllocError>
     requires owners { AreOwners origin.now (sets_of sets.now) }
     requires features { AreFeatures (record { origin = origin.now; sets = sets_of sets.now }) has }
-    requires soa { soa.now ≡ denial_soa (record { origin = origin.now; sets = sets_of sets.now }) }
-    ensures { IfOk result (EndsIn (record { origin = origin.now; sets = sets_of sets.now }) answers.items (ending_of end.entry)) }
+    requires soa { IfSome (option_copied soa) (λ rs. rs ≡ denial_soa (record { origin = origin.now; sets = sets_of sets.now })) }
+    ensures { OnOk result (EndsIn (record { origin = origin.now; sets = sets_of sets.now }) answers.entry (ending_of end.entry) reply.new) }
 {
     match end {
-        ChainEnd::Answer => answer(alloc, origin, sets, has, answers),
-        ChainEnd::Referral(servers) => referral(alloc, origin, sets, has, answers, servers),
-        ChainEnd::NoData => denial(alloc, ResponseCode::NO_ERROR, answers, soa),
-        ChainEnd::NoName => denial(alloc, ResponseCode::NX_DOMAIN, answers, soa),
-        ChainEnd::NameTooLong => Ok(bare(alloc, ResponseCode::YX_DOMAIN, true, answers)),
-        ChainEnd::LeftOpen => Ok(bare(alloc, ResponseCode::NO_ERROR, true, answers)),
+        ChainEnd::Answer => put_answer(alloc, origin, sets, has, answers, reply),
+        ChainEnd::Referral(servers) => {
+            put_referral(alloc, origin, sets, has, answers, servers, reply)
+        }
+        ChainEnd::NoData => {
+            let soa = soa_of(alloc, origin, sets, soa)?;
+            put_denial(reply, ResponseCode::NO_ERROR, answers, soa);
+            Ok(())
+        }
+        ChainEnd::NoName => {
+            let soa = soa_of(alloc, origin, sets, soa)?;
+            put_denial(reply, ResponseCode::NX_DOMAIN, answers, soa);
+            Ok(())
+        }
+        ChainEnd::NameTooLong => {
+            put_bare(reply, ResponseCode::YX_DOMAIN, answers);
+            Ok(())
+        }
+        ChainEnd::LeftOpen => {
+            put_bare(reply, ResponseCode::NO_ERROR, answers);
+            Ok(())
+        }
     }
 }

@@ -17,12 +17,7 @@ fn wildcard_labels(wire: &[u8]) -> Option<Labels>
     }
     let mut labels = Labels::new();
     labels.push(b"*");
-    let mut place = 0;
-    while place < wire.len() {
-        let end = place + 1 + usize::from(wire[place]);
-        labels.push(&wire[place + 1..end]);
-        place = end;
-    }
+    labels.append(wire);
     Some(labels)
 }
 

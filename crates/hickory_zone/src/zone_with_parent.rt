@@ -1,20 +1,23 @@
 //! A zone beside the zone above it, where one server has both.
 
-ghost use Rattle.std.specs.Prelude.{◌≡◌, ◌⊎◌, Err, None, Some, false};
+ghost use Rattle.std.specs.Prelude.{◌≡◌, ◌⊎◌, Err, None, Result, Some, false};
+ghost use Rattle.hickory_base.specs.declared.errors.LookupError.{LookupError};
+ghost use Rattle.hickory_base.specs.declared.zone_store.lookup.AuthLookup.{AuthLookup};
 ghost use Rattle.std.specs.Option.{option_copied};
 ghost use Rattle.hickory_base.specs.declared.errors.LookupError.TheVariants.{Memory};
 ghost use Rattle.hickory_base.specs.declared.errors.UpdateFault.TheVariants.{Code};
-ghost use Rattle.hickory_base.specs.declared.zone_store.lookup.LookupControlFlow.TheVariants.{Skip};
+ghost use Rattle.hickory_base.specs.declared.zone_store.lookup.LookupControlFlow.TheVariants.{Continue, Skip};
 ghost use Rattle.hickory_base.specs.zone_store.ZoneAnswers.{MemoryZone};
 ghost use Rattle.hickory_zone.specs.Handled.{LookedUp, TransferAnswered};
 ghost use Rattle.hickory_zone.specs.Parents.{IsGiven, Searched, asked_above, is_above};
 
 use crate::authoritative_zone::AuthoritativeZone;
+use crate::handled::unasked;
 use hickory_base::errors::{LookupError, UpdateFault};
 use hickory_base::server::{Request, RequestInfo};
 use hickory_base::zone_store::{
     AuthLookup, AxfrPolicy, LookupControlFlow, LookupOptions, Nsec3QueryInfo, NxProofKind,
-    StoredAnswer, ZoneHandler, ZoneTransfer, ZoneType,
+    ZoneHandler, ZoneTransfer, ZoneType,
 };
 use hickory_wire::{LowerName, LowerQuery, Record, RecordType, ResponseCode, TSigResponseContext};
 use std::alloc::Global;
@@ -41,14 +44,33 @@ fn is_above(zone: &AuthoritativeZone, query: &LowerQuery) -> bool
 }
 
 /// The whole reply of the zone above.
-fn whole(
-    parent: &AuthoritativeZone,
+fn whole<'z>(
+    parent: &'z AuthoritativeZone,
     alloc: Global,
     query: &LowerQuery,
-) -> Result<AuthLookup, LookupError>
+) -> Result<AuthLookup<'z>, LookupError>
     ensures { (zone : MemoryZone) → IsGiven zone query.now (Some parent.now) result ⊎ (result ≡ Err Memory) }
 {
     Ok(AuthLookup::Whole(parent.reply(alloc, query)?))
+}
+
+/// What the zone above answers, for which no room is made where the zone itself is asked.
+#[inline(never)]
+fn answer_above<'z>(
+    parent: &'z AuthoritativeZone,
+    alloc: Global,
+    query: &LowerQuery,
+) -> (
+    LookupControlFlow<AuthLookup<'z>>,
+    Option<TSigResponseContext>,
+)
+    ensures answer { (given : Result AuthLookup LookupError) × (result.0 ≡ Continue given) × ((zone : MemoryZone) → IsGiven zone query.now (Some parent.now) given ⊎ (given ≡ Err Memory)) }
+    ensures context { result.1 ≡ None }
+{
+    (
+        LookupControlFlow::Continue(whole(parent, alloc, query)),
+        None,
+    )
 }
 
 impl ZoneWithParent {
@@ -115,7 +137,7 @@ impl ZoneHandler for ZoneWithParent {
         record_type: RecordType,
         info: Option<&RequestInfo<'_>>,
         options: LookupOptions,
-    ) -> LookupControlFlow<AuthLookup> {
+    ) -> LookupControlFlow<AuthLookup<'_>> {
         self.zone.lookup(alloc, name, record_type, info, options)
     }
 
@@ -123,43 +145,36 @@ impl ZoneHandler for ZoneWithParent {
         &self,
         alloc: Global,
         request: &Request,
-        options: LookupOptions,
-    ) -> (LookupControlFlow<AuthLookup>, Option<TSigResponseContext>) {
+        _options: LookupOptions,
+    ) -> (
+        LookupControlFlow<AuthLookup<'_>>,
+        Option<TSigResponseContext>,
+    ) {
         let query = match request.request_info() {
             Ok(info) => info.query,
-            Err(e) => return (LookupControlFlow::Break(Err(e)), None),
+            Err(e) => return unasked(e),
         };
         match self.asked_above(query) {
-            Some(parent) => (
-                LookupControlFlow::Continue(whole(parent, alloc, query)),
+            Some(parent) => answer_above(parent, alloc, query),
+            None => (
+                LookupControlFlow::Continue(self.zone.whole(alloc, query)),
                 None,
             ),
-            None => self.zone.search(alloc, request, options),
         }
     }
 
-    fn stored_answer(&self, request: &Request, options: LookupOptions) -> Option<StoredAnswer<'_>> {
-        match request.request_info() {
-            Ok(info) if self.asked_above(info.query).is_none() => {
-                self.zone.stored_answer(request, options)
-            }
-            _ => None,
-        }
-    }
-
-    fn stored_soa(&self, options: LookupOptions) -> Option<&[Record]> {
-        self.zone.stored_soa(options)
-    }
-
-    fn consult(
-        &self,
+    fn consult<'z>(
+        &'z self,
         _alloc: Global,
         _name: &LowerName,
         _record_type: RecordType,
         _info: Option<&RequestInfo<'_>>,
         _options: LookupOptions,
-        last: LookupControlFlow<AuthLookup>,
-    ) -> (LookupControlFlow<AuthLookup>, Option<TSigResponseContext>) {
+        last: LookupControlFlow<AuthLookup<'z>>,
+    ) -> (
+        LookupControlFlow<AuthLookup<'z>>,
+        Option<TSigResponseContext>,
+    ) {
         (last, None)
     }
 
@@ -183,7 +198,7 @@ impl ZoneHandler for ZoneWithParent {
         _alloc: Global,
         _name: &LowerName,
         _options: LookupOptions,
-    ) -> LookupControlFlow<AuthLookup> {
+    ) -> LookupControlFlow<AuthLookup<'_>> {
         LookupControlFlow::Skip
     }
 
@@ -192,7 +207,7 @@ impl ZoneHandler for ZoneWithParent {
         _alloc: Global,
         _info: Nsec3QueryInfo<'_>,
         _options: LookupOptions,
-    ) -> LookupControlFlow<AuthLookup> {
+    ) -> LookupControlFlow<AuthLookup<'_>> {
         LookupControlFlow::Skip
     }
 

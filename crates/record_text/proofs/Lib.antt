@@ -11,6 +11,7 @@ pub mod NoRow
 pub mod OneLength
 pub mod PortsOnce
 pub mod PrefixesOnce
+pub mod Relays
 pub mod RowSteps
 pub mod SameWords
 pub mod TypesOnce

@@ -9,17 +9,19 @@ use Rattle.record_text.specs.declared.data.field.Field.{Field}
 use Rattle.record_text.specs.declared.data.field.Field.TheVariants as field
 use Rattle.record_text.specs.declared.data.field.Rest.{Rest}
 use Rattle.record_text.specs.declared.data.field.Rest.TheVariants as kind
+use Rattle.location_text.specs.LocationText.{IsLocation}
 use Rattle.service_text.specs.ServiceText.{AreServiceParameters}
 use Rattle.text_words.specs.declared.words.Word.{Word}
 use Rattle.text_words.specs.Spelling.{IsString}
-use Rattle.record_text.specs.RecordText.{AreFields, AreFieldsBefore, AreNames, ArePlain, ArePortBits, ArePorts, AreStrings, AreTypes, HasNone, IsBase64, IsData, IsField, IsGateway, IsRest, IsRow, IsTypeSet, SpellsPort, SpellsType, bytes_of}
+use Rattle.record_text.specs.RecordText.{AreFields, AreFieldsBefore, AreLowTypes, AreNames, ArePlain, ArePortBits, ArePorts, AreStrings, AreTypes, HasNone, IsBase64, IsData, IsField, IsGateway, IsLowTypeSet, IsRest, IsRow, IsTypeSet, SpellsPort, SpellsType, bytes_of}
 use Rattle.record_text.specs.RecordText.AreNames.{none as no_servers, more as one_server}
 use Rattle.record_text.specs.RecordText.ArePorts.{none as no_ports_here, more as one_port}
+use Rattle.record_text.specs.RecordText.AreLowTypes.{none as no_low_here, more as one_low}
 use Rattle.record_text.specs.RecordText.AreFields.{none as no_fields, more as one_field}
 use Rattle.record_text.specs.RecordText.AreStrings.{none as no_words, more as one_string}
 use Rattle.record_text.specs.RecordText.AreTypes.{none as no_names, more as one_type}
 use Rattle.record_text.specs.RecordText.IsData.{in_form}
-use Rattle.record_text.specs.RecordText.IsRest.{nothing, strings, hex, base64, types, service, ports, prefixes, gateway, host}
+use Rattle.record_text.specs.RecordText.IsRest.{nothing, strings, hex, base64, types, service, ports, prefixes, gateway, low_types, location, relay, host}
 use Rattle.record_text.specs.Prefixes.{ArePrefixes, SpellsPrefix}
 use Rattle.record_text.specs.Prefixes.ArePrefixes.{none as no_prefixes_here, more as one_prefix}
 use Rattle.record_text.specs.TypeTable.{TypeRow, row_of}
@@ -133,6 +135,28 @@ no_prefixes origin words none octets (prefixes is) = none octets is
 pub no_gateway : (origin : Option DomainName) (words : List Word) → HasNone (IsGateway origin words) → HasNone (IsRest origin kind.Gateway words)
 no_gateway origin words none octets (gateway is) = none octets is
 
+pub no_low : (origin : Option DomainName) (words : List Word) → HasNone (IsLowTypeSet words) → HasNone (IsRest origin kind.LowTypes words)
+no_low origin words none octets (low_types is) = none octets is
+
+pub no_location : (origin : Option DomainName) (words : List Word) → HasNone (IsLocation words) → HasNone (IsRest origin kind.Location words)
+no_location origin words none octets (location is) = none octets is
+
+-- a type from 1 to 127
+abbrev pub IsLow : Word → ℕ → Type 0
+IsLow word number = (word.quoted ≡ false) × SpellsType word.bytes.now number × (0 < number) × (number < 128)
+
+pub low_at : {words : List Word} {numbers : List ℕ} → AreLowTypes words numbers → (i : ℕ) (d : Word) → i < length words → (number : ℕ) × IsLow (get_or words i d) number
+low_at no_low_here i d below = absurd (omega arith)
+low_at (one_low {words = ws} {number = number} w before plain is some small) i d below = elim (cases_lt i (length ws)) [
+  | inl h ↦
+      let at : (n : ℕ) × IsLow (get_or ws i d) n = low_at before i d h in
+      subst (λ (x : Word). (n : ℕ) × IsLow x n) (sym (get_or_append_left ws (w ∷ []) d i h)) at
+  | inr h ↦ subst (λ (x : Word). (n : ℕ) × IsLow x n) (sym (get_or_push ws w d i (omega (arith, length_push ws w, below, h)))) (number, (plain, is, some, small))
+]
+
+pub no_low_at : (words : List Word) (i : ℕ) (d : Word) → i < length words → HasNone (IsLow (get_or words i d)) → HasNone (AreLowTypes words)
+no_low_at words i d below none numbers are = let at : (n : ℕ) × IsLow (get_or words i d) n = low_at are i d below in none at.0 at.1
+
 -- no words stand there in a form of the type, where it has none, or without words, where it needs some
 pub not_generic : {origin : Option DomainName} {rest : Rest} {words : List Word} {octets : List ℕ} → IsRest origin rest words octets → rest ≢ kind.Generic
 not_generic nothing e = absurd (cc)
@@ -145,6 +169,9 @@ not_generic (ports is) e = absurd (cc)
 not_generic (prefixes is) e = absurd (cc)
 not_generic (gateway is) e = absurd (cc)
 not_generic (host is) e = absurd (cc)
+not_generic (low_types is) e = absurd (cc)
+not_generic (location is) e = absurd (cc)
+not_generic (relay is) e = absurd (cc)
 
 pub some_strings : (origin : Option DomainName) (words : List Word) → words ≡ [] → HasNone (IsRest origin kind.Strings words)
 some_strings origin words empty octets (strings some are) = some empty

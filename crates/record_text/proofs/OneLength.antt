@@ -20,8 +20,9 @@ use Rattle.record_text.specs.declared.data.hex_groups.Group.TheVariants as group
 use Rattle.record_text.specs.Groups.{IsGroup, SpellsHexGroups, SpellsNsap, without_dots}
 use Rattle.record_text.specs.Groups.IsGroup.{octet, bits16}
 use Rattle.record_text.specs.Groups.SpellsHexGroups.{first, more as one_group}
-use Rattle.record_text.specs.RecordText.{AreFields, AreNames, ArePorts, AreStrings, AreTypes, IsBase64, IsData, IsField, IsGateway, IsIdentity, IsRest, IsRow, SpellsPort, SpellsType, bytes_of}
+use Rattle.record_text.specs.RecordText.{AreFields, AreLowTypes, AreNames, ArePorts, AreStrings, AreTypes, IsBase64, IsData, IsField, IsGateway, IsIdentity, IsRelay, IsRest, IsRow, SpellsPort, SpellsType, bytes_of}
 use Rattle.record_text.specs.RecordText.AreNames.{none as no_servers, more as one_server}
+use Rattle.record_text.specs.RecordText.AreLowTypes.{none as no_low_types, more as one_low}
 use Rattle.record_text.specs.RecordText.ArePorts.{none as no_ports, more as one_port}
 use Rattle.record_text.proofs.PortsOnce.{port_once}
 use Rattle.record_text.proofs.PrefixesOnce.{prefix_once}
@@ -30,14 +31,16 @@ use Rattle.record_text.specs.RecordText.AreFields.{none as no_fields, more as on
 use Rattle.record_text.specs.RecordText.AreStrings.{none as no_words, more as one_string}
 use Rattle.record_text.specs.RecordText.AreTypes.{none as no_names, more as one_type}
 use Rattle.record_text.specs.RecordText.IsData.{in_form}
-use Rattle.record_text.specs.RecordText.IsRest.{nothing, strings, hex, base64, types, service, ports, prefixes, gateway, host}
+use Rattle.record_text.specs.RecordText.IsRest.{nothing, strings, hex, base64, types, service, ports, prefixes, gateway, low_types, location, relay, host}
 use Rattle.record_text.specs.Prefixes.{ArePrefixes, SpellsPrefix}
 use Rattle.record_text.specs.Prefixes.ArePrefixes.{none as no_prefixes, more as one_prefix}
 use Rattle.record_text.specs.TypeBitmaps.{bitmap, bitmap_len, windows}
 use Rattle.record_text.specs.TypeTable.{TypeRow}
 use Rattle.record_text.proofs.Digits.{group_octets}
+use Rattle.record_text.proofs.Relays.{relay_told}
 use Rattle.record_text.proofs.Gateways.{before_key, behind_fields, told_of}
 use Rattle.record_text.proofs.NoRow.{fields_len}
+use Rattle.location_text.proofs.SameLocation.{location_len}
 use Rattle.service_text.specs.ServiceText.{ParametersOnce}
 use Rattle.text_words.specs.declared.words.Word.{Word}
 use Rattle.text_words.specs.Spelling.{BytesSpelledOnce, IsString, NamesSpelledOnce, StringsSpelledOnce}
@@ -167,6 +170,16 @@ module _ (bytes_once : BytesSpelledOnce) (strings_once : StringsSpelledOnce) (na
       let last : n ≡ m = port_once w.bytes.now n m is (subst (λ (v : Word). SpellsPort v.bytes.now m) (sym same.1) is') in
       rw (front, last) refl
 
+  low_one : {words ws : List Word} {a b : List ℕ} → AreLowTypes words a → AreLowTypes ws b → words ≡ ws → a ≡ b
+  low_one no_low_types no_low_types e = refl
+  low_one no_low_types (one_low {words = ws} w before plain is some small) e = absurd (no_push ws w e)
+  low_one (one_low {words = ws} w before plain is some small) no_low_types e = absurd (no_push ws w (sym e))
+  low_one (one_low {words = ws} {numbers = a} {number = n} w before plain is some small) (one_low {words = ws'} {numbers = b} {number = m} w' before' plain' is' some' small') e =
+      let same = same_from_push ws ws' w w' e in
+      let front : a ≡ b = low_one before before' same.0 in
+      let last : n ≡ m = types_once w.bytes.now n m is (subst (λ (v : Word). SpellsType v.bytes.now m) (sym same.1) is') in
+      rw (front, last) refl
+
   prefixes_one : {words ws : List Word} {a b : List ℕ} → ArePrefixes words a → ArePrefixes ws b → words ≡ ws → a ≡ b
   prefixes_one no_prefixes no_prefixes e = refl
   prefixes_one no_prefixes (one_prefix {words = ws} w before plain is) e = absurd (no_push ws w e)
@@ -198,6 +211,14 @@ module _ (bytes_once : BytesSpelledOnce) (strings_once : StringsSpelledOnce) (na
       let names : length one.named ≡ length two.named = names_one one.met two.met refl in
       omega (arith, ap length one.together, ap length two.together, host_len one.algorithm one.tag one.key one.named, host_len two.algorithm two.tag two.key two.named, tags, keys, names)
 
+  -- the octets of a relay
+  relay_len : (origin : Option DomainName) (w1 w2 w3 : Word) (a b : List ℕ) → IsRelay origin w1 w2 w3 a → IsRelay origin w1 w2 w3 b → length a ≡ length b
+  relay_len origin w1 w2 w3 a b one two =
+      let kinds : two.kind ≡ one.kind = sym two.typed.1.value ∙ one.typed.1.value in
+      let fields : two.field ≡ one.field = relay_told two.kind one.kind two.field one.field kinds two.told one.told in
+      let own : length one.own ≡ length two.own = field_len origin one.field w3 one.own two.own one.is (subst (λ (f : Field). IsField origin f w3 two.own) fields two.is) in
+      omega (arith, ap length one.together, ap length two.together, own)
+
   rest_len : (base64_once : Base64Once) (origin : Option DomainName) (rest : Rest) (words : List Word) (a b : List ℕ) → IsRest origin rest words a → IsRest origin rest words b → length a ≡ length b
   rest_len base64_once origin rest words a b nothing nothing = refl
   rest_len base64_once origin rest words a b (strings some is) (strings some' is') = ap length (strings_one is is' refl)
@@ -208,6 +229,9 @@ module _ (bytes_once : BytesSpelledOnce) (strings_once : StringsSpelledOnce) (na
   rest_len base64_once origin rest words a b (ports is) (ports is') = ap length (is.written ∙ ap (λ (ps : List ℕ). bitmap ps 0 (bitmap_len ps)) (ports_one is.spelled is'.spelled refl) ∙ sym is'.written)
   rest_len base64_once origin rest words a b (prefixes is) (prefixes is') = ap length (prefixes_one is is' refl)
   rest_len base64_once origin rest words a b (gateway is) (gateway is') = gateway_len base64_once origin words a b is is'
+  rest_len base64_once origin rest words a b (low_types is) (low_types is') = ap length (is.written ∙ ap (λ (ts : List ℕ). bitmap ts 0 (bitmap_len ts)) (low_one is.spelled is'.spelled refl) ∙ sym is'.written)
+  rest_len base64_once origin rest words a b (location is) (location is') = location_len words a is ∙ sym (location_len words b is')
+  rest_len base64_once origin rest words a b (relay {first = f} {second = g} {third = h} is) (relay is') = relay_len origin f g h a b is is'
   rest_len base64_once origin rest words a b (host {first = f} {second = g} {third = h} {servers = ws} is) (host is') = identity_len base64_once origin f g h ws a b is is'
 
   row_len : (base64_once : Base64Once) (origin : Option DomainName) (row : TypeRow) (words : List Word) (a b : List ℕ) → IsRow origin row words a → IsRow origin row words b → length a ≡ length b

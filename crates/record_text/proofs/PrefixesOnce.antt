@@ -3,8 +3,9 @@ use Rattle.std.proofs.Common.{◌≡◌, ◌∙◌, ◌<◌, ◌≤◌, ℕ, tru
 use Rattle.std.specs.Prelude.{◌==◌}
 use Rattle.std.proofs.NetLemmas.Theorems.{IsIpv4Text_unique, IsIpv6Text_unique}
 use Rattle.std.specs.Net.Addr.{ipv4_octets, ipv6_octets}
+use Rattle.text_words.specs.Cuts.{before_byte, behind_byte}
 use Rattle.text_words.specs.Spelling.{IsNoNumber, IsNumber}
-use Rattle.record_text.specs.Prefixes.{IsAddressOf, IsPrefixOf, SpellsPrefix, address_bits, before_byte, behind_byte, without_mark}
+use Rattle.record_text.specs.Prefixes.{IsAddressOf, IsPrefixOf, SpellsPrefix, address_bits, without_mark}
 use Rattle.record_text.specs.Prefixes.IsAddressOf.{ipv4, ipv6}
 use Rattle.record_text.specs.RecordText.{HasNone}
 

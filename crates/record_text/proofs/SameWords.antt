@@ -13,19 +13,21 @@ use Rattle.record_text.specs.declared.data.field.Rest.TheVariants as kind
 use Rattle.record_text.specs.declared.data.hex_groups.Group.TheVariants as group
 use Rattle.record_text.specs.Groups.{SpellsGroups, SpellsHexGroups, SpellsNsap}
 use Rattle.record_text.specs.Moments.{SpellsMoment}
-use Rattle.record_text.specs.RecordText.{AreFields, AreNames, ArePlain, ArePorts, AreStrings, AreTypes, BeginGeneric, IsBase64, IsData, IsField, IsGateway, IsGenericData, IsIdentity, IsKey, IsNamed, IsRest, IsRow, IsTag, SpellsData, SpellsPort, SpellsType, bytes_of}
+use Rattle.record_text.specs.RecordText.{AreFields, AreLowTypes, AreNames, ArePlain, ArePorts, AreStrings, AreTypes, BeginGeneric, IsBase64, IsData, IsField, IsGateway, IsGenericData, IsIdentity, IsKey, IsNamed, IsRelay, IsRest, IsRow, IsTag, SpellsData, SpellsPort, SpellsType, bytes_of}
 use Rattle.record_text.specs.RecordText.AreNames.{none as no_servers, more as one_server}
+use Rattle.record_text.specs.RecordText.AreLowTypes.{none as no_low_types, more as one_low}
 use Rattle.record_text.specs.RecordText.ArePorts.{none as no_ports, more as one_port}
 use Rattle.record_text.specs.RecordText.IsField.{number8, number16, number32, named8, unnamed8, named16, unnamed16, time, name, string, text, ipv4, ipv6, type, moment, no_salt, salt, hash, eui48, eui64, locator64, no_gateway, nsap}
 use Rattle.record_text.specs.RecordText.AreFields.{none as no_fields, more as one_field}
 use Rattle.record_text.specs.RecordText.AreStrings.{none as no_words, more as one_string}
 use Rattle.record_text.specs.RecordText.AreTypes.{none as no_names, more as one_type}
 use Rattle.record_text.specs.RecordText.IsData.{in_form as of_row}
-use Rattle.record_text.specs.RecordText.IsRest.{nothing, strings, hex, base64, types, service, ports, prefixes, gateway, host}
+use Rattle.record_text.specs.RecordText.IsRest.{nothing, strings, hex, base64, types, service, ports, prefixes, gateway, low_types, location, relay, host}
 use Rattle.record_text.specs.RecordText.SpellsData.{in_form, generic}
 use Rattle.record_text.specs.Prefixes.{ArePrefixes, SpellsPrefix}
 use Rattle.record_text.specs.Prefixes.ArePrefixes.{none as no_prefixes, more as one_prefix}
 use Rattle.record_text.specs.TypeTable.{TypeRow}
+use Rattle.location_text.proofs.SameLocation.{same_location}
 use Rattle.service_text.specs.ServiceText.{ParametersOfWords}
 use Rattle.text_words.specs.declared.words.Word.{Word}
 use Rattle.text_words.specs.Spelling.{IsNumber, IsString, Spells, SpellsName, SpellsTime, any_byte}
@@ -152,6 +154,13 @@ same_ports (one_port {words = ws} {ports = numbers} {port = number} w before pla
     subst (λ (os : List Word). ArePorts os (numbers ++ number ∷ [])) (sym parts.whole)
     (one_port parts.last (same_ports before parts.first parts.firsts) (sym parts.lasts.quoted ∙ plain) (subst (λ (t : List ℕ). SpellsPort t number) parts.lasts.bytes is))
 
+same_low : {words : List Word} {numbers : List ℕ} → AreLowTypes words numbers → (others : List Word) → AreSameWords words others → AreLowTypes others numbers
+same_low no_low_types others h = subst (λ (ws : List Word). AreLowTypes ws []) (none_left others h) no_low_types
+same_low (one_low {words = ws} {numbers = numbers} {number = number} w before plain is some small) others h =
+    let parts : CutLast ws w others = cut_last ws w others h in
+    subst (λ (os : List Word). AreLowTypes os (numbers ++ number ∷ [])) (sym parts.whole)
+    (one_low parts.last (same_low before parts.first parts.firsts) (sym parts.lasts.quoted ∙ plain) (subst (λ (t : List ℕ). SpellsType t number) parts.lasts.bytes is) some small)
+
 same_prefixes : {words : List Word} {octets : List ℕ} → ArePrefixes words octets → (others : List Word) → AreSameWords words others → ArePrefixes others octets
 same_prefixes no_prefixes others h = subst (λ (ws : List Word). ArePrefixes ws []) (none_left others h) no_prefixes
 same_prefixes (one_prefix {words = ws} {octets = octets} {own = own} w before plain is) others h =
@@ -223,6 +232,26 @@ same_host origin a b c servers (d ∷ []) octets h is = absurd h.1
 same_host origin a b c servers (d ∷ e ∷ []) octets h is = absurd h.1.1
 same_host origin a b c servers (d ∷ e ∷ f ∷ others) octets h is = host (same_identity origin a b c d e f servers others octets h.0 h.1.0 h.1.1.0 h.1.1.1 is)
 
+same_parts : (origin : Option DomainName) (a b c d e f : Word) (octets : List ℕ) → SameWord a d → SameWord b e → SameWord c f → IsRelay origin a b c octets → IsRelay origin d e f octets
+same_parts origin a b c d e f octets s t u is = record {
+  discovery = is.discovery;
+  kind = is.kind;
+  field = is.field;
+  own = is.own;
+  optional = (sym s.quoted ∙ is.optional.0, subst (λ (x : List ℕ). IsNumber x is.discovery) s.bytes is.optional.1, is.optional.2);
+  typed = (sym t.quoted ∙ is.typed.0, subst (λ (x : List ℕ). IsNumber x is.kind) t.bytes is.typed.1);
+  told = is.told;
+  is = same_field origin is.field c f is.own u is.is;
+  together = is.together;
+}
+
+same_relay : (origin : Option DomainName) (a b c : Word) (others : List Word) (octets : List ℕ) → AreSameWords (a ∷ b ∷ c ∷ []) others → IsRelay origin a b c octets → IsRest origin kind.Relay others octets
+same_relay origin a b c [] octets h is = absurd h
+same_relay origin a b c (d ∷ []) octets h is = absurd h.1
+same_relay origin a b c (d ∷ e ∷ []) octets h is = absurd h.1.1
+same_relay origin a b c (d ∷ e ∷ f ∷ []) octets h is = relay (same_parts origin a b c d e f octets h.0 h.1.0 h.1.1.0 is)
+same_relay origin a b c (d ∷ e ∷ f ∷ g ∷ others) octets h is = absurd h.1.1.1
+
 module _ (service_same : ParametersOfWords) where
   same_rest : {origin : Option DomainName} {rest : Rest} {words : List Word} {octets : List ℕ} → IsRest origin rest words octets → (others : List Word) → AreSameWords words others → IsRest origin rest others octets
   same_rest {origin = origin} {rest = rest} nothing others h = subst (λ (ws : List Word). IsRest origin rest ws []) (none_left others h) nothing
@@ -234,6 +263,9 @@ module _ (service_same : ParametersOfWords) where
   same_rest (ports is) others h = ports (record { ports = is.ports; spelled = same_ports is.spelled others h; written = is.written })
   same_rest (prefixes is) others h = prefixes (same_prefixes is others h)
   same_rest {origin = origin} (gateway {words = words} is) others h = gateway (same_gateway origin words others _ h is)
+  same_rest (low_types is) others h = low_types (record { types = is.types; spelled = same_low is.spelled others h; written = is.written })
+  same_rest (location {words = words} is) others h = location (same_location words others _ is h)
+  same_rest {origin = origin} (relay {first = a} {second = b} {third = c} is) others h = same_relay origin a b c others _ h is
   same_rest {origin = origin} (host {first = a} {second = b} {third = c} {servers = ws} is) others h = same_host origin a b c ws others _ h is
 
   same_row : (origin : Option DomainName) (row : TypeRow) (words : List Word) (octets : List ℕ) → IsRow origin row words octets → (others : List Word) → AreSameWords words others → IsRow origin row others octets

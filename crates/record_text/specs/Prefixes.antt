@@ -6,16 +6,8 @@ use Rattle.std.specs.Net.Grammar.{IsIpv4Text, IsIpv6Text}
 use Rattle.std.specs.declared.net.ipv4_addr.Ipv4Addr.{Ipv4Addr}
 use Rattle.std.specs.declared.net.ipv6_addr.Ipv6Addr.{Ipv6Addr}
 use Rattle.text_words.specs.declared.words.Word.{Word}
+use Rattle.text_words.specs.Cuts.{before_byte, behind_byte}
 use Rattle.text_words.specs.Spelling.{IsNumber}
-
--- what stands in a text before the first such byte, and behind it; all of it and nothing, where it has none
-abbrev pub before_byte : ℕ → List ℕ → List ℕ
-before_byte byte [] = []
-before_byte byte (first ∷ text) = if first == byte then [] else first ∷ before_byte byte text
-
-abbrev pub behind_byte : ℕ → List ℕ → List ℕ
-behind_byte byte [] = []
-behind_byte byte (first ∷ text) = if first == byte then text else behind_byte byte text
 
 -- whether `!` stands first, and what stands behind it
 abbrev pub is_negated : List ℕ → Bool

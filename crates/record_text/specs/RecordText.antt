@@ -1,5 +1,5 @@
 -- The data of a record as the words of a zone's text, and the octets that they stand for (RFC 1035 section 5.1, RFC 3597 section 5).
-use Rattle.std.specs.Prelude.{◌≡◌, ◌≢◌, ℕ, ◌^◌, ◌<◌, ◌≤◌, ◌==◌, if◌then◌else◌, false, List, [], ◌∷◌, ◌++◌, length, map, codes, Any, All, Option, Some, None, Ok}
+use Rattle.std.specs.Prelude.{◌≡◌, ◌≢◌, ℕ, ◌+◌, ◌*◌, ◌^◌, ◌<◌, ◌≤◌, ◌==◌, if◌then◌else◌, false, List, [], ◌∷◌, ◌++◌, length, map, codes, Any, All, Option, Some, None, Ok}
 use Rattle.std.specs.Char.{to_ascii_lowercase}
 use Rattle.std.specs.Int.{w16, w32, to_be_bytes}
 use Rattle.std.specs.List.{flat_map}
@@ -26,6 +26,7 @@ use Rattle.record_text.specs.Mnemonics.{NamedNumber, mnemonics}
 use Rattle.record_text.specs.declared.data.field.Rest.{Rest}
 use Rattle.record_text.specs.declared.data.field.Rest.TheVariants as rest
 use Rattle.record_text.specs.declared.data.field.Row.{Row}
+use Rattle.location_text.specs.LocationText.{IsLocation}
 use Rattle.service_text.specs.ServiceText.{AreServiceParameters}
 use Rattle.text_words.specs.declared.words.TextKind.{TextKind}
 use Rattle.text_words.specs.declared.words.Word.{Word}
@@ -127,6 +128,17 @@ pub record IsTypeSet (words : List Word) (octets : List ℕ) : Type 0 where
   pub spelled : AreTypes words types
   pub written : octets ≡ windows types 256
 
+-- types from 1 to 127, one a word
+pub data AreLowTypes : List Word → List ℕ → Type 0 where
+  none : AreLowTypes [] []
+  more : {words : List Word} {numbers : List ℕ} {number : ℕ} (word : Word) → AreLowTypes words numbers → word.quoted ≡ false → SpellsType word.bytes.now number → 0 < number → number < 128 → AreLowTypes (words ++ word ∷ []) (numbers ++ number ∷ [])
+
+-- a set of such types as octets: a bitmap, in which the first bit is type 0, up to the octet of the greatest (RFC 2535 section 5.2)
+pub record IsLowTypeSet (words : List Word) (octets : List ℕ) : Type 0 where
+  pub types : List ℕ
+  pub spelled : AreLowTypes words types
+  pub written : octets ≡ bitmap types 0 (bitmap_len types)
+
 -- the bytes of words, one behind the other
 abbrev pub bytes_of : List Word → List ℕ
 bytes_of words = flat_map (λ word. word.bytes.now) words
@@ -215,9 +227,26 @@ pub record IsIdentity (origin : Option DomainName) (first second third : Word) (
   pub met : AreNames origin servers named
   pub together : octets ≡ length tag ∷ algorithm ∷ (to_be_bytes w16 (length key) ++ tag ++ key ++ named)
 
+-- the field of a relay by its type: `.` for none, an IPv4 address, an IPv6 address, or a name (RFC 8777 section 4.2.3)
+abbrev pub relay_field : ℕ → Option Field
+relay_field kind = if kind == 0 then Some field.NoGateway else if kind == 1 then Some field.Ipv4 else if kind == 2 then Some field.Ipv6 else if kind == 3 then Some field.Name else None
+
+-- Whether a relay may be asked at once, 0 or 1, its type, and the relay (RFC 8777 sections 4.2 and 4.3): the first octet has the one in its high bit, and the type
+-- in the others.
+pub record IsRelay (origin : Option DomainName) (first second third : Word) (octets : List ℕ) : Type 0 where
+  pub discovery : ℕ
+  pub kind : ℕ
+  pub field : Field
+  pub own : List ℕ
+  pub optional : (first.quoted ≡ false) × IsNumber first.bytes.now discovery × (discovery < 2)
+  pub typed : (second.quoted ≡ false) × IsNumber second.bytes.now kind
+  pub told : relay_field kind ≡ Some field
+  pub is : IsField origin field third own
+  pub together : octets ≡ (128 * discovery + kind) ∷ own
+
 -- What the words behind the fields stand for: none is left; character strings; hexadecimal digits; the encoding of octets in
 -- base 64; a set of types; the parameters of a service; the ports of services; address
--- prefixes; a gateway with its key; or the identity of a host.
+-- prefixes; a gateway with its key; the identity of a host; a set of types below 128; a location; or a relay.
 pub data IsRest (origin : Option DomainName) : Rest → List Word → List ℕ → Type 0 where
   nothing : IsRest origin rest.Nothing [] []
   strings : {words : List Word} {octets : List ℕ} → words ≢ [] → AreStrings words octets → IsRest origin rest.Strings words octets
@@ -228,6 +257,9 @@ pub data IsRest (origin : Option DomainName) : Rest → List Word → List ℕ �
   ports : {words : List Word} {octets : List ℕ} → ArePortBits words octets → IsRest origin rest.Services words octets
   prefixes : {words : List Word} {octets : List ℕ} → ArePrefixes words octets → IsRest origin rest.Prefixes words octets
   gateway : {words : List Word} {octets : List ℕ} → IsGateway origin words octets → IsRest origin rest.Gateway words octets
+  low_types : {words : List Word} {octets : List ℕ} → IsLowTypeSet words octets → IsRest origin rest.LowTypes words octets
+  location : {words : List Word} {octets : List ℕ} → IsLocation words octets → IsRest origin rest.Location words octets
+  relay : {first second third : Word} {octets : List ℕ} → IsRelay origin first second third octets → IsRest origin rest.Relay (first ∷ second ∷ third ∷ []) octets
   host : {first second third : Word} {servers : List Word} {octets : List ℕ} → IsIdentity origin first second third servers octets → IsRest origin rest.HostIdentity (first ∷ second ∷ third ∷ servers) octets
 
 -- words for the data of a row: its fields, and what stands behind them

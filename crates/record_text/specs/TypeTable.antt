@@ -4,7 +4,7 @@ use Rattle.record_text.specs.declared.data.field.Field.{Field}
 use Rattle.record_text.specs.declared.data.field.Field.TheVariants.{Number8, Number16, Number32, Named8, Named16, Time, Name, String, Text, Ipv4, Ipv6, RecordType, Moment, Salt, Hash, Eui48, Eui64, Locator64, Nsap}
 use Rattle.record_text.specs.declared.data.field.Names.TheVariants.{Algorithms, Certificates, Digests, Protocols, Schemes}
 use Rattle.record_text.specs.declared.data.field.Rest.{Rest}
-use Rattle.record_text.specs.declared.data.field.Rest.TheVariants.{Nothing, Strings, Hex, Base64, Types, ServiceParameters, Services, Prefixes, Gateway, HostIdentity, Generic}
+use Rattle.record_text.specs.declared.data.field.Rest.TheVariants.{Nothing, Strings, Hex, Base64, Types, ServiceParameters, Services, Prefixes, Gateway, HostIdentity, LowTypes, Location, Relay, Generic}
 
 -- A type: its number, its mnemonic, the fields that its data begin with, each of one word, and what all words behind them stand for.
 pub record TypeRow : Type 0 where
@@ -47,6 +47,8 @@ rows =
     ∷ row 26 (codes "PX") (Number16 ∷ Name ∷ Name ∷ []) Nothing  -- RFC 2163 section 4
     ∷ row 27 (codes "GPOS") (String ∷ String ∷ String ∷ []) Nothing  -- RFC 1712
     ∷ row 28 (codes "AAAA") (Ipv6 ∷ []) Nothing  -- RFC 3596 section 2.1
+    ∷ row 29 (codes "LOC") [] Location  -- RFC 1876 section 3
+    ∷ row 30 (codes "NXT") (Name ∷ []) LowTypes  -- RFC 2535 section 5
     ∷ row 31 (codes "EID") [] Hex  -- IANA's registry
     ∷ row 32 (codes "NIMLOC") [] Hex  -- IANA's registry
     ∷ row 33 (codes "SRV") (Number16 ∷ Number16 ∷ Number16 ∷ Name ∷ []) Nothing  -- RFC 2782
@@ -83,6 +85,10 @@ rows =
     ∷ row 67 (codes "HHIT") [] Base64  -- RFC 9886 section 5
     ∷ row 68 (codes "BRID") [] Base64  -- RFC 9886 section 5
     ∷ row 99 (codes "SPF") [] Strings  -- RFC 4408 section 3.1.1
+    ∷ row 100 (codes "UINFO") [] Generic  -- IANA's registry
+    ∷ row 101 (codes "UID") [] Generic  -- IANA's registry
+    ∷ row 102 (codes "GID") [] Generic  -- IANA's registry
+    ∷ row 103 (codes "UNSPEC") [] Generic  -- IANA's registry
     ∷ row 104 (codes "NID") (Number16 ∷ Locator64 ∷ []) Nothing  -- RFC 6742 section 2.1
     ∷ row 105 (codes "L32") (Number16 ∷ Ipv4 ∷ []) Nothing  -- RFC 6742 section 2.2
     ∷ row 106 (codes "L64") (Number16 ∷ Locator64 ∷ []) Nothing  -- RFC 6742 section 2.3
@@ -98,6 +104,7 @@ rows =
     ∷ row 256 (codes "URI") (Number16 ∷ Number16 ∷ Text ∷ []) Nothing  -- RFC 7553 section 4
     ∷ row 257 (codes "CAA") (Number8 ∷ String ∷ Text ∷ []) Nothing  -- RFC 8659 section 4.1.1
     ∷ row 258 (codes "AVC") [] Strings  -- IANA's registry
+    ∷ row 260 (codes "AMTRELAY") (Number8 ∷ []) Relay  -- RFC 8777 section 4.3
     ∷ row 261 (codes "RESINFO") [] Strings  -- RFC 9606 section 5
     ∷ row 262 (codes "WALLET") [] Strings  -- IANA's registry
     ∷ row 32768 (codes "TA") (Number16 ∷ Named8 Algorithms ∷ Named8 Digests ∷ []) Hex  -- IANA's registry

@@ -12,6 +12,7 @@ mod moment;
 mod nsap;
 mod ports;
 mod prefixes;
+mod relay;
 pub(crate) mod rest;
 pub(crate) mod table;
 mod types;

@@ -7,8 +7,8 @@ use crate::state::Zones;
 use hickory_base::errors::{DnsError, LookupError};
 use hickory_base::server::Request;
 use hickory_base::zone_store::{
-    AuthLookup, LookupControlFlow, LookupOptions, Nsec3QueryInfo, StoredAnswer, WholeReply,
-    ZoneHandler, ZoneTransfer,
+    AuthLookup, LookupControlFlow, LookupOptions, Nsec3QueryInfo, WholeReply, ZoneHandler,
+    ZoneTransfer,
 };
 use hickory_wire::{LowerName, RecordType, TSigResponseContext};
 use script_values::fault::Fault;
@@ -22,7 +22,7 @@ use std::alloc::Global;
 
 /// How `call` is written.
 pub const CALL_USAGE: &str =
-    "call search|stored HEX|NAME TYPE, call stored soa, call lookup|consult NAME TYPE [do], call transfer NAME|request HEX, call nsec NAME [do], call nsec3 NAME TYPE [do]";
+    "call search HEX|NAME TYPE, call lookup|consult NAME TYPE [do], call transfer NAME|request HEX, call nsec NAME [do], call nsec3 NAME TYPE [do]";
 
 /// Puts why there is no answer behind a text.
 fn print_fault(out: &mut Output, fault: &LookupError) {
@@ -39,7 +39,7 @@ fn print_fault(out: &mut Output, fault: &LookupError) {
 }
 
 /// Puts a whole reply behind a text: its code, AA, and the records of its sections.
-fn print_whole(out: &mut Output, reply: &WholeReply) {
+fn print_whole(out: &mut Output, reply: &WholeReply<'_>) {
     out.put("whole, ");
     out.put_value(&reply.response_code);
     out.put(if reply.authoritative { ", aa\n" } else { "\n" });
@@ -49,7 +49,7 @@ fn print_whole(out: &mut Output, reply: &WholeReply) {
 }
 
 /// Puts what was found behind a text: the answers, and then what is beside records of a zone.
-fn print_found(out: &mut Output, found: &AuthLookup) {
+fn print_found(out: &mut Output, found: &AuthLookup<'_>) {
     match found {
         AuthLookup::Empty => out.put("empty\n"),
         AuthLookup::Resolved(found) => {
@@ -69,7 +69,7 @@ fn print_found(out: &mut Output, found: &AuthLookup) {
 }
 
 /// Puts an answer behind a text, or why there is none.
-fn print_outcome(out: &mut Output, outcome: &Result<AuthLookup, LookupError>) {
+fn print_outcome(out: &mut Output, outcome: &Result<AuthLookup<'_>, LookupError>) {
     match outcome {
         Ok(found) => print_found(out, found),
         Err(fault) => print_fault(out, fault),
@@ -77,7 +77,7 @@ fn print_outcome(out: &mut Output, outcome: &Result<AuthLookup, LookupError>) {
 }
 
 /// Puts an answer behind a text, and whether the next handler may look at it.
-fn print_flow(out: &mut Output, answer: &LookupControlFlow<AuthLookup>) {
+fn print_flow(out: &mut Output, answer: &LookupControlFlow<AuthLookup<'_>>) {
     match answer {
         LookupControlFlow::Skip => out.put("skip\n"),
         LookupControlFlow::Continue(outcome) => {
@@ -101,14 +101,17 @@ fn print_context(out: &mut Output, context: &Option<TSigResponseContext>) {
 }
 
 /// Tells of an answer, and whether the next handler may look at it.
-fn tell_flow(answer: LookupControlFlow<AuthLookup>, out: &mut Output) {
+fn tell_flow(answer: LookupControlFlow<AuthLookup<'_>>, out: &mut Output) {
     print_flow(out, &answer);
     drop(answer);
 }
 
 /// Tells of an answer, and what a signer has to know.
 fn tell_answer(
-    answer: (LookupControlFlow<AuthLookup>, Option<TSigResponseContext>),
+    answer: (
+        LookupControlFlow<AuthLookup<'_>>,
+        Option<TSigResponseContext>,
+    ),
     out: &mut Output,
 ) {
     print_flow(out, &answer.0);
@@ -149,19 +152,6 @@ fn tell_transfer(
     drop(answer);
 }
 
-/// Puts an answer that lies in a handler behind a text, or that there is none and a search has to be asked.
-fn print_lent(out: &mut Output, answer: Option<StoredAnswer<'_>>) {
-    match answer {
-        None => out.put("nothing lent\n"),
-        Some(StoredAnswer::Records(records)) => {
-            out.put("lent: found\n");
-            print_records(out, records);
-        }
-        Some(StoredAnswer::NoName) => out.put("lent: no such name\n"),
-        Some(StoredAnswer::NoData) => out.put("lent: no records of the type\n"),
-    }
-}
-
 /// What the word `do`, or no word, asks for.
 fn options(words: &[&str]) -> Result<LookupOptions, Fault> {
     match words {
@@ -176,8 +166,6 @@ fn options(words: &[&str]) -> Result<LookupOptions, Fault> {
 enum RequestCall {
     /// `search`.
     Search,
-    /// `stored_answer`.
-    Stored,
     /// `zone_transfer`.
     Transfer,
 }
@@ -194,7 +182,6 @@ fn call_with(
     let options = LookupOptions::from_edns(request.message().edns.as_ref());
     match call {
         RequestCall::Search => tell_answer(handler.search(alloc, request, options), out),
-        RequestCall::Stored => print_lent(out, handler.stored_answer(request, options)),
         RequestCall::Transfer => {
             tell_transfer(handler.zone_transfer(alloc, request, options, now), out)
         }
@@ -215,12 +202,6 @@ fn call_with_bytes(
     call_with(handler, alloc, call, &request, settings.now, out);
     drop(request);
     Ok(())
-}
-
-/// Calls `stored_soa`.
-fn call_stored_soa(handler: &Handler, out: &mut Output) {
-    let soa = handler.stored_soa(LookupOptions { dnssec_ok: false });
-    print_lent(out, soa.map(StoredAnswer::Records));
 }
 
 /// A call that is made with a name.
@@ -334,7 +315,6 @@ fn transfer_bytes(alloc: Global, words: &[&str]) -> Result<Vec<u8>, Fault> {
 fn request_call(alloc: Global, words: &[&str]) -> Result<Option<(RequestCall, Vec<u8>)>, Fault> {
     Ok(Some(match words {
         ["search", words @ ..] => (RequestCall::Search, message(alloc, words, CALL_USAGE)?),
-        ["stored", words @ ..] => (RequestCall::Stored, message(alloc, words, CALL_USAGE)?),
         ["transfer", words @ ..] => (RequestCall::Transfer, transfer_bytes(alloc, words)?),
         _ => return Ok(None),
     }))
@@ -348,10 +328,6 @@ fn make_call(
     words: &[&str],
     out: &mut Output,
 ) -> Result<(), Fault> {
-    if let ["stored", "soa"] = words {
-        call_stored_soa(handler, out);
-        return Ok(());
-    }
     if let ["nsec", name, words @ ..] = words {
         return call_for_word(handler, alloc, NameCall::Nsec, name, words, out);
     }

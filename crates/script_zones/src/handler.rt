@@ -7,12 +7,12 @@ use hickory_base::errors::{LookupError, UpdateFault};
 use hickory_base::server::{Request, RequestInfo};
 use hickory_base::zone_store::{
     AuthLookup, AxfrPolicy, InMemoryZoneHandler, LookupControlFlow, LookupOptions, Nsec3QueryInfo,
-    NxProofKind, StoredAnswer, ZoneHandler, ZoneTransfer, ZoneType,
+    NxProofKind, ZoneHandler, ZoneTransfer, ZoneType,
 };
 use hickory_store::blocklist::BlocklistZoneHandler;
 use hickory_store::sqlite::SqliteZoneHandler;
 use hickory_wire::{
-    LowerName, Name, Record, RecordType, ResponseCode, TSigResponseContext, TSigResponseKind,
+    LowerName, Name, RecordType, ResponseCode, TSigResponseContext, TSigResponseKind,
 };
 use std::alloc::Global;
 
@@ -68,7 +68,7 @@ fn id_of(info: Option<&RequestInfo<'_>>) -> Option<u16> {
 }
 
 /// How many answers there are so far.
-fn count(last: &LookupControlFlow<AuthLookup>) -> usize {
+fn count(last: &LookupControlFlow<AuthLookup<'_>>) -> usize {
     match last {
         LookupControlFlow::Continue(Ok(found)) => found.iter().len(),
         LookupControlFlow::Break(Ok(found)) => found.iter().len(),
@@ -77,12 +77,12 @@ fn count(last: &LookupControlFlow<AuthLookup>) -> usize {
 }
 
 /// A part's answer to a call. One that could not be noted has none: want of memory is told, and not what the script says.
-fn given(
+fn given<'z>(
     part: &Part,
     alloc: Global,
     asked: &Asked<'_>,
     call: Call,
-) -> LookupControlFlow<AuthLookup> {
+) -> LookupControlFlow<AuthLookup<'z>> {
     match note(part, alloc, asked) {
         Ok(()) => part.given(alloc, call),
         Err(e) => LookupControlFlow::Break(Err(e)),
@@ -90,12 +90,12 @@ fn given(
 }
 
 /// A part's answer to a request.
-fn search_part(
+fn search_part<'z>(
     part: &Part,
     alloc: Global,
     request: &Request,
     options: LookupOptions,
-) -> LookupControlFlow<AuthLookup> {
+) -> LookupControlFlow<AuthLookup<'z>> {
     let asked = match request.message().queries.queries() {
         [query] => Asked::search(
             query.name(),
@@ -109,22 +109,22 @@ fn search_part(
 }
 
 /// A part's answer for its denials.
-fn deny(part: &Part, alloc: Global, asked: &Asked<'_>) -> LookupControlFlow<AuthLookup> {
+fn deny<'z>(part: &Part, alloc: Global, asked: &Asked<'_>) -> LookupControlFlow<AuthLookup<'z>> {
     given(part, alloc, asked, Call::Denial)
 }
 
 /// A part's answer to a lookup.
-fn look_up(part: &Part, alloc: Global, asked: &Asked<'_>) -> LookupControlFlow<AuthLookup> {
+fn look_up<'z>(part: &Part, alloc: Global, asked: &Asked<'_>) -> LookupControlFlow<AuthLookup<'z>> {
     given(part, alloc, asked, Call::Lookup)
 }
 
 /// A part's answer to a consult.
-fn consult_part(
+fn consult_part<'z>(
     part: &Part,
     alloc: Global,
     asked: &Asked<'_>,
-    last: LookupControlFlow<AuthLookup>,
-) -> LookupControlFlow<AuthLookup> {
+    last: LookupControlFlow<AuthLookup<'z>>,
+) -> LookupControlFlow<AuthLookup<'z>> {
     match note(part, alloc, asked) {
         Ok(()) => part.consulted(alloc, last),
         Err(e) => {
@@ -198,7 +198,7 @@ impl ZoneHandler for Handler {
         record_type: RecordType,
         info: Option<&RequestInfo<'_>>,
         options: LookupOptions,
-    ) -> LookupControlFlow<AuthLookup> {
+    ) -> LookupControlFlow<AuthLookup<'_>> {
         match &self.source {
             Source::Zone(zone) => zone.lookup(alloc, name, record_type, info, options),
             Source::Blocklist(list) => list.lookup(alloc, name, record_type, info, options),
@@ -215,7 +215,10 @@ impl ZoneHandler for Handler {
         alloc: Global,
         request: &Request,
         options: LookupOptions,
-    ) -> (LookupControlFlow<AuthLookup>, Option<TSigResponseContext>) {
+    ) -> (
+        LookupControlFlow<AuthLookup<'_>>,
+        Option<TSigResponseContext>,
+    ) {
         match &self.source {
             Source::Zone(zone) => zone.search(alloc, request, options),
             Source::Blocklist(list) => list.search(alloc, request, options),
@@ -227,31 +230,18 @@ impl ZoneHandler for Handler {
         }
     }
 
-    fn stored_answer(&self, request: &Request, options: LookupOptions) -> Option<StoredAnswer<'_>> {
-        match &self.source {
-            Source::Zone(zone) => zone.stored_answer(request, options),
-            Source::Updatable(zone) => zone.stored_answer(request, options),
-            Source::Part(_) | Source::Blocklist(_) => None,
-        }
-    }
-
-    fn stored_soa(&self, options: LookupOptions) -> Option<&[Record]> {
-        match &self.source {
-            Source::Zone(zone) => zone.stored_soa(options),
-            Source::Updatable(zone) => zone.stored_soa(options),
-            Source::Part(_) | Source::Blocklist(_) => None,
-        }
-    }
-
-    fn consult(
-        &self,
+    fn consult<'z>(
+        &'z self,
         alloc: Global,
         name: &LowerName,
         record_type: RecordType,
         info: Option<&RequestInfo<'_>>,
         options: LookupOptions,
-        last: LookupControlFlow<AuthLookup>,
-    ) -> (LookupControlFlow<AuthLookup>, Option<TSigResponseContext>) {
+        last: LookupControlFlow<AuthLookup<'z>>,
+    ) -> (
+        LookupControlFlow<AuthLookup<'z>>,
+        Option<TSigResponseContext>,
+    ) {
         match &self.source {
             Source::Zone(zone) => zone.consult(alloc, name, record_type, info, options, last),
             Source::Blocklist(list) => list.consult(alloc, name, record_type, info, options, last),
@@ -292,7 +282,7 @@ impl ZoneHandler for Handler {
         alloc: Global,
         name: &LowerName,
         options: LookupOptions,
-    ) -> LookupControlFlow<AuthLookup> {
+    ) -> LookupControlFlow<AuthLookup<'_>> {
         match &self.source {
             Source::Zone(zone) => zone.nsec_records(alloc, name, options),
             Source::Blocklist(list) => list.nsec_records(alloc, name, options),
@@ -306,7 +296,7 @@ impl ZoneHandler for Handler {
         alloc: Global,
         info: Nsec3QueryInfo<'_>,
         options: LookupOptions,
-    ) -> LookupControlFlow<AuthLookup> {
+    ) -> LookupControlFlow<AuthLookup<'_>> {
         let info = Nsec3QueryInfo {
             qtype: info.qtype,
             ..info

@@ -2,7 +2,9 @@
 
 use crate::calls::CallLog;
 use hickory_base::errors::{DnsError, LookupError, UpdateFault};
-use hickory_base::zone_store::{AuthLookup, Lookup, LookupControlFlow, WholeReply, ZoneTransfer};
+use hickory_base::zone_store::{
+    AuthLookup, Lookup, LookupControlFlow, RecordList, WholeReply, ZoneTransfer,
+};
 use hickory_wire::{DNSClass, Items, Name, Proof, Query, Record, RecordType, ResponseCode};
 use script_values::sections::{Sections, copies, no_records};
 use std::alloc::{AllocError, Global};
@@ -97,17 +99,21 @@ fn proved(alloc: Global, records: &[Record], proof: Proof) -> Result<Items<Recor
 }
 
 /// Records of the zone.
-fn found(alloc: Global, records: &Sections) -> Result<AuthLookup, AllocError> {
+fn found<'z>(alloc: Global, records: &Sections) -> Result<AuthLookup<'z>, AllocError> {
     let answers = copies(alloc, &records.answers)?;
     let additionals = copies(alloc, &records.additionals)?;
     Ok(AuthLookup::Records {
-        answers,
-        additionals,
+        answers: RecordList::owned(answers),
+        additionals: RecordList::owned(additionals),
     })
 }
 
 /// What was resolved elsewhere.
-fn resolved(alloc: Global, records: &Sections, proof: Proof) -> Result<AuthLookup, AllocError> {
+fn resolved<'z>(
+    alloc: Global,
+    records: &Sections,
+    proof: Proof,
+) -> Result<AuthLookup<'z>, AllocError> {
     let answers = proved(alloc, &records.answers, proof)?;
     let authorities = proved(alloc, &records.authorities, proof)?;
     let additionals = proved(alloc, &records.additionals, proof)?;
@@ -124,28 +130,28 @@ fn resolved(alloc: Global, records: &Sections, proof: Proof) -> Result<AuthLooku
 }
 
 /// The whole reply, with this code, and with AA or without.
-fn whole(
+fn whole<'z>(
     alloc: Global,
     records: &Sections,
     response_code: ResponseCode,
     authoritative: bool,
-) -> Result<AuthLookup, AllocError> {
+) -> Result<AuthLookup<'z>, AllocError> {
     let answers = copies(alloc, &records.answers)?;
     let authorities = copies(alloc, &records.authorities)?;
     let additionals = copies(alloc, &records.additionals)?;
     Ok(AuthLookup::Whole(WholeReply {
         response_code,
         authoritative,
-        answers,
-        authorities,
-        additionals,
+        answers: RecordList::owned(answers),
+        authorities: RecordList::owned(authorities),
+        additionals: RecordList::owned(additionals),
     }))
 }
 
-/// The answers of what was found.
-fn answers_of(alloc: Global, found: AuthLookup) -> Items<Record> {
+/// The answers of what was found, taken out of it.
+fn answers_of<'z>(found: AuthLookup<'z>) -> RecordList<'z> {
     match found {
-        AuthLookup::Empty => Items::new(alloc),
+        AuthLookup::Empty => RecordList::empty(),
         AuthLookup::Resolved(
             Lookup {
                 query: _query,
@@ -153,7 +159,7 @@ fn answers_of(alloc: Global, found: AuthLookup) -> Items<Record> {
                 authorities: _authorities,
                 additionals: _additionals,
             },
-        ) => answers,
+        ) => RecordList::owned(answers),
         AuthLookup::Records {
             answers,
             additionals: _additionals,
@@ -163,11 +169,11 @@ fn answers_of(alloc: Global, found: AuthLookup) -> Items<Record> {
 }
 
 /// The answers that there are so far, of what a consult is about.
-fn so_far(alloc: Global, last: LookupControlFlow<AuthLookup>) -> Items<Record> {
+fn so_far<'z>(last: LookupControlFlow<AuthLookup<'z>>) -> RecordList<'z> {
     match last.map_result() {
-        Some(Ok(found)) => answers_of(alloc, found),
-        Some(Err(_e)) => Items::new(alloc),
-        None => Items::new(alloc),
+        Some(Ok(found)) => answers_of(found),
+        Some(Err(_e)) => RecordList::empty(),
+        None => RecordList::empty(),
     }
 }
 
@@ -183,7 +189,7 @@ impl Answer {
     }
 
     /// The answer, but for its flow.
-    fn outcome(&self, alloc: Global) -> Result<AuthLookup, LookupError> {
+    fn outcome<'z>(&self, alloc: Global) -> Result<AuthLookup<'z>, LookupError> {
         match self.outcome {
             Outcome::Found => Ok(found(alloc, &self.records)?),
             Outcome::Resolved(proof) => Ok(resolved(alloc, &self.records, proof)?),
@@ -197,7 +203,7 @@ impl Answer {
     }
 
     /// The answer.
-    fn given(&self, alloc: Global) -> LookupControlFlow<AuthLookup> {
+    fn given<'z>(&self, alloc: Global) -> LookupControlFlow<AuthLookup<'z>> {
         match self.flow {
             Flow::Skip | Flow::Add => LookupControlFlow::Skip,
             Flow::Continue => LookupControlFlow::Continue(self.outcome(alloc)),
@@ -206,27 +212,24 @@ impl Answer {
     }
 
     /// The answers that there are so far, with those of this one behind them.
-    fn added(
+    fn added<'z>(
         &self,
         alloc: Global,
-        last: LookupControlFlow<AuthLookup>,
-    ) -> Result<AuthLookup, LookupError> {
-        let mut answers = so_far(alloc, last);
+        last: LookupControlFlow<AuthLookup<'z>>,
+    ) -> Result<AuthLookup<'z>, LookupError> {
+        let mut answers = so_far(last).into_items(alloc)?;
         for record in &self.records.answers {
             answers.push(record.clone()?)?;
         }
-        Ok(AuthLookup::Records {
-            answers,
-            additionals: Items::new(alloc),
-        })
+        Ok(AuthLookup::owned(answers))
     }
 
     /// The answer to a consult about another answer.
-    fn consulted(
+    fn consulted<'z>(
         &self,
         alloc: Global,
-        last: LookupControlFlow<AuthLookup>,
-    ) -> LookupControlFlow<AuthLookup> {
+        last: LookupControlFlow<AuthLookup<'z>>,
+    ) -> LookupControlFlow<AuthLookup<'z>> {
         match self.flow {
             Flow::Add => LookupControlFlow::Break(self.added(alloc, last)),
             _ => {
@@ -277,7 +280,7 @@ impl Part {
     }
 
     /// What a call answers.
-    pub fn given(&self, alloc: Global, call: Call) -> LookupControlFlow<AuthLookup> {
+    pub fn given<'z>(&self, alloc: Global, call: Call) -> LookupControlFlow<AuthLookup<'z>> {
         match self.answer_to(call) {
             None => LookupControlFlow::Skip,
             Some(answer) => answer.given(alloc),
@@ -285,11 +288,11 @@ impl Part {
     }
 
     /// What a consult answers.
-    pub fn consulted(
+    pub fn consulted<'z>(
         &self,
         alloc: Global,
-        last: LookupControlFlow<AuthLookup>,
-    ) -> LookupControlFlow<AuthLookup> {
+        last: LookupControlFlow<AuthLookup<'z>>,
+    ) -> LookupControlFlow<AuthLookup<'z>> {
         match self.answer_to(Call::Consult) {
             None => last,
             Some(answer) => answer.consulted(alloc, last),

@@ -13,16 +13,16 @@ use Rattle.update_policy.specs.declared.policy.Rule.{Rule}
 use Rattle.served_zones.specs.ServedZones.{ServedHandler}
 use Rattle.served_updates.specs.Moved.{IsServedAs, TakesUpdates, UpdatedHandler}
 
-pub without_rules : (keys : List Key) (rules : List Rule) (before : ServedHandler) → rules ≡ [] → IsServedAs keys rules before (Right before)
-without_rules keys rules before none = subst (λ (r : List Rule). IsServedAs keys r before (Right before)) (sym none) refl
+pub without_rules : (D : Type 0) (keys : List Key) (rules : List Rule) (before : ServedHandler) → rules ≡ [] → IsServedAs {D = D} keys rules before (Right before)
+without_rules D keys rules before none = subst (λ (r : List Rule). IsServedAs {D = D} keys r before (Right before)) (sym none) refl
 
-pub with_rules : (keys : List Key) (rules : List Rule) (both : ZoneWithParent) (handler : UpdatedHandler) → ¬ (rules ≡ []) → TakesUpdates keys rules both handler → IsServedAs keys rules (Left both) handler
+pub with_rules : {D : Type 0} (keys : List Key) (rules : List Rule) (both : ZoneWithParent) (handler : UpdatedHandler D) → ¬ (rules ≡ []) → TakesUpdates keys rules both handler → IsServedAs keys rules (Left both) handler
 with_rules keys [] both handler some takes = absurd (some refl)
 with_rules keys (rule ∷ rules) both handler some takes = takes
 
-pub list_stays : (keys : List Key) (rules : List Rule) (list : Rc Blocklist Global) → IsServedAs keys rules (Right list) (Right (Right list))
-list_stays keys [] list = refl
-list_stays keys (rule ∷ rules) list = refl
+pub list_stays : (D : Type 0) (keys : List Key) (rules : List Rule) (list : Rc Blocklist Global) → IsServedAs {D = D} keys rules (Right list) (Right (Right list))
+list_stays D keys [] list = refl
+list_stays D keys (rule ∷ rules) list = refl
 
 -- one pair more
 pub zip_push : {A B : Type 0} (R : A → B → Type 0) (xs : List A) (ys : List B) (x : A) (y : B) → AllZip R xs ys → R x y → AllZip R (xs ++ x ∷ []) (ys ++ y ∷ [])

@@ -1,3 +1,5 @@
 pub mod Grants
+pub mod Journals
 pub mod Moved
 pub mod UpdatedZones
+pub mod Versions

@@ -1,5 +1,5 @@
 -- The zones of a server, some of which take updates.
-use Rattle.std.specs.Prelude.{◌≡◌, ◌⊎◌, ◌++◌, [], ◌∷◌, List, Option, Some, None, true}
+use Rattle.std.specs.Prelude.{◌≡◌, ◌⊎◌, ◌++◌, [], ◌∷◌, List, Option, Some, None, true, false}
 use Rattle.std.specs.Global.{Global}
 use Rattle.std.specs.List.{AllZip}
 use Rattle.std.specs.declared.rc.Rc.{Rc}
@@ -21,45 +21,46 @@ use Rattle.served_updates.specs.Grants.{rules_for}
 use Rattle.served_updates.specs.declared.grants.Grant.{Grant}
 use Rattle.served_updates.specs.declared.updated_zone.UpdatedZone.{UpdatedZone}
 
--- a handler of a chain: a zone that takes updates, or a handler of a server without
-abbrev pub UpdatedHandler : Type 0
-UpdatedHandler = Either (UpdatedZone TsigVerifier) ServedHandler
+-- a handler of a chain: a zone that takes updates, whose journal is in files of this type, or a handler of a server without
+abbrev pub UpdatedHandler : Type 0 → Type 0
+UpdatedHandler D = Either (UpdatedZone TsigVerifier D) ServedHandler
 
-abbrev pub UpdatedChain : Type 0
-UpdatedChain = List UpdatedHandler
+abbrev pub UpdatedChain : Type 0 → Type 0
+UpdatedChain D = List (UpdatedHandler D)
 
 -- the zone as one that takes updates by these keys; everybody whom the server's rules let may have transfers of it
 abbrev pub updatable : List Key → MemoryZone → UpdatableZone TsigVerifier
 updatable keys zone = record { zone = zone; axfr_policy = AllowAll; allow_update = true; verifier = record { keys = keys } }
 
--- The zone takes updates by these keys and rules, beside the zone above it.
-abbrev pub TakesUpdates : List Key → List Rule → ZoneWithParent → UpdatedHandler → Type 0
-TakesUpdates keys rules both handler = (zone : UpdatedZone TsigVerifier) × (handler ≡ Left zone) × (zone.zone ≡ updatable keys both.zone.value)
+-- The zone takes updates by these keys and rules, in memory alone, beside the zone above it; no earlier version of it is known.
+abbrev pub TakesUpdates : {D : Type 0} → List Key → List Rule → ZoneWithParent → UpdatedHandler D → Type 0
+TakesUpdates {D} keys rules both handler = (zone : UpdatedZone TsigVerifier D) × (handler ≡ Left zone)
+    × (zone.zone ≡ record { kept = record { updatable = updatable keys both.zone.value; is_journalled = false }; history = [] })
     × (zone.parent ≡ both.parent) × (zone.policy ≡ rules)
 
 -- A handler of a zone that has these rules: where it has one, the zone takes updates, and without a rule the handler stays as it is, as a list of blocked names
 -- does in any case.
-abbrev pub IsServedAs : List Key → List Rule → ServedHandler → UpdatedHandler → Type 0
+abbrev pub IsServedAs : {D : Type 0} → List Key → List Rule → ServedHandler → UpdatedHandler D → Type 0
 IsServedAs keys [] before handler = handler ≡ Right before
 IsServedAs keys (rule ∷ rules) (Left both) handler = TakesUpdates keys (rule ∷ rules) both handler
 IsServedAs keys (rule ∷ rules) (Right list) handler = handler ≡ Right (Right list)
 
 -- The chain of this apex is taken out of the zones of a server without updates, and put among those of a server with them, each of its handlers served so.
-pub record IsMoved (keys : List Key) (rules : List Rule) (apex : DomainName) (old left : List (DomainName × Chain)) (before after : List (DomainName × UpdatedChain)) : Type 0 where
+pub record IsMoved {D : Type 0} (keys : List Key) (rules : List Rule) (apex : DomainName) (old left : List (DomainName × Chain)) (before after : List (DomainName × UpdatedChain D)) : Type 0 where
   pub chain : Chain
   pub taken : ChangesAt old (lower_name apex) (Some chain) None left
-  pub served : UpdatedChain
+  pub served : UpdatedChain D
   pub serves : AllZip (IsServedAs keys rules) chain served
-  pub was : Option UpdatedChain
+  pub was : Option (UpdatedChain D)
   pub put : ChangesAt before (lower_name apex) was (Some served) after
 
 -- The same, or there is no chain of this apex, and nothing changes.
-abbrev pub Moves : List Key → List Rule → DomainName → List (DomainName × Chain) → List (DomainName × Chain) → List (DomainName × UpdatedChain) → List (DomainName × UpdatedChain) → Type 0
+abbrev pub Moves : {D : Type 0} → List Key → List Rule → DomainName → List (DomainName × Chain) → List (DomainName × Chain) → List (DomainName × UpdatedChain D) → List (DomainName × UpdatedChain D) → Type 0
 Moves keys rules apex old left before after = IsMoved keys rules apex old left before after ⊎ (ChangesAt old (lower_name apex) None None left × (after ≡ before))
 
 -- The zones that were loaded are moved, one after the other in this order, each with the rules that are of it.
-pub data AreMoved (keys : List Key) (grants : List Grant) : List Loaded → List (DomainName × Chain) → List (DomainName × Chain) → List (DomainName × UpdatedChain) → List (DomainName × UpdatedChain) → Type 0 where
-  none : {zones : List (DomainName × Chain)} {made : List (DomainName × UpdatedChain)} → AreMoved keys grants [] zones zones made made
-  more : {those : List Loaded} {old between left : List (DomainName × Chain)} {before middle after : List (DomainName × UpdatedChain)} (loaded : Loaded)
+pub data AreMoved {D : Type 0} (keys : List Key) (grants : List Grant) : List Loaded → List (DomainName × Chain) → List (DomainName × Chain) → List (DomainName × UpdatedChain D) → List (DomainName × UpdatedChain D) → Type 0 where
+  none : {zones : List (DomainName × Chain)} {made : List (DomainName × UpdatedChain D)} → AreMoved keys grants [] zones zones made made
+  more : {those : List Loaded} {old between left : List (DomainName × Chain)} {before middle after : List (DomainName × UpdatedChain D)} (loaded : Loaded)
       → AreMoved keys grants those old between before middle → Moves keys (rules_for grants loaded.apex) loaded.apex between left middle after
       → AreMoved keys grants (those ++ loaded ∷ []) old left before after

@@ -1,5 +1,5 @@
 -- What a zone answers that takes the updates which its rules grant, beside the zone above it.
-use Rattle.std.specs.Prelude.{◌≡◌, ◌≢◌, ◌⊎◌, ◌==◌, ◌&&◌, ℕ, Bool, cond, List, Option, None, Some, Result, Ok, Err}
+use Rattle.std.specs.Prelude.{◌≡◌, ◌≢◌, ◌⊎◌, ◌==◌, ◌&&◌, ℕ, Bool, cond, false, List, Option, None, Some, Result, Ok, Err, OnOk}
 use Rattle.std.specs.Option.{option_map}
 use Rattle.wire_names.specs.rr.domain.DomainName.{DomainName}
 use Rattle.wire_names.specs.rr.domain.NameOrder.{lower_name, name_eq}
@@ -26,6 +26,7 @@ use Rattle.hickory_store.specs.declared.sqlite.verifier.Verifier.{Ghosts}
 use Rattle.hickory_zone.specs.Replies.{RepliesTo, zone_of}
 use Rattle.hickory_zone.specs.Zones.{type_ds}
 use Rattle.dynamic_zone.specs.DynamicZones.{IsAnswered}
+use Rattle.incremental_zone.specs.IncrementalZones as incremental
 use Rattle.update_policy.specs.Grants.{AreGranted}
 use Rattle.update_policy.specs.declared.policy.Rule.{Rule}
 use Rattle.served_updates.specs.declared.updated_zone.UpdatedZone.{UpdatedZone}
@@ -37,8 +38,8 @@ abbrev pub is_above : DomainName → Query → Bool
 is_above origin query = query.query_type == type_ds && name_eq origin (lower_name query.name)
 
 -- the zone above, where it is asked in place of the zone: for such a question, if the server has it
-abbrev pub asked_above : {V : Type 0} → UpdatedZone V → Query → Option MemoryZone
-asked_above handler query = cond (is_above handler.zone.zone.origin query) (option_map (λ parent. parent.value) handler.parent) None
+abbrev pub asked_above : {V D : Type 0} → UpdatedZone V D → Query → Option MemoryZone
+asked_above handler query = cond (is_above handler.zone.kept.updatable.zone.origin query) (option_map (λ parent. parent.value) handler.parent) None
 
 -- What is given for a question: the whole reply of the zone above, where that is asked; else what stands for the reply of the zone.
 abbrev pub IsGiven : MemoryZone → Query → Option MemoryZone → Result AuthLookup LookupError → Type 0
@@ -46,12 +47,12 @@ IsGiven zone query None result = IsAnswered zone query result
 IsGiven zone query (Some parent) result = (reply : WholeReply) × RepliesTo (zone_of parent) query reply × (result ≡ Ok (lookup.Whole reply))
 
 -- a search: the one question of the request is replied to, but for want of memory
-abbrev pub SearchedFor : {V : Type 0} → UpdatedZone V → Result Query LookupError → Flow → Type 0
+abbrev pub SearchedFor : {V D : Type 0} → UpdatedZone V D → Result Query LookupError → Flow → Type 0
 SearchedFor handler (Ok query) answer =
-    (result : _) × (IsGiven handler.zone.zone query (asked_above handler query) result ⊎ (result ≡ Err Memory)) × (answer ≡ Continue result)
+    (result : _) × (IsGiven handler.zone.kept.updatable.zone query (asked_above handler query) result ⊎ (result ≡ Err Memory)) × (answer ≡ Continue result)
 SearchedFor handler (Err e) answer = answer ≡ Break (Err e)
 
-abbrev pub Searched : {V : Type 0} → UpdatedZone V → ReceivedRequest → Flow → Type 0
+abbrev pub Searched : {V D : Type 0} → UpdatedZone V D → ReceivedRequest → Flow → Type 0
 Searched handler request answer = SearchedFor handler (one_query request.message.queries.queries) answer
 
 -- ---- updates
@@ -62,8 +63,8 @@ IsGrantedUnder rules zone None updates = ⊥
 IsGrantedUnder rules zone (Some signature) updates = AreGranted rules signature.name zone updates
 
 -- The rules of the zone grant what a request asks to change, which its authority section has (RFC 2136 section 2.5), to the key that signed it.
-abbrev pub IsGrantedTo : {V : Type 0} → UpdatedZone V → ReceivedRequest → Type 0
-IsGrantedTo handler request = IsGrantedUnder handler.policy handler.zone.zone.origin request.message.signature request.message.authorities
+abbrev pub IsGrantedTo : {V D : Type 0} → UpdatedZone V D → ReceivedRequest → Type 0
+IsGrantedTo handler request = IsGrantedUnder handler.policy handler.zone.kept.updatable.zone.origin request.message.signature request.message.authorities
 
 -- the code of an update that is not granted: that of its signature, if that is refused, else Refused, which is 5 (RFC 2136 section 3.3)
 abbrev pub outside_code : Option ℕ → ℕ
@@ -76,21 +77,34 @@ IsOutside permission answer context = ((answer ≡ Err (update_fault.Code (outsi
     ⊎ ((answer ≡ Err update_fault.Memory) × (context ≡ None))
 
 -- What is answered to an update, and the handler after it. One that the rules grant is made as the zone makes it (sections 3.2 to 3.6), by its signature
--- still; any other is refused, and nothing changes.
-pub data Updates {V : Type 0} (by : Ghosts V) (old : UpdatedZone V) (request : ReceivedRequest) (now : ℕ) (answer : Result Bool UpdateFault) (context : Option TSigResponseContext) (new : UpdatedZone V) : Type 0 where
-  granted : IsGrantedTo old request → AnswersUpdate by old.zone request now answer context new.zone → new ≡ record old { zone = new.zone }
+-- still: with a journal it is on the disk then (section 3.5), or could not be written; any other is refused, and nothing changes.
+pub data Updates {V D : Type 0} (by : Ghosts V) (old : UpdatedZone V D) (request : ReceivedRequest) (now : ℕ) (answer : Result Bool UpdateFault) (context : Option TSigResponseContext) (new : UpdatedZone V D) : Type 0 where
+  granted : IsGrantedTo old request → incremental.Updates by old.zone request now answer context new.zone → new ≡ record old { zone = new.zone }
       → Updates by old request now answer context new
-  outside : ¬ (IsGrantedTo old request) → IsOutside (update_permission by old.zone.verifier old.zone.allow_update request now) answer context → new ≡ old
+  outside : ¬ (IsGrantedTo old request) → IsOutside (update_permission by old.zone.kept.updatable.verifier old.zone.kept.updatable.allow_update request now) answer context → new ≡ old
       → Updates by old request now answer context new
 
 -- ---- laws
 
 -- What an update changes its rules grant to the key that signed it.
-abbrev pub ChangesAreGranted : {V : Type 0} → Ghosts V → Type 0
-ChangesAreGranted {V} by = (old new : UpdatedZone V) (request : ReceivedRequest) (now : ℕ) (answer : Result Bool UpdateFault) (context : Option TSigResponseContext)
+abbrev pub ChangesAreGranted : {V : Type 0} → Type 0 → Ghosts V → Type 0
+ChangesAreGranted {V} D by = (old new : UpdatedZone V D) (request : ReceivedRequest) (now : ℕ) (answer : Result Bool UpdateFault) (context : Option TSigResponseContext)
     → Updates by old request now answer context new → new ≢ old → IsGrantedTo old request
 
--- No update changes the rules, nor the zone above.
-abbrev pub RulesStay : {V : Type 0} → Ghosts V → Type 0
-RulesStay {V} by = (old new : UpdatedZone V) (request : ReceivedRequest) (now : ℕ) (answer : Result Bool UpdateFault) (context : Option TSigResponseContext)
-    → Updates by old request now answer context new → (new.policy ≡ old.policy) × (new.parent ≡ old.parent)
+-- No update changes the rules, nor the zone above, nor whether there is a journal.
+abbrev pub RulesStay : {V : Type 0} → Type 0 → Ghosts V → Type 0
+RulesStay {V} D by = (old new : UpdatedZone V D) (request : ReceivedRequest) (now : ℕ) (answer : Result Bool UpdateFault) (context : Option TSigResponseContext)
+    → Updates by old request now answer context new
+    → (new.policy ≡ old.policy) × (new.parent ≡ old.parent) × (new.zone.kept.is_journalled ≡ old.zone.kept.is_journalled)
+
+-- An update that is acknowledged the rules grant, and it is made as a zone in memory alone makes it (RFC 2136 section 3).
+abbrev pub AcknowledgedAreMade : {V : Type 0} → Type 0 → Ghosts V → Type 0
+AcknowledgedAreMade {V} D by = (old new : UpdatedZone V D) (request : ReceivedRequest) (now : ℕ) (answer : Result Bool UpdateFault) (context : Option TSigResponseContext)
+    → Updates by old request now answer context new
+    → OnOk answer (IsGrantedTo old request × AnswersUpdate by old.zone.kept.updatable request now answer context new.zone.kept.updatable)
+
+-- Without a journal each update that the rules grant is answered so.
+abbrev pub UpdatesOfMemory : {V : Type 0} → Type 0 → Ghosts V → Type 0
+UpdatesOfMemory {V} D by = (old new : UpdatedZone V D) (request : ReceivedRequest) (now : ℕ) (answer : Result Bool UpdateFault) (context : Option TSigResponseContext)
+    → Updates by old request now answer context new → old.zone.kept.is_journalled ≡ false → IsGrantedTo old request
+    → AnswersUpdate by old.zone.kept.updatable request now answer context new.zone.kept.updatable

@@ -4,7 +4,7 @@ ghost use Rattle.std.specs.Prelude.{◌≡◌, ◌++◌, ◌∷◌, [], ℕ, IfO
 ghost use Rattle.served_updates.specs.Grants.{rules_for};
 ghost use Rattle.served_zones.specs.ServedZones.{IsApexText};
 ghost use Rattle.tsig.specs.Keys.{key_of};
-ghost use Rattle.update_policy.specs.RuleTexts.{IsRule};
+ghost use Rattle.update_policy.specs.RuleTexts.{IsRule, IsRuleText};
 
 use served_zones::chains::apex;
 use std::alloc::{AllocError, Global};
@@ -69,7 +69,7 @@ fn fault_of(fault: RuleTextError) -> GrantFault {
 
 /// The rule of a text.
 fn rule_of(alloc: Global, text: &str) -> Result<Rule, GrantFault>
-    ensures { IfOk result (λ rule. (words : List (List ℕ)) × IsRule words rule) }
+    ensures { IfOk result (IsRuleText text.now) }
 {
     match read_grant(alloc, text) {
         Ok(rule) => Ok(rule),
@@ -82,6 +82,7 @@ fn rule_of(alloc: Global, text: &str) -> Result<Rule, GrantFault>
 pub fn zone_grant(alloc: Global, keys: &Keys, zone: &str, rule: &str) -> Result<Grant, GrantFault>
     ensures apex { IfOk result (λ grant. IsApexText zone.now grant.apex) }
     ensures rule { IfOk result (λ grant. (words : List (List ℕ)) × IsRule words grant.rule) }
+    ensures spelled { IfOk result (λ grant. IsRuleText rule.now grant.rule) }
     ensures known { IfOk result (λ grant. IsTrue (is_some (key_of keys.now grant.rule.key))) }
 {
     let apex = apex_of(alloc, zone)?;

@@ -7,7 +7,7 @@ ghost use Rattle.served_updates.specs.Moved.{AreMoved, IsServedAs, Moves, TakesU
 
 use crate::grants::{Grant, policy_of};
 use crate::updated_zone::UpdatedZone;
-use dynamic_zone::DynamicZone;
+use durable_zone::DurableZone;
 use either::Either;
 use hickory_base::zone_store::AxfrPolicy;
 use hickory_catalog::catalog::Catalog;
@@ -17,16 +17,17 @@ use hickory_zone::ZoneWithParent;
 use served_zones::handler;
 use served_zones::parents::Loaded;
 use signed_server::LeftToServer;
+use sqlite_disk::Disk;
 use std::alloc::{AllocError, AllocFailed, Global};
 use std::rc::Rc;
 use tsig::{Keys, TsigVerifier};
 use update_policy::Policy;
 
-/// A handler of a chain: a zone that takes updates, or a handler of a server without.
-pub type Handler = Either<UpdatedZone<TsigVerifier>, handler::Handler>;
+/// A handler of a chain: a zone that takes updates, whose journal, if it has one, is in files of this type, or a handler of a server without.
+pub type Handler<D> = Either<UpdatedZone<TsigVerifier, D>, handler::Handler>;
 
 /// A catalog of such chains, whose replies a server with keys signs.
-pub type Zones = Catalog<LeftToServer, Handler>;
+pub type Zones<D> = Catalog<LeftToServer, Handler<D>>;
 
 /// Why zones cannot take updates.
 #[derive(Clone, Copy, Debug, PartialEq, Eq)]
@@ -61,13 +62,13 @@ impl<T: Drop> From<AllocFailed<T>> for Unmoved {
     }
 }
 
-/// The zone as one that takes updates by these keys and rules.
-fn updated(
+/// The zone as one that takes updates by these keys and rules, in memory alone.
+fn updated<D: Disk + Drop>(
     alloc: Global,
     keys: &Keys,
     policy: Policy,
     both: ZoneWithParent,
-) -> Result<Handler, Unmoved>
+) -> Result<Handler<D>, Unmoved>
     ensures { IfOk result (TakesUpdates keys.now policy both) }
 {
     let ZoneWithParent { zone, parent } = both;
@@ -79,21 +80,17 @@ fn updated(
     };
     let zone = zone.into_in_memory();
     let updatable = SqliteZoneHandler::new(zone, AxfrPolicy::AllowAll, true, verifier);
-    let zone = DynamicZone::new(alloc, updatable);
-    Ok(Either::Left(UpdatedZone {
-        zone,
-        parent,
-        policy,
-    }))
+    let zone = DurableZone::in_memory(updatable);
+    Ok(Either::Left(UpdatedZone::new(alloc, zone, parent, policy)))
 }
 
 /// The handler as it is served where its zone has these rules.
-fn served_as(
+fn served_as<D: Disk + Drop>(
     alloc: Global,
     keys: &Keys,
     policy: Policy,
     before: handler::Handler,
-) -> Result<Handler, Unmoved>
+) -> Result<Handler<D>, Unmoved>
     ensures { IfOk result (IsServedAs keys.now policy before) }
 {
     if policy.is_empty() {
@@ -106,13 +103,13 @@ fn served_as(
 }
 
 /// The handlers of a chain as they are served where its zone has the rules that are of it.
-fn chain_as(
+fn chain_as<D: Disk + Drop>(
     alloc: Global,
     keys: &Keys,
     grants: &[Grant],
     apex: &Name,
     chain: Vec<handler::Handler>,
-) -> Result<Vec<Handler>, Unmoved>
+) -> Result<Vec<Handler<D>>, Unmoved>
     ensures { IfOk result (λ made. AllZip (IsServedAs keys.now (rules_for grants.now apex.now)) chain.items made.items) }
 {
     let mut made = Vec::new(alloc);
@@ -124,13 +121,13 @@ fn chain_as(
 }
 
 /// Moves the chain of a zone.
-fn move_zone(
+fn move_zone<D: Disk + Drop>(
     alloc: Global,
     keys: &Keys,
     grants: &[Grant],
     apex: &Name,
     zones: &mut handler::Zones,
-    made: &mut Zones,
+    made: &mut Zones<D>,
 ) -> Result<(), Unmoved>
     ensures moved { OnOk result (Moves keys.now (rules_for grants.now apex.now) apex.now zones.old.zones zones.new.zones made.old.zones made.new.zones) }
     ensures others { made.new ≡ record made.old { zones = made.new.zones } }
@@ -147,14 +144,14 @@ fn move_zone(
 }
 
 /// Moves the chain of a zone that was loaded, the one at this place among the zones.
-fn move_loaded(
+fn move_loaded<D: Disk + Drop>(
     alloc: Global,
     keys: &Keys,
     grants: &[Grant],
     loaded: &Loaded,
     place: usize,
     zones: &mut handler::Zones,
-    made: &mut Zones,
+    made: &mut Zones<D>,
 ) -> Result<(), MoveFault>
     ensures moved { OnOk result (Moves keys.now (rules_for grants.now loaded.now.apex) loaded.now.apex zones.old.zones zones.new.zones made.old.zones made.new.zones) }
     ensures others { made.new ≡ record made.old { zones = made.new.zones } }
@@ -167,14 +164,14 @@ fn move_loaded(
 }
 
 /// Moves zones that were loaded from the catalog of a server without updates to that of a server with them, in their order, each with the rules that are of
-/// it: a zone that has one takes updates by these keys, and all others are served as they were. After an error some are moved.
-pub fn move_zones(
+/// it: a zone that has one takes updates by these keys, in memory alone, and all others are served as they were. After an error some are moved.
+pub fn move_zones<D: Disk + Drop>(
     alloc: Global,
     keys: &Keys,
     grants: &[Grant],
     loaded: &[Loaded],
     zones: &mut handler::Zones,
-    made: &mut Zones,
+    made: &mut Zones<D>,
 ) -> Result<(), MoveFault>
     ensures moved { OnOk result (AreMoved keys.now grants.now loaded.now zones.old.zones zones.new.zones made.old.zones made.new.zones) }
     ensures others { made.new ≡ record made.old { zones = made.new.zones } }

@@ -17,7 +17,12 @@ use Rattle.hickory_store.specs.BlockAnswers.{Blocklist}
 use Rattle.hickory_store.specs.declared.blocklist.config.BlocklistConsultAction.TheVariants.{Enforce}
 use Rattle.name_lists.specs.Adding.{AddsList}
 use Rattle.name_lists.specs.Counts.{Counts}
+use Rattle.hickory_store.specs.RecordZones.{IsZoneOf as IsMadeOf}
 use Rattle.hickory_server.specs.ZoneOfText.{IsTextFault, IsZoneOfText}
+use Rattle.wire_messages.specs.declared.rr.rdata.RData.{RData}
+use Rattle.wire_messages.specs.declared.rr.record.Record.{Record}
+use Rattle.zone_text.specs.Included.{IsZoneWithFiles}
+use Rattle.zone_text.specs.ZoneFiles.{IsZoneFile}
 use Rattle.hickory_zone.specs.declared.zone_with_parent.ZoneWithParent.{ZoneWithParent}
 use Rattle.served_zones.specs.declared.parents.Loaded.{Loaded}
 use Rattle.served_zones.specs.declared.zones.ZoneFault.{ZoneFault}
@@ -26,6 +31,18 @@ use Rattle.served_zones.specs.declared.zones.ZoneFault.TheVariants.{Zone}
 -- The zone of a file as it is served: of this apex, primary, and transferred to everybody (RFC 5936 section 5).
 abbrev pub IsServedZone : DomainName → MemoryZone → Type 0
 IsServedZone apex zone = IsZoneOfText apex Primary AllowAll zone
+
+-- The zone of these records as it is served.
+abbrev pub IsServedOf : DomainName → List (Record RData) → MemoryZone → Type 0
+IsServedOf apex records zone = IsMadeOf apex Primary AllowAll records zone
+
+-- It is served of the records that the text of a zone file has (RFC 1035 section 5.1).
+abbrev pub IsZoneOfFile : DomainName → List ℕ → MemoryZone → Type 0
+IsZoneOfFile apex text zone = (records : List (Record RData)) × IsZoneFile apex text records × IsServedOf apex records zone
+
+-- It is served of the records that the text of a zone file has with the files that it includes, where these are their bytes.
+abbrev pub IsZoneOfFiles : (List ℕ → List ℕ → Type 0) → DomainName → List ℕ → MemoryZone → Type 0
+IsZoneOfFiles opened apex text zone = (records : List (Record RData)) × IsZoneWithFiles opened apex text records × IsServedOf apex records zone
 
 -- Why a file is not taken: where its text is told to be none of the zone, it is none.
 abbrev pub IsFileFault : DomainName → ZoneFault → Type 0
@@ -68,11 +85,6 @@ pub record IsLoadedAs (text : List ℕ) (list : Option Blocklist) (loaded : Load
   pub chain : Chain
   pub chained : IsChain handler list chain
   pub changed : ChangesAt old (lower_name loaded.apex) None (Some chain) new
-
--- The zone of a file is served at its apex, where there was none, with the list of blocked names behind it, if there is one.
-abbrev pub IsLoaded : Option Blocklist → List (DomainName × Chain) → List (DomainName × Chain) → Type 0
-IsLoaded list old new = (apex : DomainName) × (zone : MemoryZone) × IsServedZone apex zone × (handler : ServedHandler) × IsPlaced zone None handler
-    × (chain : Chain) × IsChain handler list chain × ChangesAt old (lower_name apex) None (Some chain) new
 
 -- Zones of these names were loaded, one after the other in this order, with the list of blocked names behind each, if there is one.
 pub data AreLoaded (list : Option Blocklist) : List (List ℕ) → List Loaded → List (DomainName × Chain) → List (DomainName × Chain) → Type 0 where

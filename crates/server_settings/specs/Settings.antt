@@ -1,5 +1,5 @@
 -- A configuration file in TOML 1.1 as a list of settings: each is the name of an option, and a value in text.
-use Rattle.std.specs.Prelude.{◌≡◌, ◌⊎◌, ⊤, ◌++◌, ◌∷◌, [], ℕ, ℤ, pos, List, Bool, true, false, Option, Some, None, String, bytes_eq, map, codes, option_map, string_bytes, get_or, cond, take, length, ◌==◌, ◌||◌, ◌+◌, ◌-◌, ◌<◌, ◌≤◌}
+use Rattle.std.specs.Prelude.{◌≡◌, ◌⊎◌, ⊤, ◌++◌, ◌∷◌, [], ℕ, ℤ, pos, List, Bool, true, false, Option, Some, None, String, bytes_eq, map, codes, option_map, string_bytes, get_or, cond, take, length, ◌==◌, ◌||◌, ◌&&◌, ◌+◌, ◌-◌, ◌<◌, ◌≤◌}
 use Rattle.std.specs.List.{list_any}
 use Rattle.std.specs.Str.{IsUtf8}
 use Rattle.std.specs.declared.alloc.Global.{Global}
@@ -10,7 +10,7 @@ use Rattle.server_settings.specs.declared.reading.Refusal.{Refusal}
 use Rattle.server_settings.specs.declared.reading.Refusal.TheVariants.{Unknown, Wrong, Memory}
 use Rattle.std.specs.Fmt.{decimal}
 use Rattle.server_settings.specs.declared.reading.Setting.{Setting}
-use Rattle.toml.specs.Data.{Data, Items, Members, array, integer, item, member, no_items, no_members, string, table}
+use Rattle.toml.specs.Data.{Data, Items, Members, array, get, integer, item, member, no_items, no_members, string, table}
 
 -- a name and a value
 abbrev pub Pair : Type 0
@@ -65,10 +65,96 @@ abbrev pub join : Option (List Pair) → Option (List Pair) → Option (List Pai
 join (Some front) (Some back) = Some (front ++ back)
 join _ _ = None
 
+-- ---- zones, as tables: each has a name, a file, and the rules of who may update what
+
+-- the key is one of three
+abbrev pub is_one_of : List ℕ → List ℕ → List ℕ → List ℕ → Bool
+is_one_of key a b c = bytes_eq key a || bytes_eq key b || bytes_eq key c
+
+-- no key of a table is any other
+abbrev pub has_only : List ℕ → List ℕ → List ℕ → Members → Bool
+has_only a b c no_members = true
+has_only a b c (member key d ms) = is_one_of key a b c && has_only a b c ms
+
+abbrev pub is_table_of : List ℕ → List ℕ → List ℕ → Data → Bool
+is_table_of a b c (table ms) = has_only a b c ms
+is_table_of a b c d = false
+
+-- the text under a key of a table; an empty one where there is none
+abbrev pub text_or_empty : Option Data → Option (List ℕ)
+text_or_empty None = Some []
+text_or_empty (Some d) = text_of d
+
+abbrev pub text_at : List ℕ → Data → Option (List ℕ)
+text_at key d = text_or_empty (get key d)
+
+-- a word behind a blank, in front of others
+abbrev pub with_word : Option (List ℕ) → Option (List ℕ) → Option (List ℕ)
+with_word (Some word) (Some words) = Some ((codes " " ++ word) ++ words)
+with_word _ _ = None
+
+-- the words of an array, each behind a blank; none where there is no array
+abbrev pub words_of : Items → Option (List ℕ)
+words_of no_items = Some []
+words_of (item d ds) = with_word (text_of d) (words_of ds)
+
+abbrev pub words_in : Option Data → Option (List ℕ)
+words_in None = Some []
+words_in (Some (array ds)) = words_of ds
+words_in (Some d) = None
+
+-- a rule: `ZONE=KEY RULE TYPE..`
+abbrev pub update_of : List ℕ → Option (List ℕ) → Option (List ℕ) → Option (List ℕ) → Option (List ℕ)
+update_of zone (Some key) (Some rule) (Some types) = Some (((zone ++ codes "=" ++ key) ++ codes " " ++ rule) ++ types)
+update_of zone _ _ _ = None
+
+-- the rule of a table: `key`, `rule`, as `subdomain NAME`, and `types`, an array
+abbrev pub update_text : List ℕ → Data → Option (List ℕ)
+update_text zone d = cond (is_table_of (codes "key") (codes "rule") (codes "types") d)
+    (update_of zone (text_at (codes "key") d) (text_at (codes "rule") d) (words_in (get (codes "types") d))) None
+
+-- the rules of an array; none where there is no array
+abbrev pub update_texts : List ℕ → Items → Option (List (List ℕ))
+update_texts zone no_items = Some []
+update_texts zone (item d ds) = with_text (update_text zone d) (update_texts zone ds)
+
+abbrev pub updates_in : List ℕ → Option Data → Option (List (List ℕ))
+updates_in zone None = Some []
+updates_in zone (Some (array ds)) = update_texts zone ds
+updates_in zone (Some d) = None
+
+-- a zone: the setting `zone`, which is `NAME=FILE`, and a setting `allow-update` for each of its rules
+abbrev pub zone_of : Option (List ℕ) → Option (List ℕ) → Option Data → Option (List Pair)
+zone_of (Some name) (Some file) updates =
+    join (Some (under (codes "zone") ((name ++ codes "=" ++ file) ∷ []))) (option_map (under (codes "allow-update")) (updates_in name updates))
+zone_of _ _ updates = None
+
+-- the zone of a table: `name`, `file` and `update`, an array of rules
+abbrev pub zone_of_table : Data → Option (List Pair)
+zone_of_table d = cond (is_table_of (codes "file") (codes "name") (codes "update") d)
+    (zone_of (text_at (codes "name") d) (text_at (codes "file") d) (get (codes "update") d)) None
+
+-- one zone: a table, or a text, which is the value itself
+abbrev pub zone_settings : Data → Option (List Pair)
+zone_settings (table ms) = zone_of_table (table ms)
+zone_settings d = option_map (under (codes "zone")) (with_text (text_of d) (Some []))
+
+-- the zones of an array, in its order
+abbrev pub zones_settings : Items → Option (List Pair)
+zones_settings no_items = Some []
+zones_settings (item d ds) = join (zone_settings d) (zones_settings ds)
+
+-- ---- documents
+
+-- the settings that a member of a document gives: those of zones, where it is an array that is named `zone`, else one for each value
+abbrev pub settings_under : List ℕ → Data → Option (List Pair)
+settings_under name (array ds) = cond (bytes_eq name (codes "zone")) (zones_settings ds) (option_map (under name) (texts_of_items ds))
+settings_under name d = option_map (under name) (texts_of d)
+
 -- the settings of a document, in the order of their names; none where a value is not of these kinds
 abbrev pub settings_of : Members → Option (List Pair)
 settings_of no_members = Some []
-settings_of (member name d ms) = join (option_map (under name) (texts_of d)) (settings_of ms)
+settings_of (member name d ms) = join (settings_under name d) (settings_of ms)
 
 -- there is an option of this name
 abbrev pub is_option : List (String Global) → List ℕ → Bool
@@ -98,7 +184,7 @@ IsUnknown options text name = (ms : Members) × (d : Data) × IsDocument text ms
 
 -- the text is a document that has a value under this name that gives the option none
 abbrev pub IsWrong : List ℕ → List ℕ → Type 0
-IsWrong text name = (ms : Members) × (d : Data) × IsDocument text ms × HasMember name d ms × (texts_of d ≡ None)
+IsWrong text name = (ms : Members) × (d : Data) × IsDocument text ms × HasMember name d ms × (settings_under name d ≡ None)
 
 -- the text is a document that is refused for what it says
 abbrev pub IsRefused : List (String Global) → List ℕ → Type 0
@@ -129,12 +215,20 @@ IsFault options text (faults.UnknownOption name line) =
     (end : ℕ) × IsShortest options text end × IsUnknown options (take end text) (string_bytes name) × (line ≡ line_of (take end text))
 IsFault options text (faults.WrongValue name line) =
     (end : ℕ) × IsShortest options text end × IsWrong (take end text) (string_bytes name) × (line ≡ line_of (take end text))
+IsFault options text (faults.WrongZone line) =
+    (end : ℕ) × IsShortest options text end × IsWrong (take end text) (codes "zone") × (line ≡ line_of (take end text))
 IsFault options text faults.Memory = ⊤
+
+-- it is told that a value gives the option of this name none
+abbrev pub IsWrongValue : List ℕ → ℕ → SettingsFault → Type 0
+IsWrongValue name line (faults.WrongValue told there) = (string_bytes told ≡ name) × (there ≡ line)
+IsWrongValue name line (faults.WrongZone there) = (codes "zone" ≡ name) × (there ≡ line)
+IsWrongValue name line other = ⊥
 
 -- what a refusal says of a member of a document
 abbrev pub IsMemberRefusal : List (String Global) → List ℕ → Data → Refusal → Type 0
 IsMemberRefusal options name d (Unknown n) = (string_bytes n ≡ name) × (is_option options name ≡ false)
-IsMemberRefusal options name d (Wrong n) = (string_bytes n ≡ name) × (texts_of d ≡ None)
+IsMemberRefusal options name d (Wrong n) = (string_bytes n ≡ name) × (settings_under name d ≡ None)
 IsMemberRefusal options name d Memory = ⊤
 
 -- what it says of a document

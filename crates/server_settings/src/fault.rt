@@ -25,6 +25,12 @@ pub enum SettingsFault {
         /// The line with which the document has it, from 1.
         line: usize,
     },
+    /// The value of `zone` gives it none: it is of another kind, or has a table with another key, or with a value of another kind under one of these.
+    #[error("line {line}: \"zone\" wants texts, a table of them, or tables with name, file and update, which has tables with key, rule and types")]
+    WrongZone {
+        /// The line with which the document has it, from 1.
+        line: usize,
+    },
     /// Memory was refused.
     #[error("no memory")]
     Memory,

@@ -7,3 +7,4 @@ pub mod names;
 pub mod reading;
 mod values;
 pub mod writing;
+mod zones;

@@ -4,7 +4,7 @@ ghost use Rattle.std.specs.Prelude.{◌≡◌, ◌==◌, ◌+◌, ◌<◌, ◌�
 ghost use Rattle.std.specs.declared.alloc.Global.{Global};
 ghost use Rattle.toml.specs.Data.{Data, Members};
 ghost use Rattle.toml.specs.Errors.{IsMemory};
-ghost use Rattle.server_settings.specs.Settings.{AreKnown, AreSettings, IsDocument, IsFault, IsMemberRefusal, IsRefusal, IsRefused, IsShortest, IsTableRefusal, Pair, is_option, line_ends, line_of, said, settings_of, texts_of, under};
+ghost use Rattle.server_settings.specs.Settings.{AreKnown, AreSettings, IsDocument, IsFault, IsMemberRefusal, IsRefusal, IsRefused, IsShortest, IsTableRefusal, IsWrongValue, Pair, is_option, line_ends, line_of, said, settings_of, settings_under};
 ghost use Rattle.toml.specs.View.{table_view, view};
 
 use crate::fault::SettingsFault;
@@ -60,7 +60,7 @@ fn unknown(name: &String) -> Refusal
 
 /// That the value of this option gives it none.
 fn wrong(name: &String) -> Refusal
-    ensures { (options : List (String Global)) (d : Data) → texts_of d ≡ None → IsMemberRefusal options (string_bytes name.now) d result }
+    ensures { (options : List (String Global)) (d : Data) → settings_under (string_bytes name.now) d ≡ None → IsMemberRefusal options (string_bytes name.now) d result }
 {
     match name.clone() {
         Ok(name) => Refusal::Wrong(name),
@@ -77,8 +77,8 @@ fn put_member(
     settings: &mut Vec<Setting>,
 ) -> Result<(), Refusal>
     ensures known { IfOk result (λ _. is_option options.now (string_bytes name.now) ≡ true) }
-    ensures put { IfOk result (λ _. (texts : List (List ℕ)) × (texts_of (view value.now) ≡ Some texts) ×
-        (map said settings.new.items ≡ map said settings.old.items ++ under (string_bytes name.now) texts)) }
+    ensures put { IfOk result (λ _. (those : List Pair) × (settings_under (string_bytes name.now) (view value.now) ≡ Some those) ×
+        (map said settings.new.items ≡ map said settings.old.items ++ those)) }
     ensures refused { IfErr result (IsMemberRefusal options.now (string_bytes name.now) (view value.now)) }
 {
     if !is_option(options, name.as_str()) {
@@ -118,6 +118,18 @@ fn syntax(e: Error) -> SettingsFault
     }
 }
 
+/// That the value of this option gives it none.
+fn wrong_value(name: String, line: usize) -> SettingsFault
+    ensures { IsWrongValue (string_bytes name) line result }
+{
+    if name.as_str() == "zone" {
+        drop(name);
+        SettingsFault::WrongZone { line }
+    } else {
+        SettingsFault::WrongValue { name, line }
+    }
+}
+
 /// Why the text gives no settings whose front up to this place is refused so.
 fn fault(front: &[u8], refusal: Refusal) -> SettingsFault
     ensures { (options : List (String Global)) (text : List ℕ) (end : ℕ) → front.now ≡ take end text → IsShortest options text end → IsRefusal options front.now refusal → IsFault options text result }
@@ -125,7 +137,7 @@ fn fault(front: &[u8], refusal: Refusal) -> SettingsFault
     let line = line_of(front);
     match refusal {
         Refusal::Unknown(name) => SettingsFault::UnknownOption { name, line },
-        Refusal::Wrong(name) => SettingsFault::WrongValue { name, line },
+        Refusal::Wrong(name) => wrong_value(name, line),
         Refusal::Memory => SettingsFault::Memory,
     }
 }
@@ -221,11 +233,15 @@ fn first_fault(alloc: Global, options: &[String], text: &[u8], whole: Refusal) -
 
 /// The settings of a configuration file in TOML 1.1, in the order of their names, where these are the names of the options that there are.
 ///
+/// A member `zone` that is an array gives for each item that is a table the setting `zone`, `NAME=FILE`, and for each table of its `update` the setting
+/// `allow-update`, `NAME=KEY RULE TYPE..`; of these `NAME`, `FILE`, `KEY` and `RULE` are texts or numbers, empty where they are not there, `TYPE..` is an array
+/// of them, and there is no other key. All other values give theirs so:
+///
 /// A text gives one setting of its name, and a whole number that is not negative its decimal digits. An array gives one for each of its items, in their order,
 /// and a table one for each of its members, `KEY=TEXT`, in the order of their keys, where these are texts or such numbers. Each name counts for itself, so
 /// `"example.com"` wants its quotes as a key.
 ///
-/// `UnknownOption` and `WrongValue` tell the first line with which what stands so far is a document that is refused; to find it the front up to each line is read,
+/// `UnknownOption`, `WrongValue` and `WrongZone` tell the first line with which what stands so far is a document that is refused; to find it the front up to each line is read,
 /// so a fault takes time by the square of the lines. `Memory` says nothing of the text.
 pub fn read_settings(
     alloc: Global,

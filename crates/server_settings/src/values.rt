@@ -1,10 +1,11 @@
 //! What the values of a document are as texts.
 
 ghost use Rattle.std.specs.Prelude.{◌≡◌, ◌++◌, ◌∷◌, [], IfOk, None, Some, OnOk, MatchOption, codes, map, option_map, string_bytes, true, false};
-ghost use Rattle.server_settings.specs.Settings.{said, text_of, digits_of, texts_of, texts_of_items, texts_of_members, under};
+ghost use Rattle.server_settings.specs.Settings.{said, settings_under, text_of, digits_of, texts_of_items, texts_of_members, under, with_text};
 ghost use Rattle.toml.specs.View.{view, array_view, table_view};
 
 use crate::reading::Setting;
+use crate::zones::put_zones;
 use std::alloc::{AllocError, Global};
 use toml::Value;
 use toml::value::{Array, Table};
@@ -23,7 +24,7 @@ fn digits_of(alloc: Global, number: i64) -> Result<Option<String>, AllocError>
 }
 
 /// What one value is as text.
-fn text_of(alloc: Global, value: &Value) -> Result<Option<String>, AllocError>
+pub(crate) fn text_of(alloc: Global, value: &Value) -> Result<Option<String>, AllocError>
     ensures { IfOk result (λ found. option_map string_bytes found ≡ text_of (view value.now)) }
 {
     match value {
@@ -34,7 +35,7 @@ fn text_of(alloc: Global, value: &Value) -> Result<Option<String>, AllocError>
 }
 
 /// Puts a setting last.
-fn put_text(
+pub(crate) fn put_text(
     alloc: Global,
     name: &str,
     value: String,
@@ -74,7 +75,7 @@ fn put_items(
 }
 
 /// The text `KEY=TEXT`.
-fn assigned(alloc: Global, key: &str, text: &str) -> Result<String, AllocError>
+pub(crate) fn assigned(alloc: Global, key: &str, text: &str) -> Result<String, AllocError>
     ensures { IfOk result (λ made. string_bytes made ≡ key.now ++ codes "=" ++ text.now) }
 {
     let mut made = String::from_str(alloc, key)?;
@@ -107,6 +108,25 @@ fn put_members(
     Ok(true)
 }
 
+/// Puts the settings of an option last that has this value, which is no array. Tells whether the value is of a kind that gives it any; else settings may have been put.
+pub(crate) fn put_one(
+    alloc: Global,
+    name: &str,
+    value: &Value,
+    settings: &mut Vec<Setting>,
+) -> Result<bool, AllocError>
+    ensures { IfOk result (λ taken. MatchOption (with_text (text_of (view value.now)) (Some [])) (taken ≡ false)
+        (λ texts. (taken ≡ true) × (map said settings.new.items ≡ map said settings.old.items ++ under name.now texts))) }
+{
+    match text_of(alloc, value)? {
+        Some(text) => {
+            put_text(alloc, name, text, settings)?;
+            Ok(true)
+        }
+        None => Ok(false),
+    }
+}
+
 /// Puts the settings of an option last that has this value. Tells whether the value is of a kind that gives it any; else settings may have been put.
 pub(crate) fn put_values(
     alloc: Global,
@@ -114,18 +134,18 @@ pub(crate) fn put_values(
     value: &Value,
     settings: &mut Vec<Setting>,
 ) -> Result<bool, AllocError>
-    ensures { IfOk result (λ taken. MatchOption (texts_of (view value.now)) (taken ≡ false)
-        (λ texts. (taken ≡ true) × (map said settings.new.items ≡ map said settings.old.items ++ under name.now texts))) }
+    ensures { IfOk result (λ taken. MatchOption (settings_under name.now (view value.now)) (taken ≡ false)
+        (λ those. (taken ≡ true) × (map said settings.new.items ≡ map said settings.old.items ++ those))) }
 {
     match value {
-        Value::Array(items) => put_items(alloc, name, items, settings),
-        Value::Table(members) => put_members(alloc, name, members, settings),
-        one => match text_of(alloc, one)? {
-            Some(text) => {
-                put_text(alloc, name, text, settings)?;
-                Ok(true)
+        Value::Array(items) => {
+            if name == "zone" {
+                put_zones(alloc, items, settings)
+            } else {
+                put_items(alloc, name, items, settings)
             }
-            None => Ok(false),
-        },
+        }
+        Value::Table(members) => put_members(alloc, name, members, settings),
+        one => put_one(alloc, name, one, settings),
     }
 }

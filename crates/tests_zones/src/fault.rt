@@ -9,7 +9,7 @@ use thiserror::Error;
 #[derive(Clone, Copy, Debug, PartialEq, Eq, Error)]
 pub enum Fault {
     /// The arguments are wrong.
-    #[error("usage: tests_zones updated|above")]
+    #[error("usage: tests_zones updated|above|incremental|journalled PATH")]
     Usage,
     /// Memory was refused.
     #[error("no memory")]
@@ -17,7 +17,7 @@ pub enum Fault {
     /// Input or output failed.
     #[error("input or output failed")]
     Stream,
-    /// A line is no message, or a zone is none.
+    /// A line is no message, a zone is none, or there is no journal.
     #[error("bad line")]
     Line,
 }

@@ -1,7 +1,8 @@
-//! Serves messages by `server::Server`, and prints what becomes of each: `tests_zones updated|above` reads lines `TRANSPORT ADDRESS HEX`, with transport
-//! `udp` or `tcp`, and prints `denied`, `response`, `unreadable` or the bytes of each reply; a line that begins with `#` it prints. `updated` serves a zone
-//! that takes every update that is signed, `above` that zone and one below it. The status is 0, 2 for wrong arguments, 3 without memory, 4 where input or
-//! output fail, and 5 where a line is none.
+//! Serves messages by `server::Server`, and prints what becomes of each: `tests_zones updated|above|incremental` reads lines `TRANSPORT ADDRESS HEX`, with
+//! transport `udp` or `tcp`, and prints `denied`, `response`, `unreadable` or the bytes of each reply; a line that begins with `#` it prints. `updated` serves
+//! a zone that takes every update that is signed, `above` that zone and one below it, `incremental` the first with the differences of its last updates, and
+//! `tests_zones journalled PATH` the first with a journal in this file and `PATH-wal`. The status is 0, 2 for wrong arguments, 3 without memory, 4 where input
+//! or output fail, and 5 where a line is none or there is no journal.
 #![tactic(auto)]
 
 mod answers;
@@ -12,27 +13,66 @@ mod zones;
 
 use crate::answers::serve_lines;
 use crate::fault::Fault;
-use crate::zones::{above, updated};
+use crate::zones::{above, incremental, journalled, updated};
 use std::alloc::Global;
 use std::io::Read;
 use std::process::ExitCode;
-use std::rt::Env;
 use std::{env, io};
 
 /// Which zones are served.
 #[derive(Clone, Copy)]
-enum Served {
+enum Served<'a> {
     /// One that takes updates.
     Updated,
     /// One above another.
     Above,
+    /// One that takes updates, and keeps what the last of them have changed.
+    Incremental,
+    /// One that takes updates, with a journal in this file and the one beside it.
+    Journalled(&'a str),
 }
 
-/// Serves the lines of a text, and puts what becomes of them behind another one.
-fn serve_text(alloc: Global, served: Served, lines: &str, text: &mut String) -> Result<(), Fault> {
+/// Serves the lines of a text by a zone that takes updates, and puts what becomes of them behind another one.
+fn serve_updated(alloc: Global, lines: &str, text: &mut String) -> Result<(), Fault> {
+    let mut server = updated(alloc)?;
+    serve_lines(alloc, &mut server, lines, text)
+}
+
+/// The same by a zone above another.
+fn serve_above(alloc: Global, lines: &str, text: &mut String) -> Result<(), Fault> {
+    let mut server = above(alloc)?;
+    serve_lines(alloc, &mut server, lines, text)
+}
+
+/// The same by a zone that keeps what its last updates have changed.
+fn serve_incremental(alloc: Global, lines: &str, text: &mut String) -> Result<(), Fault> {
+    let mut server = incremental(alloc)?;
+    serve_lines(alloc, &mut server, lines, text)
+}
+
+/// The same by a zone with a journal.
+fn serve_journalled(
+    rt: &HostRuntime,
+    path: &str,
+    lines: &str,
+    text: &mut String,
+) -> Result<(), Fault> {
+    let mut server = journalled(rt, path)?;
+    serve_lines(rt.alloc(), &mut server, lines, text)
+}
+
+/// Serves the lines of a text by the zones that are named, and puts what becomes of them behind another one.
+fn serve_text(
+    rt: &HostRuntime,
+    served: Served<'_>,
+    lines: &str,
+    text: &mut String,
+) -> Result<(), Fault> {
     match served {
-        Served::Updated => serve_lines(alloc, &mut updated(alloc)?, lines, text),
-        Served::Above => serve_lines(alloc, &mut above(alloc)?, lines, text),
+        Served::Updated => serve_updated(rt.alloc(), lines, text),
+        Served::Above => serve_above(rt.alloc(), lines, text),
+        Served::Incremental => serve_incremental(rt.alloc(), lines, text),
+        Served::Journalled(path) => serve_journalled(rt, path, lines, text),
     }
 }
 
@@ -46,25 +86,31 @@ fn input<R: Read>(alloc: Global, reader: &mut R) -> Result<String, Fault> {
     }
 }
 
+/// The arguments behind the program's name.
+fn given_words(rt: &HostRuntime) -> Result<Vec<String>, Fault> {
+    match env::args(rt) {
+        Ok(words) => Ok(words.skip(1).collect(rt.alloc())?),
+        Err(_) => Err(Fault::Memory),
+    }
+}
+
 /// Which zones the arguments name.
-fn named_zones<R: Env + Alloc<A = Global>>(rt: &R) -> Result<Served, Fault> {
-    let words: Vec<String> = match env::args(rt) {
-        Ok(words) => words.skip(1).collect(rt.alloc())?,
-        Err(_) => return Err(Fault::Memory),
-    };
-    match words.as_slice() {
+fn named_zones(words: &[String]) -> Result<Served<'_>, Fault> {
+    match words {
         [word] if word.as_str() == "updated" => Ok(Served::Updated),
         [word] if word.as_str() == "above" => Ok(Served::Above),
+        [word] if word.as_str() == "incremental" => Ok(Served::Incremental),
+        [word, path] if word.as_str() == "journalled" => Ok(Served::Journalled(path)),
         _ => Err(Fault::Usage),
     }
 }
 
 /// Serves the standard input, and puts what is printed behind a text.
-fn serve<R: Env + Input + Alloc<A = Global>>(rt: &R, text: &mut String) -> Result<(), Fault> {
-    let alloc = rt.alloc();
-    let named = named_zones(rt)?;
-    let lines = input(alloc, &mut rt.reader())?;
-    serve_text(alloc, named, &lines, text)
+fn serve(rt: &HostRuntime, text: &mut String) -> Result<(), Fault> {
+    let words = given_words(rt)?;
+    let named = named_zones(&words)?;
+    let lines = input(rt.alloc(), &mut rt.reader())?;
+    serve_text(rt, named, &lines, text)
 }
 
 /// Prints a text, and gives the status of what was printed.

@@ -2,6 +2,7 @@
 
 use crate::fault::Fault;
 use crate::trusting::Trusting;
+use durable_zone::DurableZone;
 use dynamic_zone::DynamicZone;
 use hickory_server::access::AccessControl;
 use hickory_server::proto::{LowerName, Name, NameError};
@@ -11,6 +12,9 @@ use hickory_server::store::file::{ZoneError, read_zone};
 use hickory_server::store::in_memory::InMemoryZoneHandler;
 use hickory_server::store::sqlite::SqliteZoneHandler;
 use hickory_server::zone_handler::{AxfrPolicy, Catalog, ZoneHandler, ZoneType};
+use incremental_zone::IncrementalZone;
+use sqlite_disk::Files;
+use sqlite_std_file::{File, Unknown, open};
 use std::alloc::Global;
 use std::rc::Rc;
 
@@ -94,19 +98,70 @@ fn rules(alloc: Global) -> Result<Rules, Fault> {
     })
 }
 
+/// The zone `example.com`, which takes every update that is signed.
+fn updatable(alloc: Global, apex: &Name) -> Result<SqliteZoneHandler<Trusting>, Fault> {
+    let zone = zone(alloc, ZONE, apex)?;
+    Ok(SqliteZoneHandler::new(zone, AxfrPolicy::AllowAll, true, Trusting))
+}
+
+/// A server of one zone.
+fn server_of<H: ZoneHandler + Drop>(
+    alloc: Global,
+    apex: &Name,
+    zone: H,
+) -> Result<Server<Trusting, H>, Fault> {
+    let rules = rules(alloc)?;
+    let mut catalog = Catalog::new(alloc, Trusting);
+    put(alloc, &mut catalog, apex, zone)?;
+    Ok(Server::new(alloc, rules, catalog)?)
+}
+
 /// A server of `example.com`, which takes every update that is signed.
 pub fn updated(alloc: Global) -> Result<Server<Trusting, DynamicZone<Trusting>>, Fault> {
     let apex = name(alloc, "example.com.")?;
-    let zone = zone(alloc, ZONE, &apex)?;
-    let updatable = SqliteZoneHandler::new(zone, AxfrPolicy::AllowAll, true, Trusting);
-    let mut catalog = Catalog::new(alloc, Trusting);
-    put(
-        alloc,
-        &mut catalog,
-        &apex,
-        DynamicZone::new(alloc, updatable),
-    )?;
-    Ok(Server::new(alloc, rules(alloc)?, catalog)?)
+    let zone = DynamicZone::new(updatable(alloc, &apex)?);
+    server_of(alloc, &apex, zone)
+}
+
+/// The same with the differences of its last updates, up to forty records of transfers twice.
+pub fn incremental(
+    alloc: Global,
+) -> Result<Server<Trusting, IncrementalZone<Trusting, File>>, Fault> {
+    let apex = name(alloc, "example.com.")?;
+    let kept = DurableZone::in_memory(updatable(alloc, &apex)?);
+    server_of(alloc, &apex, IncrementalZone::new(alloc, kept, 40))
+}
+
+/// The zone `example.com` with its journal in a file and the one beside it.
+fn opened(rt: &HostRuntime, apex: &Name, path: &str) -> Result<DurableZone<Trusting, File>, Fault> {
+    let zone = updatable(rt.alloc(), apex)?;
+    let Ok(files) = open(rt, path, Unknown) else {
+        return Err(Fault::Line);
+    };
+    let Files { db, log } = files;
+    match DurableZone::open(rt.alloc(), zone, db, log) {
+        Ok(zone) => Ok(zone),
+        Err(_) => Err(Fault::Line),
+    }
+}
+
+/// Compacts the journal of a zone.
+fn compact(alloc: Global, zone: &mut DurableZone<Trusting, File>) -> Result<(), Fault> {
+    match zone.compact(alloc) {
+        Ok(()) => Ok(()),
+        Err(_) => Err(Fault::Line),
+    }
+}
+
+/// A server of `example.com` with its journal in a file and the one beside it, which is compacted first.
+pub fn journalled(
+    rt: &HostRuntime,
+    path: &str,
+) -> Result<Server<Trusting, DurableZone<Trusting, File>>, Fault> {
+    let apex = name(rt.alloc(), "example.com.")?;
+    let mut zone = opened(rt, &apex, path)?;
+    compact(rt.alloc(), &mut zone)?;
+    server_of(rt.alloc(), &apex, zone)
 }
 
 /// A server of `example.com` and of `sub.example.com` below it.

@@ -3,6 +3,7 @@
 //! A text is a line, or the entry of a zone file. A fault is told by its place in the text.
 #![tactic(auto)]
 
+mod cuts;
 mod error;
 mod escapes;
 mod names;
@@ -10,6 +11,7 @@ mod ttl;
 pub mod word_laws;
 mod words;
 
+pub use cuts::cut_at;
 pub use error::{TextError, TextFault};
 pub use escapes::{MAX_STRING_LEN, put_spelled, put_string, read_string};
 pub use names::{absolute_name, next_name, read_name};

@@ -1,6 +1,10 @@
 -- Words behind words.
-use Rattle.std.proofs.Common.{◌≡◌, ◌≤◌, ◌-◌, ℕ, List, [], ◌∷◌, Bor, length, take, drop, get_or, map, ap, sym, ◌∙◌, arith}
+use Rattle.std.proofs.Common.{◌≡◌, ◌≤◌, ◌-◌, ℕ, List, [], ◌∷◌, Bor, None, length, take, drop, get_or, map, ap, subst, sym, ◌∙◌, arith}
 use Rattle.std.proofs.lemmas.List.{take_all}
+use Rattle.std.specs.Iterator.{DrainsIf, Yields}
+use Rattle.std.specs.Str.Iter.{split_whitespace_rest, split_whitespace_steps}
+use Rattle.std.specs.declared.str.SplitWhitespace.{SplitWhitespace}
+use Rattle.update_policy.specs.RuleTexts.{AreWords}
 
 -- the first, and those behind it
 pub one_first : (words : List (Bor (List ℕ))) (d : Bor (List ℕ)) → 1 ≤ length words
@@ -21,3 +25,22 @@ two_first (a ∷ b ∷ rest) d first enough is =
     let count : length (a ∷ b ∷ rest) - 2 ≡ length rest = omega arith in
     ap (λ (word : List ℕ). word ∷ b.now ∷ map text rest) is
     ∙ ap (λ (l : List (Bor (List ℕ))). first ∷ b.now ∷ map text l) (sym (ap (λ (n : ℕ). take n rest) count ∙ take_all (length rest) rest (omega arith)))
+
+-- words that came off a text, one after the other, until none was left
+pub words_drained : (words : List (Bor (List ℕ))) (from to : SplitWhitespace) → Yields split_whitespace_steps from words to → ((u : SplitWhitespace) × split_whitespace_steps to None u)
+    → AreWords (split_whitespace_rest from) (map (λ (word : Bor (List ℕ)). word.now) words)
+words_drained [] from to is (u, (same, blank)) = rw is blank
+words_drained (word ∷ words) from to (next, (gap, parts, some, before, whole, behind), others) end =
+    (gap, split_whitespace_rest next, parts, some, before, whole, behind, words_drained words next to others end)
+
+-- all words of a text, that were collected
+pub all_words : {W : Type 0} (text : List ℕ) (from : SplitWhitespace) (words gave : List (Bor (List ℕ))) → W → split_whitespace_rest from ≡ text → words ≡ gave
+    → DrainsIf split_whitespace_steps W from gave → AreWords text (map (λ (word : Bor (List ℕ)). word.now) words)
+all_words text from words gave whole is same (to, yields, ended) =
+    subst (λ (t : List ℕ). AreWords t (map (λ (word : Bor (List ℕ)). word.now) words)) is (rw same (words_drained gave from to yields (ended whole)))
+
+-- the first, which is this word, and those behind it
+pub named_first : (words : List (Bor (List ℕ))) (d : Bor (List ℕ)) (first : List ℕ) → 1 ≤ length words → (get_or words 0 d).now ≡ first
+    → map (λ (word : Bor (List ℕ)). word.now) words ≡ first ∷ map (λ (word : Bor (List ℕ)). word.now) (take (length words - 1) (drop 1 words))
+named_first words d first enough is =
+    one_first words d enough ∙ ap (λ (word : List ℕ). word ∷ map (λ (w : Bor (List ℕ)). w.now) (take (length words - 1) (drop 1 words))) is

@@ -1,5 +1,7 @@
 -- A rule as words: the name of a key, a scope, and types.
-use Rattle.std.specs.Prelude.{◌≡◌, ◌≢◌, ℕ, List, [], ◌∷◌, codes, length, true}
+use Rattle.std.specs.Prelude.{◌≡◌, ◌<◌, ◌++◌, ℕ, List, [], ◌∷◌, codes, length, true}
+use Rattle.std.specs.Char.{is_not_whitespace, is_whitespace}
+use Rattle.std.specs.Str.{EmptyOrStartsWithPassing, NoCharPasses}
 use Rattle.wire_names.specs.rr.domain.DomainName.{DomainName}
 use Rattle.wire_names.specs.rr.domain.NameText.{IsNameText}
 use Rattle.update_policy.specs.declared.policy.Rule.{Rule}
@@ -27,3 +29,17 @@ pub record IsRule (words : List (List ℕ)) (rule : Rule) : Type 0 where
   pub key_is : IsNameWord key rule.key
   pub scope_is : IsScope behind rule.scope types
   pub each_type : length rule.types ≡ length types
+
+-- The text is these words, with white space (Unicode's `White_Space`) before, between and behind them.
+abbrev pub AreWords : List ℕ → List (List ℕ) → Type 0
+AreWords text [] = NoCharPasses is_not_whitespace text
+AreWords text (word ∷ words) = (gap : List ℕ) × (rest : List ℕ) × (text ≡ gap ++ (word ++ rest)) × (0 < length word) × NoCharPasses is_not_whitespace gap
+    × NoCharPasses is_whitespace word × ((more : List ℕ) × EmptyOrStartsWithPassing is_whitespace rest more) × AreWords rest words
+
+-- The text spells the rule.
+abbrev pub IsRuleText : List ℕ → Rule → Type 0
+IsRuleText text rule = (words : List (List ℕ)) × AreWords text words × IsRule words rule
+
+-- The text spells the rule behind the word `allow-update`.
+abbrev pub IsRuleLine : List ℕ → Rule → Type 0
+IsRuleLine text rule = (words : List (List ℕ)) × AreWords text (codes "allow-update" ∷ words) × IsRule words rule

@@ -1,7 +1,7 @@
 //! Rules as text.
 
-ghost use Rattle.std.specs.Prelude.{◌≡◌, ℕ, IfOk, List, length, map};
-ghost use Rattle.update_policy.specs.RuleTexts.{IsNameWord, IsRule, IsScope};
+ghost use Rattle.std.specs.Prelude.{◌≡◌, IfOk, length, map};
+ghost use Rattle.update_policy.specs.RuleTexts.{AreWords, IsNameWord, IsRule, IsRuleLine, IsRuleText, IsScope};
 
 use crate::policy::{Rule, Scope};
 use std::alloc::{AllocError, Global};
@@ -92,12 +92,19 @@ fn rule_of(alloc: Global, words: &[&str]) -> Result<Rule, RuleTextError>
     Ok(Rule { key, scope, types })
 }
 
+/// The words of a text.
+fn words_of<'t>(alloc: Global, text: &'t str) -> Result<Vec<&'t str>, AllocError>
+    ensures { IfOk result (λ words. AreWords text.now (map (λ word. word.now) words.items)) }
+{
+    text.split_whitespace().collect(alloc)
+}
+
 /// The rule of a text `allow-update KEY [zone|subdomain NAME|name NAME|self] [TYPE..]`, with blanks between the words. Types are mnemonics in any
 /// letter case, or `TYPE` and a number. Names are fully qualified, whether or not they end in a dot.
 pub fn read_rule(alloc: Global, text: &str) -> Result<Rule, RuleTextError>
-    ensures { IfOk result (λ rule. (words : List (List ℕ)) × IsRule words rule) }
+    ensures { IfOk result (IsRuleLine text.now) }
 {
-    let words: Vec<&str> = text.split_whitespace().collect(alloc)?;
+    let words = words_of(alloc, text)?;
     let ["allow-update", rest @ ..] = words.as_slice() else {
         return Err(RuleTextError::Form);
     };
@@ -106,8 +113,8 @@ pub fn read_rule(alloc: Global, text: &str) -> Result<Rule, RuleTextError>
 
 /// The rule of a text as [`read_rule`] takes it, without its first word.
 pub fn read_grant(alloc: Global, text: &str) -> Result<Rule, RuleTextError>
-    ensures { IfOk result (λ rule. (words : List (List ℕ)) × IsRule words rule) }
+    ensures { IfOk result (IsRuleText text.now) }
 {
-    let words: Vec<&str> = text.split_whitespace().collect(alloc)?;
+    let words = words_of(alloc, text)?;
     rule_of(alloc, words.as_slice())
 }

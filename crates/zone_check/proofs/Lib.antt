@@ -1,3 +1,4 @@
+pub mod Earlier
 pub mod Lookups
 pub mod SameNames
 pub mod Walks

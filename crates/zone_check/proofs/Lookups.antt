@@ -16,8 +16,8 @@ use Rattle.wire_messages.specs.declared.rr.rr_key.RrKey.{RrKey}
 use Rattle.wire_names.proofs.lemmas.rr.domain.SameNames.{same_order, lower_same}
 use Rattle.wire_names.specs.rr.domain.DomainName.{DomainName}
 use Rattle.wire_names.specs.rr.domain.NameOrder.{SameName, lower_name, name_cmp, name_eq}
-use Rattle.zone_check.specs.CheckedZones.{Records, ancestor, is_of, is_data_of, is_data_type, is_wild_address, is_wild_address_of}
-use Rattle.zone_check.specs.Indexes.{HasData, HasFirsts, HasWilds, Points}
+use Rattle.zone_check.specs.CheckedZones.{Records, ancestor, is_of, is_data_of, is_data_type, is_named, is_server_of, is_wild_address, is_wild_address_of, server_of}
+use Rattle.zone_check.specs.Indexes.{HasData, HasFirsts, HasServers, HasWilds, Points}
 use Rattle.zone_check.proofs.SameNames.{same_ancestor}
 
 eq_by_tests : (a b : ℕ) (below same : Bool) → nat_lt a b ≡ below → (a == b) ≡ same → is_eq (cond below Less (cond same Equal Greater)) ≡ same
@@ -48,6 +48,10 @@ key_is r q =
 -- and its name what is of its name
 pub name_is : (r : Record RData) (q : DomainName) → is_eq (name_cmp (lower_name r.name) q) ≡ name_eq r.name q
 name_is r q = ap is_eq (same_order (lower_name r.name) q r.name q (lower_same r.name) (itself q))
+
+-- and the name of a host what is of that name
+pub host_is : (host q : DomainName) → is_eq (name_cmp (lower_name host) q) ≡ name_eq host q
+host_is host q = ap is_eq (same_order (lower_name host) q host q (lower_same host) (itself q))
 
 -- and the name above it what is of that name
 pub above_is : (r : Record RData) (q : DomainName) → is_eq (name_cmp (ancestor (lower_name r.name) 1) q) ≡ name_eq (ancestor r.name 1) q
@@ -106,6 +110,18 @@ module _ (records : Records) (behind : ℕ) (r : Record RData) (some : 0 < behin
   no_wild_more wilds no_wild kept q =
       let fails : is_wild_address_of q r ≡ false = ap (λ b. name_eq (ancestor r.name 1) q && b) no_wild ∙ and_false (name_eq (ancestor r.name 1) q) in
       let more : Points records (drop (behind - 1) records) (is_wild_address_of q) (cond (is_wild_address_of q r) (Some (behind - 1)) (get name_cmp wilds q)) = put_in_front (is_wild_address_of q) (get name_cmp wilds q) (kept q) in
+      rw fails at more
+
+  pub one_more_server : (old new : BTreeMap DomainName ℕ) (host : DomainName) → server_of r.rdata ≡ Some host → Updates name_cmp old new (lower_name host) (Some (behind - 1))
+      → HasServers records (drop behind records) old → HasServers records (drop (behind - 1) records) new
+  one_more_server old new host names updates kept q =
+      let test : is_server_of q r ≡ name_eq host q = ap (is_named q) names in
+      rw (updates.0 q ∙ ap (λ b. cond b (Some (behind - 1)) (get name_cmp old q)) (host_is host q ∙ sym test)) (put_in_front (is_server_of q) (get name_cmp old q) (kept q))
+
+  pub no_server_more : (servers : BTreeMap DomainName ℕ) → server_of r.rdata ≡ None → HasServers records (drop behind records) servers → HasServers records (drop (behind - 1) records) servers
+  no_server_more servers names_none kept q =
+      let fails : is_server_of q r ≡ false = ap (is_named q) names_none in
+      let more : Points records (drop (behind - 1) records) (is_server_of q) (cond (is_server_of q r) (Some (behind - 1)) (get name_cmp servers q)) = put_in_front (is_server_of q) (get name_cmp servers q) (kept q) in
       rw fails at more
 
   pub no_data_more : (others : BTreeMap DomainName ℕ) → is_data_type (type_of r.rdata) ≡ false → HasData records (drop behind records) others → HasData records (drop (behind - 1) records) others

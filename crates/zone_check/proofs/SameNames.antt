@@ -1,5 +1,5 @@
 -- What is said of a name is said of it in any letter case.
-use Rattle.std.proofs.Common.{◌≡◌, ◌&&◌, ◌==◌, ◌++◌, ℕ, Bool, cond, List, [], ◌∷◌, Some, refl, sym, ap, ◌∙◌, subst, drop, IsSome}
+use Rattle.std.proofs.Common.{◌≡◌, ◌&&◌, ◌==◌, ◌++◌, ℕ, Bool, cond, List, [], ◌∷◌, Option, None, Some, refl, sym, ap, ◌∙◌, subst, drop, IsSome}
 use Rattle.std.proofs.lemmas.List.{append-nil, drop-map}
 use Rattle.std.specs.List.{find}
 use Rattle.std.specs.Ordering.{is_eq}
@@ -9,7 +9,7 @@ use Rattle.wire_messages.specs.declared.rr.record.Record.{Record}
 use Rattle.wire_names.proofs.lemmas.rr.domain.SameNames.{same_order, lower_same, lower_labels-twice}
 use Rattle.wire_names.specs.rr.domain.DomainName.{DomainName}
 use Rattle.wire_names.specs.rr.domain.NameOrder.{Encloses, SameName, lower_label, lower_labels, lower_name, name_eq}
-use Rattle.zone_check.specs.CheckedZones.{CheckedZone, HasWildAddress, IsBelowApex, IsCut, IsDnameOwner, IsInZone, Owns, Records, ancestor, is_data_of, is_data_type, is_of, is_wild_address, is_wild_address_of}
+use Rattle.zone_check.specs.CheckedZones.{CheckedZone, HasWildAddress, IsBelowApex, IsCut, IsDnameOwner, IsInZone, Owns, Records, ancestor, is_data_of, is_data_type, is_named, is_of, is_server_of, is_wild_address, is_wild_address_of, server_of}
 
 find_alike : (p q : Record RData → Bool) (rs : Records) → ((r : Record RData) → p r ≡ q r) → find p rs ≡ find q rs
 find_alike p q [] same = refl
@@ -36,6 +36,15 @@ first_lower rs name t = first_alike rs (lower_name name) name t (lower_same name
 
 pub data_lower : (rs : Records) (name : DomainName) → find (is_data_of (lower_name name)) rs ≡ find (is_data_of name) rs
 data_lower rs name = data_alike rs (lower_name name) name (lower_same name)
+
+server_alike : (rs : Records) (a b : DomainName) → SameName a b → find (is_server_of a) rs ≡ find (is_server_of b) rs
+server_alike rs a b s = find_alike (is_server_of a) (is_server_of b) rs (λ r. by_host (server_of r.rdata)) where
+  by_host : (host : Option DomainName) → is_named a host ≡ is_named b host
+  by_host None = refl
+  by_host (Some host) = ap is_eq (same_order host a host b (itself host) s)
+
+pub server_lower : (rs : Records) (name : DomainName) → find (is_server_of (lower_name name)) rs ≡ find (is_server_of name) rs
+server_lower rs name = server_alike rs (lower_name name) name (lower_same name)
 
 pub wild_alike : (rs : Records) (a b : DomainName) → SameName a b → find (is_wild_address_of a) rs ≡ find (is_wild_address_of b) rs
 wild_alike rs a b s = find_alike (is_wild_address_of a) (is_wild_address_of b) rs (λ r. ap (λ e. e && is_wild_address r) (ap is_eq (same_order (ancestor r.name 1) a (ancestor r.name 1) b (itself (ancestor r.name 1)) s)))

@@ -1,10 +1,11 @@
 -- A zone that is checked: its records in the order of its file (RFC 1035 section 5), and what its names own.
-use Rattle.std.specs.Prelude.{◌<◌, ◌≤◌, ◌==◌, ◌&&◌, ◌||◌, ◌⊎◌, ℕ, Bool, true, not, IsSome, List, drop, length, Option}
+use Rattle.std.specs.Prelude.{◌<◌, ◌≤◌, ◌==◌, ◌&&◌, ◌||◌, ◌⊎◌, ℕ, Bool, true, false, not, IsSome, List, drop, length, Option, Some, None}
 use Rattle.std.specs.List.{find}
 use Rattle.wire_names.specs.rr.domain.DomainName.{DomainName}
 use Rattle.wire_names.specs.rr.domain.NameOrder.{Encloses, is_wildcard, name_eq}
 use Rattle.wire_messages.specs.rr.RecordData.{type_of}
 use Rattle.wire_messages.specs.declared.rr.rdata.RData.{RData}
+use Rattle.wire_messages.specs.declared.rr.rdata.RData.TheVariants as rdata
 use Rattle.wire_messages.specs.declared.rr.record.Record.{Record}
 
 -- records in their order
@@ -21,7 +22,7 @@ pub record CheckedZone : Type 0 where
 abbrev pub checked_zone : DomainName → Records → Option ℕ → CheckedZone
 checked_zone origin records previous = record { origin = record origin { is_fqdn = true }; records = records; previous = previous }
 
--- Types by their numbers (RFC 1035 section 3.2.2, RFC 2535 section 3, RFC 3596 section 2.1, RFC 6672 section 2.1, RFC 4034, RFC 5155 section 4).
+-- Types by their numbers (RFC 1035 section 3.2.2, RFC 2535 section 3, RFC 2782, RFC 3596 section 2.1, RFC 6672 section 2.1, RFC 4034, RFC 5155 section 4).
 abbrev pub type_a : ℕ
 type_a = 1
 
@@ -39,6 +40,9 @@ type_key = 25
 
 abbrev pub type_aaaa : ℕ
 type_aaaa = 28
+
+abbrev pub type_srv : ℕ
+type_srv = 33
 
 abbrev pub type_dname : ℕ
 type_dname = 39
@@ -99,6 +103,24 @@ is_wild_address_of name r = name_eq (ancestor r.name 1) name && is_wild_address 
 -- The wildcard right below the name owns an address.
 abbrev pub HasWildAddress : CheckedZone → DomainName → Type 0
 HasWildAddress zone name = IsSome (find (is_wild_address_of name) zone.records)
+
+-- the host that an NS record names (RFC 1035 section 3.3.11)
+abbrev pub server_of : RData → Option DomainName
+server_of (rdata.NS host) = Some host
+server_of other = None
+
+-- the host is of this name
+abbrev pub is_named : DomainName → Option DomainName → Bool
+is_named name (Some host) = name_eq host name
+is_named name None = false
+
+-- the record is an NS record that names this host
+abbrev pub is_server_of : DomainName → Record RData → Bool
+is_server_of name r = is_named name (server_of r.rdata)
+
+-- An NS record of the zone names this host.
+abbrev pub IsServer : CheckedZone → DomainName → Type 0
+IsServer zone name = IsSome (find (is_server_of name) zone.records)
 
 -- The name is the apex or below it.
 abbrev pub IsInZone : CheckedZone → DomainName → Type 0

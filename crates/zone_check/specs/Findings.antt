@@ -1,17 +1,19 @@
 -- What a careful operator asks of a zone before it is served, and what is found where the zone does not answer.
-use Rattle.std.specs.Prelude.{◌≡◌, ◌≢◌, ◌<◌, ◌≤◌, ◌+◌, ◌-◌, ◌*◌, ◌==◌, ◌||◌, ◌^◌, ◌⊎◌, ℕ, zero, suc, List, [], ◌∷◌, ◌++◌, length, map, if◌then◌else◌, Bool, false, Option, Some, None, MatchOption}
+use Rattle.std.specs.Prelude.{◌≡◌, ◌≢◌, ◌<◌, ◌≤◌, ◌+◌, ◌-◌, ◌*◌, ◌==◌, ◌||◌, ◌^◌, ◌⊎◌, ℕ, zero, suc, List, [], ◌∷◌, ◌++◌, length, map, drop, cond, if◌then◌else◌, nat_lt, Bool, false, Option, Some, None, Ok, Err, MatchOption}
 use Rattle.std.specs.List.{slice_get}
 use Rattle.std.specs.Option.{option_map}
 use Rattle.wire_names.specs.rr.domain.DomainName.{DomainName}
 use Rattle.wire_names.specs.rr.domain.NameOrder.{Encloses}
 use Rattle.wire_messages.specs.rr.RecordData.{type_of}
-use Rattle.wire_messages.specs.rr.RecordSameness.{SameData}
+use Rattle.wire_messages.specs.rr.RecordSameness.{SameData, SameRecord}
+use Rattle.wire_messages.specs.serialize.reading.NameReading.{name}
+use Rattle.wire_messages.specs.serialize.reading.Reading.{Read}
 use Rattle.wire_messages.specs.declared.rr.rdata.RData.{RData}
 use Rattle.wire_messages.specs.declared.rr.rdata.RData.TheVariants as rdata
 use Rattle.wire_messages.specs.declared.rr.rdata.SOA.{SOA}
 use Rattle.wire_messages.specs.declared.rr.record.Record.{Record}
-use Rattle.zone_check.specs.CheckedZones.{CheckedZone, IsApex, IsBelowApex, IsBelowCut, IsBelowDname, IsBelowWildcard, IsCut, IsInZone, Owns, OwnsAddress, OwnsData, first_of}
-use Rattle.zone_check.specs.CheckedZones.{type_rrsig, type_a, type_aaaa, type_cname, type_dname, type_ds, type_ns, type_nsec, type_nsec3param, type_soa}
+use Rattle.zone_check.specs.CheckedZones.{CheckedZone, IsApex, IsBelowApex, IsBelowCut, IsBelowDname, IsBelowWildcard, IsCut, IsInZone, IsServer, Owns, OwnsAddress, OwnsData, Records, first_of}
+use Rattle.zone_check.specs.CheckedZones.{type_rrsig, type_a, type_aaaa, type_cname, type_dname, type_ds, type_ns, type_nsec, type_nsec3param, type_soa, type_srv}
 use Rattle.zone_check.specs.declared.finding.Finding.{Finding}
 use Rattle.zone_check.specs.declared.finding.Kind.{Kind}
 use Rattle.zone_check.specs.declared.finding.Kind.TheVariants as kind
@@ -46,6 +48,14 @@ pub record IsSecond (zone : CheckedZone) (r : Record RData) : Type 0 where
   pub single : IsSingle (type_of r.rdata)
   pub differs : OfFirst (λ first. ¬ (SameData first.rdata r.rdata)) zone r
 
+-- A record before the place is the same, its TTL aside: of such only one is of the zone (RFC 2181 section 5).
+pub record IsRepeated (records : Records) (place : ℕ) (r : Record RData) : Type 0 where
+  pub before : ℕ
+  pub other : Record RData
+  pub on : before < place
+  pub there : slice_get records before ≡ Some other
+  pub same : SameRecord other r
+
 -- A CNAME stands beside other data (RFC 1034 section 3.6.2, RFC 2181 section 10.1), a DNAME among them (RFC 6672 section 2.4).
 pub record IsCnameBesideData (zone : CheckedZone) (r : Record RData) : Type 0 where
   pub typed : type_of r.rdata ≡ type_cname
@@ -74,10 +84,23 @@ pub record IsDataAtCut (zone : CheckedZone) (r : Record RData) : Type 0 where
 abbrev pub HasOtherTtl : CheckedZone → Record RData → Type 0
 HasOtherTtl zone r = OfFirst (λ first. first.ttl ≢ r.ttl) zone r
 
--- the host that an NS or MX record names (RFC 1035 sections 3.3.9 and 3.3.11)
+abbrev pub read_part : Read DomainName → Option DomainName
+read_part (Ok part) = Some part.0
+read_part (Err e) = None
+
+-- the name that octets begin with, if they do
+abbrev pub first_name : List ℕ → Option DomainName
+first_name octets = read_part (name (record { bytes = octets; place = 0 }))
+
+-- the host in the octets of an SRV record, behind priority, weight and port (RFC 2782)
+abbrev pub srv_host : List ℕ → Option DomainName
+srv_host octets = cond (nat_lt (length octets) 6) None (first_name (drop 6 octets))
+
+-- the host that an NS, MX or SRV record names (RFC 1035 sections 3.3.9 and 3.3.11, RFC 2782)
 abbrev pub host_of : RData → Option DomainName
 host_of (rdata.NS host) = Some host
 host_of (rdata.MX mx) = Some mx.exchange
+host_of (rdata.Unknown code octets) = cond (code == type_srv) (srv_host octets) None
 host_of other = None
 
 -- The record names a host, of which what is said holds.
@@ -90,14 +113,15 @@ pub record IsOwn (zone : CheckedZone) (name : DomainName) : Type 0 where
   pub uncut : ¬ (IsCut zone name)
   pub not_below : ¬ (IsBelowCut zone name)
 
--- The zone itself has to have the host's addresses, and has none, nor an alias, nor a wildcard that may give it one (RFC 1035 section 3.3.9, RFC 1912 section 2.8).
+-- The zone itself has to have the host's addresses, and has none, nor an alias, nor a wildcard that may give it one (RFC 1035 section 3.3.9, RFC 1912 section 2.8,
+-- RFC 2782).
 pub record IsWithoutAddress (zone : CheckedZone) (host : DomainName) : Type 0 where
   pub own : IsOwn zone host
   pub no_address : ¬ (OwnsAddress zone host)
   pub no_alias : ¬ (Owns zone host type_cname)
   pub no_wildcard : ¬ (IsBelowWildcard zone host)
 
--- The host of an NS or MX record is an alias (RFC 2181 section 10.3).
+-- The host of an NS, MX or SRV record is an alias (RFC 2181 section 10.3, RFC 2782).
 pub record IsAliased (zone : CheckedZone) (host : DomainName) : Type 0 where
   pub own : IsOwn zone host
   pub alias : Owns zone host type_cname
@@ -112,6 +136,12 @@ pub record IsServerBelow (zone : CheckedZone) (r : Record RData) (host : DomainN
 pub record LacksGlue (zone : CheckedZone) (r : Record RData) (host : DomainName) : Type 0 where
   pub server : IsServerBelow zone r host
   pub no_address : ¬ (OwnsAddress zone host)
+
+-- An address at a cut or below it is there for name servers alone, as glue, and no NS record of the zone names its owner (RFC 1034 section 4.2.1).
+pub record IsIdleGlue (zone : CheckedZone) (r : Record RData) : Type 0 where
+  pub address : (type_of r.rdata ≡ type_a) ⊎ (type_of r.rdata ≡ type_aaaa)
+  pub cut : IsCut zone r.name ⊎ IsBelowCut zone r.name
+  pub unnamed : ¬ (IsServer zone r.name)
 
 -- the data of an SOA record (RFC 1035 section 3.3.13)
 abbrev pub soa_of : RData → Option SOA
@@ -174,29 +204,31 @@ covered_of other = None
 abbrev pub CoversNothing : CheckedZone → Record RData → Type 0
 CoversNothing zone r = MatchOption (covered_of r.rdata) ⊥ (λ t. ¬ (Owns zone r.name t))
 
--- What is found of a record, by kind.
-abbrev pub IsFoundOf : Kind → CheckedZone → Record RData → Type 0
-IsFoundOf kind.NoSoa zone r = ⊥
-IsFoundOf kind.NoServers zone r = ⊥
-IsFoundOf kind.Outside zone r = IsOutside zone r
-IsFoundOf kind.SoaBelowApex zone r = IsSoaBelowApex zone r
-IsFoundOf kind.Second zone r = IsSecond zone r
-IsFoundOf kind.CnameBesideData zone r = IsCnameBesideData zone r
-IsFoundOf kind.BelowDname zone r = IsUnderDname zone r
-IsFoundOf kind.BelowCut zone r = IsDataBelowCut zone r
-IsFoundOf kind.AtCut zone r = IsDataAtCut zone r
-IsFoundOf kind.OtherTtl zone r = HasOtherTtl zone r
-IsFoundOf kind.NoAddress zone r = OfHost (IsWithoutAddress zone) r.rdata
-IsFoundOf kind.NoGlue zone r = OfHost (LacksGlue zone r) r.rdata
-IsFoundOf kind.HostIsAlias zone r = OfHost (IsAliased zone) r.rdata
-IsFoundOf kind.SerialNotAbove zone r = OfSoa (IsNotAbove zone) r.rdata
-IsFoundOf kind.Refresh zone r = OfSoa HasOddRefresh r.rdata
-IsFoundOf kind.Retry zone r = OfSoa HasOddRetry r.rdata
-IsFoundOf kind.Expire zone r = OfSoa HasOddExpire r.rdata
-IsFoundOf kind.Minimum zone r = OfSoa HasOddMinimum r.rdata
-IsFoundOf kind.DsAtApex zone r = IsDsAtApex zone r
-IsFoundOf kind.Nsec3paramBelowApex zone r = IsNsec3paramBelowApex zone r
-IsFoundOf kind.CoversNothing zone r = CoversNothing zone r
+-- What is found of the record at a place, by kind.
+abbrev pub IsFoundOf : Kind → CheckedZone → ℕ → Record RData → Type 0
+IsFoundOf kind.NoSoa zone place r = ⊥
+IsFoundOf kind.NoServers zone place r = ⊥
+IsFoundOf kind.Outside zone place r = IsOutside zone r
+IsFoundOf kind.SoaBelowApex zone place r = IsSoaBelowApex zone r
+IsFoundOf kind.Second zone place r = IsSecond zone r
+IsFoundOf kind.Repeated zone place r = IsRepeated zone.records place r
+IsFoundOf kind.CnameBesideData zone place r = IsCnameBesideData zone r
+IsFoundOf kind.BelowDname zone place r = IsUnderDname zone r
+IsFoundOf kind.BelowCut zone place r = IsDataBelowCut zone r
+IsFoundOf kind.AtCut zone place r = IsDataAtCut zone r
+IsFoundOf kind.OtherTtl zone place r = HasOtherTtl zone r
+IsFoundOf kind.NoAddress zone place r = OfHost (IsWithoutAddress zone) r.rdata
+IsFoundOf kind.NoGlue zone place r = OfHost (LacksGlue zone r) r.rdata
+IsFoundOf kind.IdleGlue zone place r = IsIdleGlue zone r
+IsFoundOf kind.HostIsAlias zone place r = OfHost (IsAliased zone) r.rdata
+IsFoundOf kind.SerialNotAbove zone place r = OfSoa (IsNotAbove zone) r.rdata
+IsFoundOf kind.Refresh zone place r = OfSoa HasOddRefresh r.rdata
+IsFoundOf kind.Retry zone place r = OfSoa HasOddRetry r.rdata
+IsFoundOf kind.Expire zone place r = OfSoa HasOddExpire r.rdata
+IsFoundOf kind.Minimum zone place r = OfSoa HasOddMinimum r.rdata
+IsFoundOf kind.DsAtApex zone place r = IsDsAtApex zone r
+IsFoundOf kind.Nsec3paramBelowApex zone place r = IsNsec3paramBelowApex zone r
+IsFoundOf kind.CoversNothing zone place r = CoversNothing zone r
 
 -- What is found of the zone as a whole, by kind.
 abbrev pub IsFoundOfZone : Kind → CheckedZone → Type 0
@@ -206,12 +238,12 @@ IsFoundOfZone other zone = ⊥
 
 -- What is found holds, of the zone as a whole or of the record at this place, which is counted from 0.
 abbrev pub Holds : CheckedZone → Finding → Type 0
-Holds zone finding = MatchOption finding.place (IsFoundOfZone finding.kind zone) (λ place. MatchOption (slice_get zone.records place) ⊥ (IsFoundOf finding.kind zone))
+Holds zone finding = MatchOption finding.place (IsFoundOfZone finding.kind zone) (λ place. MatchOption (slice_get zone.records place) ⊥ (IsFoundOf finding.kind zone place))
 
 -- all kinds of findings of a record, in their order
 abbrev pub kinds_of_records : List Kind
 kinds_of_records =
-    kind.Outside ∷ kind.SoaBelowApex ∷ kind.Second ∷ kind.CnameBesideData ∷ kind.BelowDname ∷ kind.BelowCut ∷ kind.AtCut ∷ kind.OtherTtl ∷ kind.NoAddress ∷ kind.NoGlue ∷ kind.HostIsAlias
+    kind.Outside ∷ kind.SoaBelowApex ∷ kind.Second ∷ kind.Repeated ∷ kind.CnameBesideData ∷ kind.BelowDname ∷ kind.BelowCut ∷ kind.AtCut ∷ kind.OtherTtl ∷ kind.NoAddress ∷ kind.NoGlue ∷ kind.IdleGlue ∷ kind.HostIsAlias
     ∷ kind.SerialNotAbove ∷ kind.Refresh ∷ kind.Retry ∷ kind.Expire ∷ kind.Minimum ∷ kind.DsAtApex ∷ kind.Nsec3paramBelowApex ∷ kind.CoversNothing ∷ []
 
 abbrev pub at_place : ℕ → Kind → Finding

@@ -1,14 +1,16 @@
 -- How records are found without a walk over all of them: by maps from what they are found by to the place of the first such record.
-use Rattle.std.specs.Prelude.{◌≡◌, ℕ, Bool, Option, Some, None}
+use Rattle.std.specs.Prelude.{◌≡◌, ◌<◌, ℕ, zero, suc, Bool, false, List, Option, Some, None, cond, length}
 use Rattle.std.specs.List.{find, slice_get}
+use Rattle.std.specs.Option.{option_map_or}
 use Rattle.std.specs.BTreeMap.{BTreeMap, get}
+use Rattle.wire_messages.specs.rr.RecordData.{type_of}
 use Rattle.wire_messages.specs.declared.rr.rdata.RData.{RData}
 use Rattle.wire_messages.specs.declared.rr.record.Record.{Record}
 use Rattle.wire_messages.specs.declared.rr.rr_key.RrKey.{RrKey}
 use Rattle.wire_messages.specs.rr.RrKeys.{key_cmp}
 use Rattle.wire_names.specs.rr.domain.DomainName.{DomainName}
-use Rattle.wire_names.specs.rr.domain.NameOrder.{name_cmp}
-use Rattle.zone_check.specs.CheckedZones.{Records, is_of, is_data_of, is_wild_address_of}
+use Rattle.wire_names.specs.rr.domain.NameOrder.{lower_name, name_cmp}
+use Rattle.zone_check.specs.CheckedZones.{Records, is_of, is_data_of, is_server_of, is_wild_address_of}
 
 -- The place is that of the first of the last records that passes the test, or there is none.
 abbrev pub Points : Records → Records → (Record RData → Bool) → Option ℕ → Type 0
@@ -26,3 +28,33 @@ HasData records last others = (q : DomainName) → Points records last (is_data_
 -- The map has for each name the place of the first of the last records that is an address of the wildcard right below the name.
 abbrev pub HasWilds : Records → Records → BTreeMap DomainName ℕ → Type 0
 HasWilds records last wilds = (q : DomainName) → Points records last (is_wild_address_of q) (get name_cmp wilds q)
+
+-- The map has for each name the place of the first of the last records that is an NS record that names it as a host.
+abbrev pub HasServers : Records → Records → BTreeMap DomainName ℕ → Type 0
+HasServers records last servers = (q : DomainName) → Points records last (is_server_of q) (get name_cmp servers q)
+
+-- whether the record at a place passes the test
+abbrev pub passes_at : Records → (Record RData → Bool) → ℕ → Bool
+passes_at records test place = option_map_or test (slice_get records place) false
+
+-- the place of the last record before a place that passes the test, if one does
+abbrev pub last_before : Records → (Record RData → Bool) → ℕ → Option ℕ
+last_before records test zero = None
+last_before records test (suc place) = cond (passes_at records test place) (Some place) (last_before records test place)
+
+-- the place of the last record before a place that is of the name and the type of this one
+abbrev pub earlier_of : Records → ℕ → Record RData → Option ℕ
+earlier_of records place r = last_before records (is_of (lower_name r.name) (type_of r.rdata)) place
+
+-- The map has for each name and type the place of its last record before a place.
+abbrev pub HasLasts : Records → ℕ → BTreeMap RrKey ℕ → Type 0
+HasLasts records place lasts = (q : RrKey) → get key_cmp lasts q ≡ last_before records (is_of q.name q.record_type) place
+
+-- For each of so many records there is the place of the last one before it that is of its name and type.
+pub record HasEarlierTo (records : Records) (count : ℕ) (earlier : List (Option ℕ)) : Type 0 where
+  pub size : length earlier ≡ count
+  pub each : (place : ℕ) (r : Record RData) → place < count → slice_get records place ≡ Some r → slice_get earlier place ≡ Some (earlier_of records place r)
+
+-- And for all of them.
+abbrev pub HasEarlier : Records → List (Option ℕ) → Type 0
+HasEarlier records earlier = HasEarlierTo records (length records) earlier

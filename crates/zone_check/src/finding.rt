@@ -30,6 +30,9 @@ pub enum Kind {
     /// 10.1, RFC 6672 section 2.4).
     #[error("another record of a type of which a name has one")]
     Second,
+    /// A record before it is the same, its TTL aside (RFC 2181 section 5).
+    #[error("the same record stands before")]
+    Repeated,
     /// A CNAME stands beside other data (RFC 1034 section 3.6.2, RFC 2181 section 10.1).
     #[error("a CNAME beside other data")]
     CnameBesideData,
@@ -45,13 +48,16 @@ pub enum Kind {
     /// The TTL is not that of the first record of the RRset (RFC 2181 section 5.2).
     #[error("another TTL than the first record of its RRset")]
     OtherTtl,
-    /// The host of an NS or MX record is in the zone and has no address there (RFC 1912 section 2.8).
+    /// The host of an NS, MX or SRV record is in the zone and has no address there (RFC 1912 section 2.8, RFC 2782).
     #[error("its host is in the zone and has no address there")]
     NoAddress,
     /// An NS record names a host at its cut or below it, without an address in the zone (RFC 9471 section 2.1).
     #[error("its host is below the cut and has no glue")]
     NoGlue,
-    /// The host of an NS or MX record is an alias (RFC 2181 section 10.3).
+    /// An address stands at a cut or below it, and no NS record names its owner as a host (RFC 1034 section 4.2.1).
+    #[error("an address at a cut or below it that no NS record needs")]
+    IdleGlue,
+    /// The host of an NS, MX or SRV record is an alias (RFC 2181 section 10.3, RFC 2782).
     #[error("its host is an alias")]
     HostIsAlias,
     /// The serial is not above that of the zone before (RFC 1982 section 3.2).
@@ -97,8 +103,10 @@ impl Kind {
             | Kind::SerialNotAbove
             | Kind::DsAtApex
             | Kind::Nsec3paramBelowApex => Severity::Fault,
-            Kind::BelowCut
+            Kind::Repeated
+            | Kind::BelowCut
             | Kind::AtCut
+            | Kind::IdleGlue
             | Kind::OtherTtl
             | Kind::Refresh
             | Kind::Retry

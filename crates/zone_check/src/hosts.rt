@@ -1,24 +1,71 @@
 //! What is asked of the host that a record names.
 
-ghost use Rattle.std.specs.Prelude.{◌≡◌, ◌↔◌, IfOk, IsTrue};
-ghost use Rattle.std.specs.Option.{option_copied};
-ghost use Rattle.zone_check.specs.Findings.{IsAliased, IsOwn, IsServerBelow, IsWithoutAddress, LacksGlue, OfHost, host_of};
+ghost use Rattle.std.specs.Prelude.{◌≡◌, ◌↔◌, ◌⊎◌, IfOk, IsTrue};
+ghost use Rattle.wire_names.specs.declared.error.DecodeError.TheVariants as decode_error;
+ghost use Rattle.zone_check.specs.CheckedZones.{IsBelowCut, IsCut};
+ghost use Rattle.zone_check.specs.Findings.{IsAliased, IsIdleGlue, IsOwn, IsServerBelow, IsWithoutAddress, LacksGlue, OfHost, first_name, host_of, srv_host};
 
 use crate::subject::Subject;
 use std::alloc::{AllocError, Global};
 use wire_messages::rr::rdata::RData;
 use wire_messages::rr::record::Record;
 use wire_messages::rr::record_type::RecordType;
+use wire_names::error::DecodeError;
 use wire_names::rr::domain::name::Name;
+use wire_reading::serialize::reading::decoder::BinDecoder;
 
-/// The host that an NS or MX record names.
-fn host_of(record: &Record) -> Option<&Name>
-    ensures { option_copied result ≡ host_of «record».now.rdata }
+/// The number of the type SRV (RFC 2782).
+const SRV: u16 = 33;
+
+/// Whether memory was refused.
+fn is_memory(e: &DecodeError) -> bool
+    ensures { IsTrue result ↔ (e.now ≡ decode_error.Memory) }
+{
+    matches!(e, DecodeError::Memory)
+}
+
+/// The name that these octets begin with, if they do.
+fn first_name(alloc: Global, octets: &[u8]) -> Result<Option<Name>, AllocError>
+    ensures { IfOk result (λ found. found ≡ first_name octets.now) }
+{
+    match BinDecoder::new(octets).read_name(alloc) {
+        Ok(name) => Ok(Some(name)),
+        Err(e) => {
+            if is_memory(&e) {
+                Err(AllocError)
+            } else {
+                Ok(None)
+            }
+        }
+    }
+}
+
+/// The host in the octets of an SRV record, behind priority, weight and port, if they have one.
+fn srv_host(alloc: Global, octets: &[u8]) -> Result<Option<Name>, AllocError>
+    ensures { IfOk result (λ found. found ≡ srv_host octets.now) }
+{
+    if octets.len() < 6 {
+        Ok(None)
+    } else {
+        first_name(alloc, &octets[6..])
+    }
+}
+
+/// The host that an NS, MX or SRV record names.
+fn host_of(alloc: Global, record: &Record) -> Result<Option<Name>, AllocError>
+    ensures { IfOk result (λ found. found ≡ host_of «record».now.rdata) }
 {
     match &record.rdata {
-        RData::NS(host) => Some(host),
-        RData::MX(exchange) => Some(&exchange.exchange),
-        _ => None,
+        RData::NS(host) => Ok(Some(host.clone()?)),
+        RData::MX(mx) => Ok(Some(mx.exchange.clone()?)),
+        RData::Unknown { code, bytes } => {
+            if code.value() == SRV {
+                srv_host(alloc, bytes.as_slice())
+            } else {
+                Ok(None)
+            }
+        }
+        _ => Ok(None),
     }
 }
 
@@ -94,8 +141,8 @@ pub(crate) fn has_no_address(
 ) -> Result<bool, AllocError>
     ensures { IfOk result (λ is. IsTrue is ↔ OfHost (IsWithoutAddress zone.now) «record».now.rdata) }
 {
-    match host_of(record) {
-        Some(host) => Ok(is_without_address(alloc, zone, host)?),
+    match host_of(alloc, record)? {
+        Some(host) => Ok(is_without_address(alloc, zone, &host)?),
         None => Ok(false),
     }
 }
@@ -108,8 +155,8 @@ pub(crate) fn has_no_glue(
 ) -> Result<bool, AllocError>
     ensures { IfOk result (λ is. IsTrue is ↔ OfHost (LacksGlue zone.now «record».now) «record».now.rdata) }
 {
-    match host_of(record) {
-        Some(host) => Ok(lacks_glue(alloc, zone, record, host)?),
+    match host_of(alloc, record)? {
+        Some(host) => Ok(lacks_glue(alloc, zone, record, &host)?),
         None => Ok(false),
     }
 }
@@ -122,8 +169,37 @@ pub(crate) fn has_aliased_host(
 ) -> Result<bool, AllocError>
     ensures { IfOk result (λ is. IsTrue is ↔ OfHost (IsAliased zone.now) «record».now.rdata) }
 {
-    match host_of(record) {
-        Some(host) => Ok(is_aliased(alloc, zone, host)?),
+    match host_of(alloc, record)? {
+        Some(host) => Ok(is_aliased(alloc, zone, &host)?),
         None => Ok(false),
     }
+}
+
+/// Whether a zone is cut at a name or above it.
+fn is_cut_away(alloc: Global, zone: &Subject<'_>, name: &Name) -> Result<bool, AllocError>
+    ensures { IfOk result (λ is. IsTrue is ↔ (IsCut zone.now name.now ⊎ IsBelowCut zone.now name.now)) }
+{
+    if zone.is_cut(alloc, name)? {
+        return Ok(true);
+    }
+    zone.is_below_cut(alloc, name)
+}
+
+/// Whether it is an address at a cut or below it that no NS record needs.
+pub(crate) fn is_idle_glue(
+    alloc: Global,
+    zone: &Subject<'_>,
+    record: &Record,
+) -> Result<bool, AllocError>
+    ensures { IfOk result (λ is. IsTrue is ↔ IsIdleGlue zone.now «record».now) }
+{
+    let record_type = record.rdata.record_type();
+    if record_type != RecordType::A && record_type != RecordType::AAAA {
+        return Ok(false);
+    }
+    if !is_cut_away(alloc, zone, &record.name)? {
+        return Ok(false);
+    }
+    let is_server = zone.is_server(alloc, &record.name)?;
+    Ok(!is_server)
 }

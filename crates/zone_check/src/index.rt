@@ -1,16 +1,22 @@
 //! Records found by name and type.
 
-ghost use Rattle.std.specs.Prelude.{◌≡◌, IfOk};
+ghost use Rattle.std.specs.Prelude.{◌≡◌, ◌↔◌, ◌<◌, IfOk, IsTrue, Some, length};
 ghost use Rattle.std.specs.List.{find, slice_get};
 ghost use Rattle.std.specs.Option.{option_copied};
 ghost use Rattle.wire_messages.specs.rr.RecordData.{type_of};
+ghost use Rattle.wire_messages.specs.rr.RecordSameness.{SameRecord};
 ghost use Rattle.wire_names.specs.rr.domain.NameOrder.{is_wildcard, lower_name};
-ghost use Rattle.zone_check.specs.CheckedZones.{ancestor, is_data_of, is_data_type, is_of, is_wild_address, is_wild_address_of};
-ghost use Rattle.zone_check.specs.Indexes.{HasData, HasFirsts, HasWilds};
+ghost use Rattle.zone_check.specs.CheckedZones.{ancestor, is_data_of, is_data_type, is_of, is_server_of, is_wild_address, is_wild_address_of, server_of};
+ghost use Rattle.zone_check.specs.Findings.{IsRepeated};
+ghost use Rattle.zone_check.specs.Indexes.{HasData, HasEarlier, HasFirsts, HasServers, HasWilds};
+ghost use Rattle.wire_messages.specs.declared.rr.rdata.RData.{RData as RecordData};
+ghost use Rattle.wire_messages.specs.declared.rr.record.Record.{Record as RecordOf};
 
 use std::alloc::{AllocError, Global};
 use std::collections::BTreeMap;
+use wire_messages::rr::rdata::RData;
 use wire_messages::rr::record::Record;
+use wire_messages::rr::record_sameness::record_comparisons;
 use wire_messages::rr::record_type::RecordType;
 use wire_messages::rr::rr_key::RrKey;
 use wire_names::rr::domain::lower_name::LowerName;
@@ -39,6 +45,56 @@ pub(crate) fn firsts_of(
         let _ = firsts.insert(key, place)?;
     }
     Ok(firsts)
+}
+
+/// For each record the place of the last one before it that is of its name and type, if there is one.
+pub(crate) fn earlier_of(
+    alloc: Global,
+    records: &[Record],
+) -> Result<Vec<Option<usize>>, AllocError>
+    ensures { IfOk result (λ earlier. HasEarlier records.now earlier.items) }
+{
+    let mut earlier = Vec::new(alloc);
+    let mut lasts = BTreeMap::new(alloc);
+    for place in 0..records.len() {
+        let key = key_of(alloc, &records[place])?;
+        let last = lasts.insert(key, place)?;
+        earlier.push(last)?;
+    }
+    Ok(earlier)
+}
+
+/// Whether two records are the same, their TTL aside.
+fn are_same(record: &Record, other: &Record) -> bool
+    ensures { IsTrue result ↔ SameRecord «record».now other.now }
+{
+    record_comparisons();
+    record == other
+}
+
+/// Whether the records at two places are the same, their TTL aside.
+fn are_same_at(records: &[Record], one: usize, other: usize) -> bool
+    requires one { one < length records.now }
+    requires other { other < length records.now }
+    ensures { (q r : RecordOf RecordData) → slice_get records.now one ≡ Some q → slice_get records.now other ≡ Some r → (IsTrue result ↔ SameRecord q r) }
+{
+    are_same(&records[one], &records[other])
+}
+
+/// Whether a record before the one at a place is the same.
+pub(crate) fn stands_before(records: &[Record], earlier: &[Option<usize>], place: usize) -> bool
+    requires within { place < length records.now }
+    requires earlier { HasEarlier records.now earlier.now }
+    ensures { (r : RecordOf RecordData) → slice_get records.now place ≡ Some r → (IsTrue result ↔ IsRepeated records.now place r) }
+{
+    let mut at = place;
+    'earlier: while let Some(before) = earlier[at] {
+        if are_same_at(records, before, place) {
+            return true;
+        }
+        at = before;
+    }
+    false
 }
 
 /// Whether records of the type may not stand beside a CNAME (RFC 1034 section 3.6.2, RFC 2181 section 10.1, RFC 4035 section 2.5).
@@ -117,6 +173,35 @@ pub(crate) fn wilds_of(
     Ok(wilds)
 }
 
+/// The host that an NS record names.
+fn server_of(record: &Record) -> Option<&Name>
+    ensures { option_copied result ≡ server_of «record».now.rdata }
+{
+    match &record.rdata {
+        RData::NS(host) => Some(host),
+        _ => None,
+    }
+}
+
+/// The place of the first NS record that names each host.
+pub(crate) fn servers_of(
+    alloc: Global,
+    records: &[Record],
+) -> Result<BTreeMap<LowerName, usize>, AllocError>
+    ensures { IfOk result (HasServers records.now records.now) }
+{
+    let mut servers = BTreeMap::new(alloc);
+    let mut place = records.len();
+    while place > 0 {
+        place -= 1;
+        if let Some(host) = server_of(&records[place]) {
+            let name = LowerName::new(alloc, host)?;
+            let _ = servers.insert(name, place)?;
+        }
+    }
+    Ok(servers)
+}
+
 /// The record at a place, if there is one.
 pub(crate) fn record_at(records: &[Record], place: usize) -> Option<&Record>
     ensures { option_copied result ≡ slice_get records.now place }
@@ -168,6 +253,21 @@ pub(crate) fn wild_under<'z>(
     ensures { option_copied result ≡ find (is_wild_address_of name.now) records.now }
 {
     match wilds.get(name) {
+        Some(place) => record_at(records, *place),
+        None => None,
+    }
+}
+
+/// The first NS record that names a host of this name in lower case.
+pub(crate) fn server_under<'z>(
+    records: &'z [Record],
+    servers: &BTreeMap<LowerName, usize>,
+    name: &LowerName,
+) -> Option<&'z Record>
+    requires { HasServers records.now records.now servers.now }
+    ensures { option_copied result ≡ find (is_server_of name.now) records.now }
+{
+    match servers.get(name) {
         Some(place) => record_at(records, *place),
         None => None,
     }

@@ -1,12 +1,13 @@
 //! All that is found of a zone.
 
-ghost use Rattle.std.specs.Prelude.{◌≡◌, ◌↔◌, ◌++◌, ◌∷◌, [], List, IfOk, IsTrue, OnOk, length, map};
+ghost use Rattle.std.specs.Prelude.{◌≡◌, ◌↔◌, ◌++◌, ◌∷◌, [], List, IfOk, IsTrue, OnOk, Some, length, map};
+ghost use Rattle.std.specs.List.{slice_get};
 ghost use Rattle.zone_check.specs.CheckedZones.{Owns, checked_zone};
 ghost use Rattle.zone_check.specs.Findings.{AreFindings, Holds, IsFoundOf, IsFoundOfZone, Selects, at_place, of_whole};
 ghost use Rattle.zone_check.specs.declared.finding.Finding.{Finding as FindingOf};
 
 use crate::finding::{Finding, Kind};
-use crate::hosts::{has_aliased_host, has_no_address, has_no_glue};
+use crate::hosts::{has_aliased_host, has_no_address, has_no_glue, is_idle_glue};
 use crate::names::{
     covers_nothing, has_other_ttl, is_cname_beside_data, is_data_at_cut, is_data_below_cut,
     is_ds_at_apex, is_nsec3param_below_apex, is_outside, is_second, is_soa_below_apex,
@@ -43,20 +44,23 @@ fn is_of_zone(alloc: Global, zone: &Subject<'_>, kind: Kind) -> Result<bool, All
     }
 }
 
-/// Whether a finding of this kind is one of a record.
+/// Whether a finding of this kind is one of the record at a place.
 fn is_of_record(
     alloc: Global,
     zone: &Subject<'_>,
+    place: usize,
     record: &Record,
     kind: Kind,
 ) -> Result<bool, AllocError>
-    ensures { IfOk result (λ is. IsTrue is ↔ IsFoundOf kind zone.now «record».now) }
+    requires { slice_get zone.now.records place ≡ Some «record».now }
+    ensures { IfOk result (λ is. IsTrue is ↔ IsFoundOf kind zone.now place «record».now) }
 {
     match kind {
         Kind::NoSoa | Kind::NoServers => Ok(false),
         Kind::Outside => Ok(is_outside(zone, record)),
         Kind::SoaBelowApex => Ok(is_soa_below_apex(zone, record)),
         Kind::Second => is_second(alloc, zone, record),
+        Kind::Repeated => Ok(zone.is_repeated(place)),
         Kind::CnameBesideData => is_cname_beside_data(alloc, zone, record),
         Kind::BelowDname => zone.is_below_dname(alloc, &record.name),
         Kind::BelowCut => is_data_below_cut(alloc, zone, record),
@@ -64,6 +68,7 @@ fn is_of_record(
         Kind::OtherTtl => has_other_ttl(alloc, zone, record),
         Kind::NoAddress => has_no_address(alloc, zone, record),
         Kind::NoGlue => has_no_glue(alloc, zone, record),
+        Kind::IdleGlue => is_idle_glue(alloc, zone, record),
         Kind::HostIsAlias => has_aliased_host(alloc, zone, record),
         Kind::SerialNotAbove => Ok(has_low_serial(zone, record)),
         Kind::Refresh => Ok(has_odd_refresh(record)),
@@ -84,7 +89,7 @@ fn is_held(alloc: Global, zone: &Subject<'_>, finding: Finding) -> Result<bool, 
         return Ok(is_of_zone(alloc, zone, finding.kind)?);
     };
     match zone.record_at(place) {
-        Some(record) => Ok(is_of_record(alloc, zone, record, finding.kind)?),
+        Some(record) => Ok(is_of_record(alloc, zone, place, record, finding.kind)?),
         None => Ok(false),
     }
 }
@@ -107,10 +112,11 @@ fn look_for(
 }
 
 /// All kinds of findings of a record, in the order in which they are told.
-const KINDS: [Kind; 19] = [
+const KINDS: [Kind; 21] = [
     Kind::Outside,
     Kind::SoaBelowApex,
     Kind::Second,
+    Kind::Repeated,
     Kind::CnameBesideData,
     Kind::BelowDname,
     Kind::BelowCut,
@@ -118,6 +124,7 @@ const KINDS: [Kind; 19] = [
     Kind::OtherTtl,
     Kind::NoAddress,
     Kind::NoGlue,
+    Kind::IdleGlue,
     Kind::HostIsAlias,
     Kind::SerialNotAbove,
     Kind::Refresh,
@@ -184,7 +191,7 @@ fn look_at_all(alloc: Global, zone: &Subject<'_>, count: usize) -> Result<Vec<Fi
 ///
 /// `records` are the records of a zone file in its order, as `zone_text::read_zone_file` gives them; `origin` is the name of the
 /// apex, taken as fully qualified. `previous` is the serial of the zone before, if that is known. The time is by the records, for each
-/// by the labels of its name and the depth of a map of all; the memory is by the records. The one error is want of memory.
+/// by the labels of its name, the depth of a map of all, and the records of its name and type before it; the memory is by the records. The one error is want of memory.
 pub fn check(
     alloc: Global,
     origin: &Name,

@@ -1,10 +1,13 @@
 //! The zone that is checked, with its records found by name.
 
-ghost use Rattle.std.specs.Prelude.{◌≡◌, ◌↔◌, Some, IfOk, IsTrue, true};
+ghost use Rattle.std.specs.Prelude.{◌≡◌, ◌↔◌, ◌<◌, Some, IfOk, IsTrue, length, true};
 ghost use Rattle.std.specs.List.{find, slice_get};
 ghost use Rattle.std.specs.Option.{option_copied};
 ghost use Rattle.wire_names.specs.rr.domain.NameOrder.{lower_name};
-ghost use Rattle.zone_check.specs.CheckedZones.{HasWildAddress, IsApex, IsBelowApex, IsBelowCut, IsBelowDname, IsBelowWildcard, IsCut, IsDnameOwner, IsInZone, Owns, OwnsAddress, OwnsData, first_of, is_data_of, is_wild_address_of};
+ghost use Rattle.zone_check.specs.CheckedZones.{HasWildAddress, IsApex, IsBelowApex, IsBelowCut, IsBelowDname, IsBelowWildcard, IsCut, IsDnameOwner, IsInZone, IsServer, Owns, OwnsAddress, OwnsData, first_of, is_data_of, is_server_of, is_wild_address_of};
+ghost use Rattle.wire_messages.specs.declared.rr.rdata.RData.{RData as RecordData};
+ghost use Rattle.wire_messages.specs.declared.rr.record.Record.{Record as RecordOf};
+ghost use Rattle.zone_check.specs.Findings.{IsRepeated};
 
 use crate::index;
 use std::alloc::{AllocError, Global};
@@ -28,17 +31,21 @@ pub(crate) struct Subject<'z> {
     others: BTreeMap<LowerName, usize>,
     // The place of the first address of the wildcard right below each name.
     wilds: BTreeMap<LowerName, usize>,
+    // The place of the first NS record that names each host.
+    servers: BTreeMap<LowerName, usize>,
+    // For each record the place of the last one before it that is of its name and type.
+    earlier: Vec<Option<usize>>,
 }
 
 impl<'z> Model for Subject<'z> {
     ghost use Rattle.zone_check.specs.CheckedZones.{CheckedZone};
-    ghost use Rattle.zone_check.specs.Indexes.{HasData, HasFirsts, HasWilds};
+    ghost use Rattle.zone_check.specs.Indexes.{HasData, HasEarlier, HasFirsts, HasServers, HasWilds};
 
     ghost Value = { CheckedZone };
 
     ghost view = { λ s. record { origin = s.origin; records = s.records.now; previous = s.previous } };
 
-    ghost invariant = { λ s. HasFirsts s.records.now s.records.now s.firsts × HasData s.records.now s.records.now s.others × HasWilds s.records.now s.records.now s.wilds };
+    ghost invariant = { λ s. HasFirsts s.records.now s.records.now s.firsts × HasData s.records.now s.records.now s.others × HasWilds s.records.now s.records.now s.wilds × HasServers s.records.now s.records.now s.servers × HasEarlier s.records.now s.earlier.items };
 }
 
 impl<'z> Subject<'z> {
@@ -60,6 +67,8 @@ impl<'z> Subject<'z> {
             firsts: index::firsts_of(alloc, records)?,
             others: index::data_of(alloc, records)?,
             wilds: index::wilds_of(alloc, records)?,
+            servers: index::servers_of(alloc, records)?,
+            earlier: index::earlier_of(alloc, records)?,
         })
     }
 
@@ -68,6 +77,14 @@ impl<'z> Subject<'z> {
         ensures { option_copied result ≡ slice_get self.now.records place }
     {
         index::record_at(self.records, place)
+    }
+
+    /// Whether a record before the one at a place is the same.
+    pub(crate) fn is_repeated(&self, place: usize) -> bool
+        requires { place < length self.now.records }
+        ensures { (r : RecordOf RecordData) → slice_get self.now.records place ≡ Some r → (IsTrue result ↔ IsRepeated self.now.records place r) }
+    {
+        index::stands_before(self.records, &self.earlier, place)
     }
 
     /// The serial of the zone before.
@@ -201,6 +218,29 @@ impl<'z> Subject<'z> {
             }
         }
         Ok(false)
+    }
+
+    /// The first NS record that names a host of this name in lower case.
+    fn server_under(&self, name: &LowerName) -> Option<&Record>
+        ensures { option_copied result ≡ find (is_server_of name.now) self.now.records }
+    {
+        index::server_under(self.records, &self.servers, name)
+    }
+
+    /// The first NS record that names a host of this name.
+    fn server_of(&self, alloc: Global, name: &Name) -> Result<Option<&Record>, AllocError>
+        ensures { IfOk result (λ first. option_copied first ≡ find (is_server_of name.now) self.now.records) }
+    {
+        let lowered = LowerName::new(alloc, name)?;
+        Ok(self.server_under(&lowered))
+    }
+
+    /// Whether an NS record names a host of this name.
+    pub(crate) fn is_server(&self, alloc: Global, name: &Name) -> Result<bool, AllocError>
+        ensures { IfOk result (λ is. IsTrue is ↔ IsServer self.now name.now) }
+    {
+        let first = self.server_of(alloc, name)?;
+        Ok(first.is_some())
     }
 
     /// The first address of the wildcard right below a name in lower case.

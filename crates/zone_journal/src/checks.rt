@@ -1,23 +1,11 @@
 //! Whether a journal is whole.
 
-use crate::entries::{Entry, Part, behind, entry_of, zone_of};
 use crate::fault::Fault;
 use hickory_wire::LowerName;
+use journal_entries::{Part, behind, entry_of, may_stand, zone_of};
 use std::alloc::Global;
 use std::io;
 use update_journal::{Ending, generation};
-
-/// Whether an entry may stand in the journal of a zone.
-fn may_stand(entry: &Entry, zone: &Option<LowerName>) -> bool {
-    match entry {
-        Entry::Generation(_) | Entry::Said(_) | Entry::SnapshotEnd => true,
-        Entry::Update(_) => match (zone_of(entry), zone) {
-            (Some(name), Some(zone)) => *name == *zone,
-            _ => false,
-        },
-        Entry::Other => false,
-    }
-}
 
 /// The zone of the first entry that is an update.
 fn first_zone(alloc: Global, entries: &[Vec<u8>]) -> Result<Option<LowerName>, Fault> {
@@ -58,7 +46,7 @@ pub fn check_entries<R: Print + Alloc<A = Global>>(
     let mut part = Part::First;
     for bytes in entries {
         let entry = entry_of(rt.alloc(), bytes, part, generation)?;
-        if !may_stand(&entry, &zone) {
+        if !may_stand(&entry, zone.as_ref()) {
             wrong = wrong.saturating_add(1);
             print_wrong(rt, file, number, place)?;
         }

@@ -1,10 +1,10 @@
 //! What the entries of a journal are, as objects of JSON (RFC 8259), one in a line.
 
-use crate::entries::{Entry, zone_of};
 use crate::fault::Fault;
 use hickory_base::server::Request;
 use hickory_base::update_request::UpdateRequest;
 use hickory_wire::{LowerName, Record};
+use journal_entries::{Entry, zone_of};
 use std::alloc::{AllocError, Global};
 
 /// Text as a string of JSON. Names and data are printed in ASCII without control characters, so that quotes and backslashes alone stand

@@ -19,13 +19,14 @@ mod zone;
 
 use crate::checks::{check_entries, print_ending, status_of};
 use crate::compaction::compact;
-use crate::entries::{Entry, Part, behind, entry_of, print_entry};
+use crate::entries::print_entry;
 use crate::fault::{Fault, fault_of_file};
 use crate::json::print_object;
 use crate::zone::{print_zone, with_entries, zone_of_file};
 use clap::error::ErrorKind;
 use clap::{Arg, ArgAction, ArgMatches, Command, Error};
 use hickory_wire::{Name, NameError};
+use journal_entries::{Entry, Part, behind, entry_of};
 use std::alloc::{AllocError, Global};
 use std::process::ExitCode;
 use std::rt::{Env, Files};

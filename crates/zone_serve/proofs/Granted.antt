@@ -5,7 +5,7 @@ use Rattle.std.specs.List.{AllZip}
 use Rattle.tsig.specs.declared.keys.Key.{Key}
 use Rattle.served_updates.specs.declared.grants.Grant.{Grant}
 use Rattle.zone_serve.specs.Catalogs.{IsGrantOf}
-use Rattle.zone_serve.specs.declared.arguments.UpdateArgument.{UpdateArgument}
+use Rattle.serve_options.specs.declared.arguments.UpdateArgument.{UpdateArgument}
 
 pub grants_more : (keys : List Key) (arguments : List UpdateArgument) (place : ℕ) (d : UpdateArgument) (grants : List Grant) (grant : Grant) → place < length arguments
     → AllZip (IsGrantOf keys) (take place arguments) grants → IsGrantOf keys (get_or arguments place d) grant

@@ -2,7 +2,6 @@ mod Granted
 mod Loading
 mod Named
 mod Results
-mod Said
 mod ServedLines
 mod Servers
 mod Streams

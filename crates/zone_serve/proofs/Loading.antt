@@ -1,4 +1,4 @@
--- Lists that are put on a list of blocked names, and zones that are loaded, one after the other.
+-- Lists that are put on a list of blocked names, zones that are loaded, and journals that are opened, one after the other.
 use Rattle.std.proofs.Common.{◌≡◌, ◌<◌, ◌+◌, ◌++◌, ◌∷◌, [], ℕ, List, Bor, Option, Some, None, Result, Ok, Err, IfOk, IsNone, OnOk, length, length-append, get_or, take, map, refl, sym, ap, ◌∙◌, subst, append_assoc, option_map}
 use Rattle.std.proofs.lemmas.Bool.{false≢true}
 use Rattle.std.proofs.lemmas.List.{append-nil, length-map, map-append, take_more}
@@ -11,10 +11,14 @@ use Rattle.hickory_catalog.specs.declared.catalog.Catalog.{Catalog}
 use Rattle.served_zones.specs.ServedZones.{AddsLists, AreLoaded, Chain, IsEmptyList, IsLoadedAs}
 use Rattle.served_zones.specs.ServedZones as served
 use Rattle.served_zones.specs.declared.parents.Loaded.{Loaded}
+use Rattle.sqlite_disk.specs.declared.Disk.{Ghosts as DiskGhosts}
+use Rattle.served_updates.specs.Moved.{UpdatedChain}
 use Rattle.zone_serve.specs.Catalogs.{AddsFile, AddsFiles, IsListOf}
-use Rattle.zone_serve.specs.Arguments.{files_of}
-use Rattle.zone_serve.specs.declared.arguments.Settings.{Settings}
-use Rattle.zone_serve.specs.declared.arguments.ZoneArgument.{ZoneArgument}
+use Rattle.zone_serve.specs.Journals.{AreJournalled, IsJournalledBy}
+use Rattle.zone_serve.specs.Journals as journals
+use Rattle.serve_options.specs.Arguments.{files_of}
+use Rattle.serve_options.specs.declared.arguments.Settings.{Settings}
+use Rattle.serve_options.specs.declared.arguments.ZoneArgument.{ZoneArgument}
 
 joined : (texts others : List (List ℕ)) (old between new : Blocklist) → AddsLists texts old between → AddsLists others between new → AddsLists (texts ++ others) old new
 joined texts [] old between new one served.none = subst (λ (l : List (List ℕ)). AddsLists l old between) (sym (append-nil texts)) one
@@ -66,3 +70,10 @@ zones_more list arguments place d those loaded old between new inside so_far one
 pub zones_alone : {S H : Type 0} (first middle last : Catalog S H) → middle ≡ record first { zones = middle.zones } → last ≡ record middle { zones = last.zones }
     → last ≡ record first { zones = last.zones }
 zones_alone {S} {H} first middle last so_far one = one ∙ ap (λ (m : Catalog S H). record m { zones = last.zones }) so_far
+
+-- journals that are opened, and one more
+pub journals_more : {D : Type 0} (disks : DiskGhosts D) (arguments : List ZoneArgument) (place : ℕ) (d : ZoneArgument) (old between new : List (DomainName × UpdatedChain D))
+    → place < length arguments → AreJournalled disks (take place arguments) old between → IsJournalledBy disks (get_or arguments place d) between new
+    → AreJournalled disks (take (place + 1) arguments) old new
+journals_more disks arguments place d old between new inside so_far one =
+    subst (λ (l : List ZoneArgument). AreJournalled disks l old new) (sym (take_more arguments place d inside)) (journals.more (get_or arguments place d) so_far one)

@@ -14,9 +14,9 @@ use Rattle.tsig.specs.Keys.{key_of}
 use Rattle.tsig.specs.KeyTexts.{IsUsable}
 use Rattle.tsig.specs.declared.keys.Key.{Key}
 use Rattle.served_keys.specs.ServedKeys.{all_networks}
-use Rattle.zone_serve.specs.Arguments.{files_of}
-use Rattle.zone_serve.specs.declared.arguments.Settings.{Settings}
-use Rattle.zone_serve.specs.declared.arguments.UpdateArgument.{UpdateArgument}
+use Rattle.serve_options.specs.Arguments.{files_of}
+use Rattle.serve_options.specs.declared.arguments.Settings.{Settings}
+use Rattle.serve_options.specs.declared.arguments.UpdateArgument.{UpdateArgument}
 
 -- So many lists are put on a list of blocked names, one after the other.
 abbrev pub AddsFiles : ℕ → Blocklist → Blocklist → Type 0
@@ -57,7 +57,7 @@ is_loaded loaded apex = list_any (λ zone. name_eq zone.apex apex) loaded
 
 -- The zones that the arguments ask for: of those of their files each that has a rule takes updates by the keys and its rules, and all others stay as they are. Each
 -- rule is of one of them.
-pub record AreZonesOf (settings : Settings) (keys : List Key) (old new : List (DomainName × UpdatedChain)) : Type 0 where
+pub record AreZonesOf {D : Type 0} (settings : Settings) (keys : List Key) (old new : List (DomainName × UpdatedChain D)) : Type 0 where
   pub loaded : List Loaded
   pub fixed : List (DomainName × Chain)
   pub are_fixed : AreFixedZonesOf settings loaded [] fixed

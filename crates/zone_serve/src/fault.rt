@@ -1,6 +1,7 @@
 //! Why the program ends before its input does.
 
 use crate::frames::StreamFault;
+use crate::journals::JournalFileFault;
 use crate::keys::KeyFileFault;
 use crate::lists::ListFault;
 use crate::zones::ZoneFileFault;
@@ -49,6 +50,26 @@ pub enum Fault {
     UpdateZone {
         /// Which argument it is; the first is 1.
         place: usize,
+    },
+    /// What stands behind `--journal`, before the `=`, is the name of no zone that takes updates.
+    #[error("argument {place}: there is no --allow-update of this zone")]
+    JournalZone {
+        /// Which argument it is; the first is 1.
+        place: usize,
+    },
+    /// Two journals are given for one zone.
+    #[error("argument {place}: the zone has a journal already")]
+    JournalTwice {
+        /// Which argument it is; the first is 1.
+        place: usize,
+    },
+    /// A journal is not taken.
+    #[error("{fault}")]
+    Journal {
+        /// Which journal it is.
+        place: usize,
+        /// What is wrong with it.
+        fault: JournalFileFault,
     },
     /// A zone that takes updates has a zone right below it.
     #[error("the zone takes updates, so that no zone right below it can be served beside it")]
@@ -129,11 +150,12 @@ impl Fault {
                 2,
             Fault::TransferKey { .. } | Fault::Update { .. } => 2,
             Fault::UpdateZone { .. } | Fault::ZoneBelow { .. } => 2,
+            Fault::JournalZone { .. } | Fault::JournalTwice { .. } => 2,
             Fault::Memory | Fault::Stream(StreamFault::Memory) => 3,
             Fault::Clock | Fault::Read | Fault::Write => 4,
             Fault::Stream(StreamFault::Read) => 4,
             Fault::ZoneTwice { .. } | Fault::Zone { .. } | Fault::List { .. } => 5,
-            Fault::Keys { .. } => 5,
+            Fault::Keys { .. } | Fault::Journal { .. } => 5,
         }
     }
 

@@ -26,7 +26,7 @@ pub enum FileFault {
 }
 
 /// The fault that the system tells.
-fn fault_of(e: &io::Error) -> FileFault {
+pub fn fault_of(e: &io::Error) -> FileFault {
     match e.kind() {
         io::ErrorKind::NotFound | io::ErrorKind::NotADirectory => FileFault::Absent,
         io::ErrorKind::PermissionDenied => FileFault::Forbidden,

@@ -14,13 +14,15 @@ ghost use Rattle.access_control.specs.Access.{SameNetworks};
 ghost use Rattle.hickory_base.specs.zone_store.ZoneAnswers.{MemoryZone};
 ghost use Rattle.served_zones.specs.ServedZones.{AreLoaded, IsLoadedAs, IsPlaced, IsServedZone};
 ghost use Rattle.served_keys.specs.ServedKeys.{IsKeyName};
-ghost use Rattle.zone_serve.specs.Arguments.{transfer_keys_of};
+ghost use Rattle.serve_options.specs.Arguments.{transfer_keys_of};
 ghost use Rattle.zone_serve.specs.Catalogs.{AreFixedZonesOf, AreKeysOf, AreZonesOf, denied_transfers};
 
-mod arguments;
+mod damage;
 mod fault;
 mod files;
 mod frames;
+mod included;
+mod journals;
 mod keys;
 mod lines;
 mod lists;
@@ -30,26 +32,28 @@ mod serving;
 mod updates;
 mod zones;
 
-use crate::arguments::{ArgumentFault, Mode, Settings, ZoneArgument};
 use crate::fault::Fault;
-use crate::files::bytes_of;
+use crate::included::zone_of;
+use crate::journals::{JournalWatch, SystemFiles, open_journals};
 use crate::keys::{keys_of, transfer_keys_of};
 use crate::lists::blocklist;
 use crate::server::{apex_of, identifier_of, rules_of};
-use crate::serving::{serve_datagram, serve_lines, serve_stream};
+use crate::serving::{Watch, serve_datagram, serve_lines, serve_stream};
 use crate::updates::{grants_of, see_zones, take_updates};
 use crate::zones::ZoneFileFault;
 use hickory_server::VERSION;
 use hickory_server::proto::Name;
 use hickory_server::server::{NoKeys, Server};
 use hickory_server::store::blocklist::BlocklistZoneHandler;
-use hickory_server::zone_handler::Catalog;
+use hickory_server::zone_handler::{Catalog, ZoneHandler};
+use serve_options::arguments::{ArgumentFault, Mode, Settings, ZoneArgument};
 use served_updates::moving::{Handler, Zones};
 use served_zones::chains::{chain, put_chain};
 use served_zones::handler::{Handler as FixedHandler, Zones as FixedZones};
 use served_zones::parents::{Loaded, alone, join_parents};
-use served_zones::zones::zone_of_file;
 use signed_server::{LeftToServer, SignedServer};
+use sqlite_disk::Disk;
+use sqlite_std_file::File;
 use std::alloc::{AllocError, Global};
 use std::env::VarError;
 use std::net::{IpAddr, Ipv4Addr};
@@ -95,15 +99,14 @@ fn peer_address<R: Env + Alloc<A = Global>>(rt: &R) -> Result<IpAddr, Fault> {
 }
 
 /// The zone of a file.
-fn load_zone<R: Files + Alloc<A = Global>>(
+fn load_zone<R: Files + Eprint + Alloc<A = Global>>(
     rt: &R,
     apex: &Name,
     file: &str,
 ) -> Result<FixedHandler, ZoneFileFault>
     ensures { IfOk result (λ handler. (zone : MemoryZone) × IsPlaced zone None handler × IsServedZone apex.now zone) }
 {
-    let bytes = bytes_of(rt, file)?;
-    let zone = zone_of_file(rt.alloc(), apex, &bytes)?;
+    let zone = zone_of(rt, apex, file)?;
     Ok(alone(rt.alloc(), zone)?)
 }
 
@@ -120,7 +123,7 @@ fn shared(
 }
 
 /// Puts the zone of an argument into the catalog, the one at this place among the zones, with the list of blocked names behind it.
-fn load<R: Files + Alloc<A = Global>>(
+fn load<R: Files + Eprint + Alloc<A = Global>>(
     rt: &R,
     catalog: &mut FixedZones,
     argument: ZoneArgument<'_>,
@@ -146,7 +149,7 @@ fn load<R: Files + Alloc<A = Global>>(
 }
 
 /// Puts the zones of the arguments into the catalog, in their order, with the list of blocked names behind them.
-fn load_zones<R: Files + Alloc<A = Global>>(
+fn load_zones<R: Files + Eprint + Alloc<A = Global>>(
     rt: &R,
     catalog: &mut FixedZones,
     arguments: &[ZoneArgument<'_>],
@@ -177,12 +180,12 @@ fn load_fixed<R: Files + Eprint + Alloc<A = Global>>(
 }
 
 /// Puts the zones that the arguments ask for into a catalog, by way of one without updates.
-fn put_zones_by<R: Files + Eprint + Alloc<A = Global>>(
+fn put_zones_by<R: Files + Eprint + Alloc<A = Global>, D: Disk + Drop>(
     rt: &R,
     settings: &Settings<'_>,
     keys: &Keys,
     fixed: &mut FixedZones,
-    catalog: &mut Zones,
+    catalog: &mut Zones<D>,
 ) -> Result<(), Fault>
     requires { fixed.old.zones ≡ [] }
     ensures zones { OnOk result (AreZonesOf settings.now keys.now catalog.old.zones catalog.new.zones) }
@@ -195,11 +198,11 @@ fn put_zones_by<R: Files + Eprint + Alloc<A = Global>>(
 }
 
 /// Puts the zones that the arguments ask for into a catalog.
-fn put_zones<R: Files + Eprint + Alloc<A = Global>>(
+fn put_zones<R: Files + Eprint + Alloc<A = Global>, D: Disk + Drop>(
     rt: &R,
     settings: &Settings<'_>,
     keys: &Keys,
-    catalog: &mut Zones,
+    catalog: &mut Zones<D>,
 ) -> Result<(), Fault>
     ensures zones { OnOk result (AreZonesOf settings.now keys.now catalog.old.zones catalog.new.zones) }
     ensures others { catalog.new ≡ record catalog.old { zones = catalog.new.zones } }
@@ -212,11 +215,11 @@ fn put_zones<R: Files + Eprint + Alloc<A = Global>>(
 
 /// The catalog that the arguments ask for: each zone beside the one above it, with the list of blocked names behind it, and with updates by these keys where the
 /// arguments have rules for it.
-fn catalog<R: Files + Eprint + Alloc<A = Global>>(
+fn catalog<R: Files + Eprint + Alloc<A = Global>, D: Disk + Drop>(
     rt: &R,
     settings: &Settings<'_>,
     keys: &Keys,
-) -> Result<Zones, Fault>
+) -> Result<Zones<D>, Fault>
     ensures zones { IfOk result (λ catalog. AreZonesOf settings.now keys.now [] catalog.zones) }
     ensures identifier { IfOk result (λ catalog. catalog.nsid ≡ option_map (λ it. it.0.now) settings.now.identifier) }
 {
@@ -230,10 +233,10 @@ fn catalog<R: Files + Eprint + Alloc<A = Global>>(
 }
 
 /// The server that the arguments ask for.
-fn server_for<R: Files + Eprint + Alloc<A = Global>>(
+fn server_for<R: Files + Eprint + Alloc<A = Global>, D: Disk + Drop>(
     rt: &R,
     settings: &Settings<'_>,
-) -> Result<SignedServer<LeftToServer, Handler>, Fault>
+) -> Result<SignedServer<LeftToServer, Handler<D>>, Fault>
     ensures denied { IfOk result (λ made. SameNetworks settings.now.denied.items made.server.rules.access.deny) }
     ensures allowed { IfOk result (λ made. SameNetworks settings.now.allowed.items made.server.rules.access.allow) }
     ensures transfers_denied { IfOk result (λ made. SameNetworks (denied_transfers (transfer_keys_of settings.now) settings.now.transfers_denied.items) made.server.rules.transfers.deny) }
@@ -255,11 +258,16 @@ fn server_for<R: Files + Eprint + Alloc<A = Global>>(
 }
 
 /// Serves the standard input by a server.
-fn serve_input<R: Clock + Input + Print + Alloc<A = Global>>(
+fn serve_input<
+    R: Clock + Input + Print + Alloc<A = Global>,
+    H: ZoneHandler,
+    O: Watch<LeftToServer, H>,
+>(
     rt: &R,
     mode: Mode,
     address: IpAddr,
-    server: &mut SignedServer<LeftToServer, Handler>,
+    server: &mut SignedServer<LeftToServer, H>,
+    watch: &mut O,
 ) -> Result<(), Fault> {
     let alloc = rt.alloc();
     let mut reader = rt.reader();
@@ -267,21 +275,30 @@ fn serve_input<R: Clock + Input + Print + Alloc<A = Global>>(
     match mode {
         Mode::Udp => serve_datagram(alloc, rt, server, address, &mut reader, &mut writer),
         Mode::Tcp => serve_stream(alloc, rt, server, address, &mut reader, &mut writer),
-        Mode::Lines => match serve_lines(alloc, rt, server, &mut reader, &mut writer)? {
+        Mode::Lines => match serve_lines(alloc, rt, server, &mut reader, &mut writer, watch)? {
             Some(number) => Err(Fault::Line { number }),
             None => Ok(()),
         },
     }
 }
 
-/// Serves the standard input as the arguments say.
-fn serve<R: Files + Env + Clock + Input + Print + Eprint + Alloc<A = Global>>(
-    rt: &R,
+/// Opens the journals that the arguments ask for, and serves the standard input by the server.
+fn serve_with_journals(
+    rt: &HostRuntime,
     settings: &Settings<'_>,
     address: IpAddr,
+    server: &mut SignedServer<LeftToServer, Handler<File>>,
 ) -> Result<(), Fault> {
+    let files = SystemFiles { rt };
+    let journals = open_journals(rt, &files, &settings.journals, &mut server.server.catalog)?;
+    let mut watch = JournalWatch { rt, journals };
+    serve_input(rt, settings.mode, address, server, &mut watch)
+}
+
+/// Serves the standard input as the arguments say.
+fn serve(rt: &HostRuntime, settings: &Settings<'_>, address: IpAddr) -> Result<(), Fault> {
     let mut server = server_for(rt, settings)?;
-    let ended = serve_input(rt, settings.mode, address, &mut server);
+    let ended = serve_with_journals(rt, settings, address, &mut server);
     drop(server);
     ended
 }
@@ -294,6 +311,7 @@ fn file_of<'a>(settings: &Settings<'a>, fault: Fault) -> Option<&'a str> {
         }
         Fault::List { place, .. } => settings.blocklists.get(place).copied(),
         Fault::Keys { .. } => settings.keys,
+        Fault::Journal { place, .. } => settings.journals.get(place).map(|it| it.file),
         _ => None,
     }
 }
@@ -317,10 +335,7 @@ fn tell_of_peer<R: Eprint>(rt: &R, address: IpAddr, fault: Fault) -> u8 {
 }
 
 /// Runs the program with these settings, and gives its status.
-fn run_settings<R: Files + Env + Clock + Input + Print + Eprint + Alloc<A = Global>>(
-    rt: &R,
-    settings: &Settings<'_>,
-) -> u8 {
+fn run_settings(rt: &HostRuntime, settings: &Settings<'_>) -> u8 {
     let address = match peer_address(rt) {
         Ok(address) => address,
         Err(fault) => return tell(rt, fault),
@@ -358,6 +373,7 @@ zone_serve [--zone NAME=FILE].. [OPTION].. udp|tcp|lines
   --allow-transfer-key NAME  whose good signature has zones transferred from anywhere
   --allow-update ZONE=RULE   who may update what in a zone, by a rule
                              'KEY [zone|subdomain NAME|name NAME|self] [TYPE..]'
+  --journal NAME=FILE        where the updates of a zone are kept, in the mode lines
   --nsid TEXT                what identifies this server
   --max-udp N                bytes of a reply over UDP at most, 1232
   udp|tcp|lines              one datagram, a stream, or lines 'udp|tcp ADDRESS HEX'
@@ -373,10 +389,7 @@ fn printed<R: Eprint>(rt: &R, ended: io::Result<()>) -> u8 {
 }
 
 /// Runs the program with these options, and gives its status.
-fn read_settings<R: Files + Env + Clock + Input + Print + Eprint + Alloc<A = Global>>(
-    rt: &R,
-    arguments: &[String],
-) -> u8 {
+fn read_settings(rt: &HostRuntime, arguments: &[String]) -> u8 {
     match Settings::read(rt.alloc(), arguments) {
         Ok(settings) => run_settings(rt, &settings),
         Err(fault) => tell_of_arguments(rt, fault),
@@ -384,10 +397,7 @@ fn read_settings<R: Files + Env + Clock + Input + Print + Eprint + Alloc<A = Glo
 }
 
 /// Runs the program with these arguments, and gives its status.
-fn run_arguments<R: Files + Env + Clock + Input + Print + Eprint + Alloc<A = Global>>(
-    rt: &R,
-    arguments: &[String],
-) -> u8 {
+fn run_arguments(rt: &HostRuntime, arguments: &[String]) -> u8 {
     let [word] = arguments else {
         return read_settings(rt, arguments);
     };
@@ -399,7 +409,7 @@ fn run_arguments<R: Files + Env + Clock + Input + Print + Eprint + Alloc<A = Glo
 }
 
 /// Runs the program, and gives its status.
-fn run<R: Files + Env + Clock + Input + Print + Eprint + Alloc<A = Global>>(rt: &R) -> u8 {
+fn run(rt: &HostRuntime) -> u8 {
     match given_words(rt) {
         Ok(words) => run_arguments(rt, &words),
         Err(fault) => tell(rt, fault),

@@ -3,14 +3,14 @@
 ghost use Rattle.std.specs.Prelude.{◌≡◌, IfOk, MatchOption, option_map};
 ghost use Rattle.access_control.specs.Access.{SameNetworks};
 ghost use Rattle.served_zones.specs.ServedZones.{IsApexText};
-ghost use Rattle.zone_serve.specs.Arguments.{transfer_keys_of};
+ghost use Rattle.serve_options.specs.Arguments.{transfer_keys_of};
 ghost use Rattle.zone_serve.specs.Catalogs.{denied_transfers};
 
-use crate::arguments::Settings;
 use crate::fault::Fault;
 use hickory_server::access::IpNet;
 use hickory_server::proto::{NSIDPayload, Name, NameError};
 use hickory_server::server::Rules;
+use serve_options::arguments::Settings;
 use served_keys::networks::with_all;
 use served_zones::chains::apex;
 use served_zones::identifier::{IdentifierFault, identifier};

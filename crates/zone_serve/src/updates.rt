@@ -6,13 +6,14 @@ ghost use Rattle.wire_names.specs.rr.domain.NameOrder.{name_eq};
 ghost use Rattle.served_updates.specs.Moved.{AreMoved};
 ghost use Rattle.zone_serve.specs.Catalogs.{IsGrantOf, is_loaded};
 
-use crate::arguments::UpdateArgument;
 use crate::fault::Fault;
 use hickory_server::proto::Name;
+use serve_options::arguments::UpdateArgument;
 use served_updates::grants::{Grant, GrantFault, zone_grant};
 use served_updates::moving::{MoveFault, Zones, move_zones};
 use served_zones::handler::Zones as FixedZones;
 use served_zones::parents::Loaded;
+use sqlite_disk::Disk;
 use std::alloc::Global;
 use tsig::Keys;
 
@@ -93,13 +94,13 @@ pub fn see_zones(
 }
 
 /// Moves the zones that were loaded into a catalog where those that have rules take updates by these keys.
-pub fn take_updates(
+pub fn take_updates<D: Disk + Drop>(
     alloc: Global,
     keys: &Keys,
     grants: &[Grant],
     loaded: &[Loaded],
     fixed: &mut FixedZones,
-    catalog: &mut Zones,
+    catalog: &mut Zones<D>,
 ) -> Result<(), Fault>
     ensures moved { OnOk result (AreMoved keys.now grants.now loaded.now fixed.old.zones fixed.new.zones catalog.old.zones catalog.new.zones) }
     ensures others { catalog.new ≡ record catalog.old { zones = catalog.new.zones } }

@@ -2,19 +2,20 @@
 use Rattle.std.proofs.Common.{◌≡◌, ◌≤◌, ◌+◌, ◌-◌, ◌∙◌, ℕ, List, [], ◌∷◌, ◌++◌, None, Some, arith, refl, sym, ap, subst, append_assoc, drop, length, length-append, length-drop, take}
 use Rattle.std.proofs.Math.Seq.{take-add}
 use Rattle.std.proofs.lemmas.List.{append-nil, take_all, take_at}
+use Rattle.std.specs.Net.Socket.{socket_ip}
 use Rattle.std.specs.declared.net.SocketAddr.{SocketAddr}
 use Rattle.wire_messages.specs.declared.protocol.Protocol.TheVariants.{Tcp}
 use Rattle.wire_names.specs.rr.domain.DomainName.{DomainName}
-use Rattle.hickory_catalog.specs.Server.{Server, server_of}
-use Rattle.hickory_server.specs.ServedBy.{BytesServed}
 use Rattle.hickory_base.specs.declared.zone_store.handler.ZoneHandler.{Ghosts}
 use Rattle.hickory_server.specs.declared.server.answer.Answer.TheVariants.{Replies}
 use Rattle.hickory_catalog.specs.Signing.{Signer}
 use Rattle.hickory_catalog.specs.declared.catalog.Catalog.{Catalog}
-use Rattle.hickory_server.specs.declared.server.rules.Rules.{Rules}
+use Rattle.signed_server.specs.declared.service.SignedServer.{SignedServer}
 use Rattle.zone_service.specs.Frames.{ArePut, BeginsWith, IsFrame}
-use Rattle.zone_service.specs.Serving.{Exchange, IsAnsweredStream, IsRefused, next, none}
+use Rattle.zone_service.specs.Logged.{AreLogged}
+use Rattle.zone_service.specs.Serving.{BecomesOf, Exchange, IsAnsweredStream, IsRefused, KeyedServer, Stays, keyed_of, next, none, over}
 use Rattle.zone_service.specs.declared.answering.Refusal.{Refusal}
+use Rattle.query_lines.specs.declared.log.QueryLog.{QueryLog}
 use Rattle.zone_service.proofs.Written.{frames_append, frames_more}
 
 -- A message stands behind those that were taken.
@@ -33,20 +34,23 @@ pub within_more : (bytes : List ℕ) (consumed : ℕ) (message : List ℕ) → c
 within_more bytes consumed message inside (frame, rest, is, front) =
     omega (arith, ap length is.bytes_are, ap length front, length-append {A = ℕ}, length-drop {A = ℕ})
 
-module _ {H : Type 0} (rules : Rules) (server : Server H) (source : SocketAddr) (now : ℕ) where
+module _ {H : Type 0} (keyed : KeyedServer H) (source : SocketAddr) (now : ℕ) where
   -- One more message is answered.
-  pub exchange_more : (zones between after : List (DomainName × List H)) (messages replies : List (List ℕ)) (message : List ℕ) (sent : List (List ℕ)) → Exchange rules server source now zones messages replies between
-      → BytesServed rules (record server { zones = between }) message source Tcp now (Replies sent) after → Exchange rules server source now zones (messages ++ message ∷ []) (replies ++ sent) after
-  exchange_more zones between after _ _ message sent none served = next served none (sym (append-nil sent))
-  exchange_more zones between after _ replies message sent (next {between = first} {messages = ms} {sent = s} {others = o} before rest is) served =
-      next before (exchange_more first between after ms o message sent rest served) (ap (λ (xs : List (List ℕ)). xs ++ sent) is ∙ append_assoc s o sent)
+  pub exchange_more : (zones between after : List (DomainName × List H)) (log middle last : QueryLog) (messages replies : List (List ℕ)) (message : List ℕ) (sent : List (List ℕ))
+      → Exchange keyed source now zones log messages replies between middle
+      → BecomesOf (over keyed between) message source Tcp now (Replies sent) after → AreLogged middle now (socket_ip source) Tcp message sent last
+      → Exchange keyed source now zones log (messages ++ message ∷ []) (replies ++ sent) after last
+  exchange_more zones between after log middle last _ _ message sent none served logged = next served logged none (sym (append-nil sent))
+  exchange_more zones between after log middle last _ replies message sent (next {between = first} {middle = then} {messages = ms} {sent = s} {others = o} before told rest is) served logged =
+      next before told (exchange_more first between after then middle last ms o message sent rest served logged) (ap (λ (xs : List (List ℕ)). xs ++ sent) is ∙ append_assoc s o sent)
 
-  module _ (bytes : List ℕ) (consumed written : ℕ) (out : List ℕ) (zones after : List (DomainName × List H)) (message : List ℕ) where
-    pub answered_more : (sent : List (List ℕ)) (new : List ℕ) (end : ℕ) (waiting : List (List ℕ))
-        → IsAnsweredStream rules server bytes source now (record { consumed = consumed; written = written; refusal = None }) out [] zones
-        → BeginsWith (drop consumed bytes) message → BytesServed rules (record server { zones = zones }) message source Tcp now (Replies sent) after → ArePut sent out written new end waiting
-        → IsAnsweredStream rules server bytes source now (record { consumed = consumed + (2 + length message); written = end; refusal = None }) new waiting after
-    answered_more sent new end waiting so_far begins served put =
+  module _ (bytes : List ℕ) (consumed written : ℕ) (out : List ℕ) (zones after : List (DomainName × List H)) (first_log log : QueryLog) where
+    pub answered_more : (last_log : QueryLog) (message : List ℕ) (sent : List (List ℕ)) (new : List ℕ) (end : ℕ) (waiting : List (List ℕ))
+        → IsAnsweredStream keyed bytes source now (record { consumed = consumed; written = written; refusal = None }) out [] zones first_log log
+        → BeginsWith (drop consumed bytes) message → BecomesOf (over keyed zones) message source Tcp now (Replies sent) after
+        → AreLogged log now (socket_ip source) Tcp message sent last_log → ArePut sent out written new end waiting
+        → IsAnsweredStream keyed bytes source now (record { consumed = consumed + (2 + length message); written = end; refusal = None }) new waiting after first_log last_log
+    answered_more last_log message sent new end waiting so_far begins served logged put =
         let (frame, is, front) = front_more bytes consumed message begins in
         let (nobody, same) = so_far.last in
         let all : so_far.messages ++ so_far.refused ≡ so_far.messages = ap (λ (xs : List (List ℕ)). so_far.messages ++ xs) nobody ∙ append-nil so_far.messages in
@@ -56,8 +60,8 @@ module _ {H : Type 0} (rules : Rules) (server : Server H) (source : SocketAddr) 
           are_messages = rw (append-nil (so_far.messages ++ message ∷ []), front) (frames_more _ so_far.messages frame message (rw all at so_far.are_messages) is);
           replies = so_far.replies ++ sent;
           between = after;
-          exchange = exchange_more server.zones so_far.between after so_far.messages so_far.replies message sent so_far.exchange
-              (subst (λ (z : List (DomainName × List H)). BytesServed rules (record server { zones = z }) message source Tcp now (Replies sent) after) same served);
+          exchange = exchange_more keyed.server.zones so_far.between after first_log log last_log so_far.messages so_far.replies message sent so_far.exchange
+              (subst (λ (z : List (DomainName × List H)). BecomesOf (over keyed z) message source Tcp now (Replies sent) after) same served) logged;
           last = (refl, refl);
           written = so_far.written ++ put.written;
           are_written = rw put.front (frames_append _ _ so_far.written put.written so_far.are_written put.are_frames);
@@ -65,11 +69,11 @@ module _ {H : Type 0} (rules : Rules) (server : Server H) (source : SocketAddr) 
               ∙ sym (append_assoc so_far.written put.written waiting);
         }
 
-    pub refused_last : (refusal : Refusal)
-        → IsAnsweredStream rules server bytes source now (record { consumed = consumed; written = written; refusal = None }) out [] zones
-        → BeginsWith (drop consumed bytes) message → IsRefused rules (record server { zones = zones }) message source Tcp now refusal after
-        → IsAnsweredStream rules server bytes source now (record { consumed = consumed + (2 + length message); written = written; refusal = Some refusal }) out [] after
-    refused_last refusal so_far begins refused =
+    pub refused_last : (message : List ℕ) (refusal : Refusal)
+        → IsAnsweredStream keyed bytes source now (record { consumed = consumed; written = written; refusal = None }) out [] zones first_log log
+        → BeginsWith (drop consumed bytes) message → IsRefused (over keyed zones) message source Tcp now refusal after
+        → IsAnsweredStream keyed bytes source now (record { consumed = consumed + (2 + length message); written = written; refusal = Some refusal }) out [] after first_log log
+    refused_last message refusal so_far begins refused =
         let (frame, is, front) = front_more bytes consumed message begins in
         let (nobody, same) = so_far.last in
         let all : so_far.messages ++ so_far.refused ≡ so_far.messages = ap (λ (xs : List (List ℕ)). so_far.messages ++ xs) nobody ∙ append-nil so_far.messages in
@@ -86,10 +90,23 @@ module _ {H : Type 0} (rules : Rules) (server : Server H) (source : SocketAddr) 
           all = so_far.all;
         }
 
-module _ {S H : Type 0} (handler : Ghosts H) (signature_for : S → Signer) (first middle : Catalog S H) (same : middle ≡ record first { zones = middle.zones }) where
-  -- what becomes of a message in the middle becomes of it at the first with the zones of the middle
-  pub at_zones : (P : Server H → Type 0) → P (server_of handler signature_for middle) → P (record (server_of handler signature_for first) { zones = middle.zones })
-  at_zones P holds = subst (λ (m : Catalog S H). P (server_of handler signature_for m)) same holds
+module _ {S H : Type 0} (first middle last : SignedServer S H) where
+  pub stays_on : Stays first middle → Stays middle last → Stays first last
+  stays_on so_far step = record {
+    keys = step.keys ∙ so_far.keys;
+    transfer_keys = step.transfer_keys ∙ so_far.transfer_keys;
+    rules = step.rules ∙ so_far.rules;
+    others = step.others ∙ ap (λ (m : Catalog S H). record m { zones = last.server.catalog.zones }) so_far.others;
+  }
 
-  pub others_stay : (last : Catalog S H) → last ≡ record middle { zones = last.zones } → last ≡ record first { zones = last.zones }
-  others_stay last also = also ∙ ap (λ (m : Catalog S H). record m { zones = last.zones }) same
+pub stays_so : {S H : Type 0} (server : SignedServer S H) → Stays server server
+stays_so server = record { keys = refl; transfer_keys = refl; rules = refl; others = refl }
+
+module _ {S H : Type 0} (handler : Ghosts H) (signature_for : S → Signer) (first middle : SignedServer S H) (stays : Stays first middle) where
+  -- A server of which this stayed is the same over its own zones.
+  pub same_keyed : keyed_of handler signature_for middle ≡ over (keyed_of handler signature_for first) middle.server.catalog.zones
+  same_keyed = rw (stays.keys, stays.transfer_keys, stays.rules, stays.others) refl
+
+  -- what becomes of a message in the middle becomes of it at the first with the zones of the middle
+  pub at_zones : (P : KeyedServer H → Type 0) → P (keyed_of handler signature_for middle) → P (over (keyed_of handler signature_for first) middle.server.catalog.zones)
+  at_zones P holds = subst P same_keyed holds

@@ -3,4 +3,6 @@ pub mod Exports
 pub mod Frames
 pub mod Limited
 pub mod Lists
+pub mod Logged
 pub mod Serving
+pub mod Updates

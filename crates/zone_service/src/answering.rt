@@ -1,16 +1,17 @@
 //! What becomes of messages and of streams: replies behind their lengths, and those that wait for room.
 
 ghost use Rattle.std.specs.Prelude.{◌≡◌, ◌<◌, ◌≤◌, ◌⊎◌, [], ℕ, List, IfErr, IfOk, IfSome, IsNone, length};
-ghost use Rattle.hickory_catalog.specs.Server.{server_of};
-ghost use Rattle.hickory_server.specs.ServedBy.{BytesServed};
 ghost use Rattle.hickory_server.specs.declared.server.answer.Answer.TheVariants.{Replies};
 ghost use Rattle.zone_service.specs.Frames.{ArePut, BeginsWith, IsCutShort};
 
 use crate::frames::{MOST_FRAME, put_frames, whole_message};
+use crate::logging::log_replies;
 use hickory_server::proto::{Items, Octets, Protocol};
+use hickory_server::server::Answer;
 use hickory_server::server::serve::ServeError;
-use hickory_server::server::{Answer, Server};
 use hickory_server::zone_handler::{ReplySigner, ZoneHandler};
+use query_lines::QueryLog;
+use signed_server::SignedServer;
 use std::alloc::Global;
 use std::net::SocketAddr;
 
@@ -40,26 +41,31 @@ pub struct StreamAnswer {
     pub refusal: Option<Refusal>,
 }
 
-/// A server, and the replies to its last message that wait for room.
+/// A server, the replies to its last message that wait for room, and a log of its queries.
 #[derive(Drop)]
 pub struct Answering<S: ReplySigner, H: ZoneHandler> {
-    pub(crate) server: Server<S, H>,
+    pub(crate) server: SignedServer<S, H>,
     pending: Items<Octets>,
     taken: usize,
+    pub(crate) log: QueryLog,
 }
 
 impl<S: ReplySigner, H: ZoneHandler> Answering<S, H> {
-    ghost use Rattle.zone_service.specs.Serving.{IsAnsweredStream, IsAtEnd, IsRefused, IsStreamStep, waiting_in};
+    ghost use Rattle.std.specs.Net.Socket.{socket_ip};
+    ghost use Rattle.zone_service.specs.Logged.{AreLogged};
+    ghost use Rattle.zone_service.specs.Serving.{BecomesOf, IsAnsweredStream, IsAtEnd, IsRefused, IsStreamStep, Stays, keyed_of, waiting_in};
 
     /// A server, with no reply that waits.
-    pub(crate) fn new(alloc: Global, server: Server<S, H>) -> Answering<S, H>
+    pub(crate) fn new(alloc: Global, server: SignedServer<S, H>) -> Answering<S, H>
         ensures server { result.server ≡ server }
+        ensures log { result.log.every ≡ 0 }
         ensures waiting { waiting_in result ≡ [] }
     {
         Answering {
             server,
             pending: Items::new(alloc),
             taken: 0,
+            log: QueryLog::new(alloc),
         }
     }
 
@@ -72,15 +78,17 @@ impl<S: ReplySigner, H: ZoneHandler> Answering<S, H> {
         protocol: Protocol,
         now: u64,
     ) -> Result<(), Refusal>
-        ensures rules { self.new.server.rules ≡ self.old.server.rules }
-        ensures others { self.new.server.catalog ≡ record self.old.server.catalog { zones = self.new.server.catalog.zones } }
-        ensures ok { IfOk result (λ _. BytesServed self.old.server.rules (server_of H.ZoneHandler S.signature_for self.old.server.catalog) bytes.now source protocol now (Replies self.new.pending) self.new.server.catalog.zones) }
+        ensures stays { Stays self.old.server self.new.server }
+        ensures ok { IfOk result (λ _. BecomesOf (keyed_of H.ZoneHandler S.signature_for self.old.server) bytes.now source protocol now (Replies self.new.pending) self.new.server.server.catalog.zones) }
         ensures start { IfOk result (λ _. self.new.taken ≡ 0) }
-        ensures err { IfErr result (λ refusal. IsRefused self.old.server.rules (server_of H.ZoneHandler S.signature_for self.old.server.catalog) bytes.now source protocol now refusal self.new.server.catalog.zones) }
-        ensures kept { IfErr result (λ _. waiting_in self.new ≡ waiting_in self.old) }
+        ensures logged { IfOk result (λ _. AreLogged self.old.log now (socket_ip source) protocol bytes.now self.new.pending self.new.log) }
+        ensures err { IfErr result (λ refusal. IsRefused (keyed_of H.ZoneHandler S.signature_for self.old.server) bytes.now source protocol now refusal self.new.server.server.catalog.zones) }
+        ensures kept { IfErr result (λ _. (waiting_in self.new ≡ waiting_in self.old) × (self.new.log ≡ self.old.log)) }
     {
         match self.server.serve(alloc, bytes, source, protocol, now) {
             Ok(Answer::Replies(replies)) => {
+                let sent = replies.as_slice();
+                log_replies(&mut self.log, alloc, now, source, protocol, bytes, sent);
                 self.pending = replies;
                 self.taken = 0;
                 Ok(())
@@ -135,13 +143,12 @@ impl<S: ReplySigner, H: ZoneHandler> Answering<S, H> {
         at: usize,
     ) -> Result<usize, Refusal>
         requires { at ≤ length out.old }
-        ensures rules { self.new.server.rules ≡ self.old.server.rules }
-        ensures others { self.new.server.catalog ≡ record self.old.server.catalog { zones = self.new.server.catalog.zones } }
+        ensures stays { Stays self.old.server self.new.server }
         ensures ok { IfOk result (λ end. (sent : List (List ℕ)) ×
-            BytesServed self.old.server.rules (server_of H.ZoneHandler S.signature_for self.old.server.catalog) bytes.now source protocol now (Replies sent) self.new.server.catalog.zones ×
-            ArePut sent out.old at out.new end (waiting_in self.new)) }
-        ensures err { IfErr result (λ refusal. IsRefused self.old.server.rules (server_of H.ZoneHandler S.signature_for self.old.server.catalog) bytes.now source protocol now refusal self.new.server.catalog.zones) }
-        ensures kept { IfErr result (λ _. (waiting_in self.new ≡ waiting_in self.old) × (out.new ≡ out.old)) }
+            BecomesOf (keyed_of H.ZoneHandler S.signature_for self.old.server) bytes.now source protocol now (Replies sent) self.new.server.server.catalog.zones ×
+            ArePut sent out.old at out.new end (waiting_in self.new) × AreLogged self.old.log now (socket_ip source) protocol bytes.now sent self.new.log) }
+        ensures err { IfErr result (λ refusal. IsRefused (keyed_of H.ZoneHandler S.signature_for self.old.server) bytes.now source protocol now refusal self.new.server.server.catalog.zones) }
+        ensures kept { IfErr result (λ _. (waiting_in self.new ≡ waiting_in self.old) × (out.new ≡ out.old) × (self.new.log ≡ self.old.log)) }
     {
         match self.serve(alloc, bytes, source, protocol, now) {
             Ok(()) => Ok(self.take_at(out, at)),
@@ -160,13 +167,12 @@ impl<S: ReplySigner, H: ZoneHandler> Answering<S, H> {
         now: u64,
         out: &mut [u8],
     ) -> Result<usize, Refusal>
-        ensures rules { self.new.server.rules ≡ self.old.server.rules }
-        ensures others { self.new.server.catalog ≡ record self.old.server.catalog { zones = self.new.server.catalog.zones } }
+        ensures stays { Stays self.old.server self.new.server }
         ensures ok { IfOk result (λ end. (sent : List (List ℕ)) ×
-            BytesServed self.old.server.rules (server_of H.ZoneHandler S.signature_for self.old.server.catalog) bytes.now source protocol now (Replies sent) self.new.server.catalog.zones ×
-            ArePut sent out.old 0 out.new end (waiting_in self.new)) }
-        ensures err { IfErr result (λ refusal. IsRefused self.old.server.rules (server_of H.ZoneHandler S.signature_for self.old.server.catalog) bytes.now source protocol now refusal self.new.server.catalog.zones) }
-        ensures kept { IfErr result (λ _. (waiting_in self.new ≡ waiting_in self.old) × (out.new ≡ out.old)) }
+            BecomesOf (keyed_of H.ZoneHandler S.signature_for self.old.server) bytes.now source protocol now (Replies sent) self.new.server.server.catalog.zones ×
+            ArePut sent out.old 0 out.new end (waiting_in self.new) × AreLogged self.old.log now (socket_ip source) protocol bytes.now sent self.new.log) }
+        ensures err { IfErr result (λ refusal. IsRefused (keyed_of H.ZoneHandler S.signature_for self.old.server) bytes.now source protocol now refusal self.new.server.server.catalog.zones) }
+        ensures kept { IfErr result (λ _. (waiting_in self.new ≡ waiting_in self.old) × (out.new ≡ out.old) × (self.new.log ≡ self.old.log)) }
     {
         self.answer_at(alloc, bytes, source, protocol, now, out, 0)
     }
@@ -193,9 +199,8 @@ impl<S: ReplySigner, H: ZoneHandler> Answering<S, H> {
         out: &mut [u8],
     ) -> StreamAnswer
         requires { waiting_in self.old ≡ [] }
-        ensures rules { self.new.server.rules ≡ self.old.server.rules }
-        ensures others { self.new.server.catalog ≡ record self.old.server.catalog { zones = self.new.server.catalog.zones } }
-        ensures answered { IsAnsweredStream self.old.server.rules (server_of H.ZoneHandler S.signature_for self.old.server.catalog) bytes.now source now result out.new (waiting_in self.new) self.new.server.catalog.zones }
+        ensures stays { Stays self.old.server self.new.server }
+        ensures answered { IsAnsweredStream (keyed_of H.ZoneHandler S.signature_for self.old.server) bytes.now source now result out.new (waiting_in self.new) self.new.server.server.catalog.zones self.old.log self.new.log }
         ensures at_end { IsNone result.refusal → waiting_in self.new ≡ [] → IsAtEnd bytes.now result.consumed (length out.new) result.written }
         ensures within { (result.consumed ≤ length bytes.now) × (result.written ≤ length out.new) }
     {
@@ -240,9 +245,8 @@ impl<S: ReplySigner, H: ZoneHandler> Answering<S, H> {
         now: u64,
         out: &mut [u8],
     ) -> StreamAnswer
-        ensures rules { self.new.server.rules ≡ self.old.server.rules }
-        ensures others { self.new.server.catalog ≡ record self.old.server.catalog { zones = self.new.server.catalog.zones } }
-        ensures step { IsStreamStep (server_of H.ZoneHandler S.signature_for self.old.server.catalog) self.old bytes.now source now result out.new self.new }
+        ensures stays { Stays self.old.server self.new.server }
+        ensures step { IsStreamStep (keyed_of H.ZoneHandler S.signature_for self.old.server) self.old bytes.now source now result out.new self.new }
         ensures within { (result.consumed ≤ length bytes.now) × (result.written ≤ length out.new) }
     {
         self.taken = self.pending.len();

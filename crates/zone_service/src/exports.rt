@@ -1,10 +1,11 @@
 //! What C calls. `host/zone_service.h` says of each what it is given and what it answers.
 
-ghost use Rattle.std.specs.Prelude.{◌≡◌, ◌≤◌, ◌⊎◌, ◌↔◌, ◌++◌, ◌∷◌, [], ℕ, IsOk, List, Some, false, length, min, option_map, take};
+ghost use Rattle.std.specs.Prelude.{◌≡◌, ◌≤◌, ◌⊎◌, ◌↔◌, ◌++◌, ◌∷◌, [], ℕ, IsOk, List, Some, drop, false, length, min, option_map, take};
 ghost use Rattle.access_control.specs.Access.{Inserts, Network};
-ghost use Rattle.hickory_catalog.specs.Server.{server_of};
 ghost use Rattle.name_lists.specs.Counts.{Counts};
-ghost use Rattle.served_zones.specs.ServedZones.{AreJoined, IsLoadedAs};
+ghost use Rattle.served_keys.specs.ServedKeys.{IsKeyName, all_networks};
+ghost use Rattle.served_updates.specs.declared.grants.Grant.{Grant};
+ghost use Rattle.served_zones.specs.ServedZones.{IsLoadedAs};
 ghost use Rattle.served_zones.specs.declared.parents.Loaded.{Loaded};
 ghost use Rattle.server_counters.specs.Exposition.{exposition_of};
 ghost use Rattle.server_settings.specs.Settings.{IsConfiguration};
@@ -13,20 +14,21 @@ ghost use Rattle.zone_service.specs.Exports.{AnswerTold, StreamTold, transport_o
 ghost use Rattle.zone_service.specs.Frames.{ArePut};
 ghost use Rattle.zone_service.specs.Limited.{AreLimitsOf, IsLimited};
 ghost use Rattle.zone_service.specs.Lists.{IsListOfText};
-ghost use Rattle.zone_service.specs.Serving.{waiting_in};
+ghost use Rattle.zone_service.specs.Serving.{Stays, keyed_of, waiting_in};
+ghost use Rattle.zone_service.specs.Updates.{AreKeys, AreServed, IsGrantOf};
+ghost use Rattle.wire_names.specs.rr.domain.DomainName.{DomainName};
 
 use crate::counting::{count_answer, count_frames, count_stream};
 use crate::handle::{Handle, address};
 use crate::limiting::limit;
-use crate::service::Service;
+use crate::service::{Handler, Service};
 use crate::settings::SettingFault;
 use crate::told::{DONE, MEMORY, tell_answer, tell_stream};
-use hickory_server::server::NoKeys;
 use hickory_server::zone_handler::{ReplySigner, ZoneHandler};
 use name_lists::ListReport;
-use served_zones::handler::Handler;
 use server_counters::{Counters, exposition};
 use server_settings::configuration::{ConfigurationFault, configuration};
+use signed_server::LeftToServer;
 use std::alloc::{AllocError, Global};
 
 /// A setting is not taken.
@@ -172,7 +174,7 @@ pub extern "C" fn zone_service_set_blocklist(
     told_of_list(alloc, service.set_blocklist(alloc, text), fault, count)
 }
 
-/// Serves the zone of this name from the bytes of its file.
+/// Adds the zone of this name from the bytes of its file.
 #[unsafe(no_mangle)]
 pub extern "C" fn zone_service_add_zone(
     alloc: Global,
@@ -183,24 +185,79 @@ pub extern "C" fn zone_service_add_zone(
     count: &mut usize,
 ) -> u32
     ensures made { result ≡ 0 → (loaded : Loaded) × (service.new.service.loaded.items ≡ service.old.service.loaded.items ++ loaded ∷ []) ×
-        IsLoadedAs name.now (option_map (λ it. it.value) service.old.service.list) loaded service.old.service.answering.server.catalog.zones service.new.service.answering.server.catalog.zones }
+        IsLoadedAs name.now (option_map (λ it. it.value) service.old.service.list) loaded service.old.service.added.zones service.new.service.added.zones }
+    ensures server { service.new.service.answering ≡ service.old.service.answering }
 {
     let service = service.service();
     told(alloc, service.add_zone(alloc, name, text), fault, count)
 }
 
-/// Puts each zone that was added beside the zone above it, if there is one, which has its DS records (RFC 4035 section 3.1.4.1).
+/// Takes the keys that a text has: BIND's `key` statements, Knot's `key` section, or lines as `dig -y` takes them.
 #[unsafe(no_mangle)]
-pub extern "C" fn zone_service_join_zones(
+pub extern "C" fn zone_service_set_keys(
+    alloc: Global,
+    service: &mut Handle,
+    text: &[u8],
+    fault: &mut [u8],
+    count: &mut usize,
+) -> u32
+    ensures made { result ≡ 0 → AreKeys service.new.service.answering.server.keys }
+    ensures server { service.new.service.answering.server.server ≡ service.old.service.answering.server.server }
+{
+    let service = service.service();
+    told(alloc, service.set_keys(alloc, text), fault, count)
+}
+
+/// Lets requests that the key of this name signed have transfers from anywhere, and keeps transfers from all networks but those that are allowed.
+#[unsafe(no_mangle)]
+pub extern "C" fn zone_service_allow_transfer_key(
+    alloc: Global,
+    service: &mut Handle,
+    name: &[u8],
+    fault: &mut [u8],
+    count: &mut usize,
+) -> u32
+    ensures made { result ≡ 0 → (key : DomainName) × IsKeyName name.now key ×
+        (service.new.service.answering.server.transfer_keys.items ≡ service.old.service.answering.server.transfer_keys.items ++ key ∷ []) ×
+        Inserts service.old.service.answering.server.server.rules.transfers.deny all_networks service.new.service.answering.server.server.rules.transfers.deny }
+{
+    let service = service.service();
+    told(alloc, service.allow_transfer_key(alloc, name), fault, count)
+}
+
+/// Lets the zone of this name take the updates that a rule grants, `KEY [zone|subdomain NAME|name NAME|self] [TYPE..]`.
+#[unsafe(no_mangle)]
+pub extern "C" fn zone_service_allow_update(
+    alloc: Global,
+    service: &mut Handle,
+    zone: &[u8],
+    rule: &[u8],
+    fault: &mut [u8],
+    count: &mut usize,
+) -> u32
+    ensures made { result ≡ 0 → (grant : Grant) × IsGrantOf service.old.service.answering.server.keys zone.now rule.now grant ×
+        (service.new.service.grants.items ≡ service.old.service.grants.items ++ grant ∷ []) }
+    ensures server { service.new.service.answering ≡ service.old.service.answering }
+{
+    let service = service.service();
+    told(alloc, service.allow_update(alloc, zone, rule), fault, count)
+}
+
+/// Serves the zones that were added: each beside the zone above it, if there is one, which has its DS records (RFC 4035 section 3.1.4.1), and those of which there
+/// are rules with the updates that these grant.
+#[unsafe(no_mangle)]
+pub extern "C" fn zone_service_serve_zones(
     alloc: Global,
     service: &mut Handle,
     fault: &mut [u8],
     count: &mut usize,
 ) -> u32
-    ensures made { result ≡ 0 → AreJoined service.old.service.loaded.items service.old.service.answering.server.catalog.zones service.new.service.answering.server.catalog.zones }
+    ensures made { result ≡ 0 → AreServed service.old.service.answering.server.keys service.old.service.grants.items service.old.service.loaded.items
+        service.old.service.added.zones service.new.service.added.zones
+        service.old.service.answering.server.server.catalog.zones service.new.service.answering.server.server.catalog.zones }
 {
     let service = service.service();
-    told(alloc, service.join_zones(alloc), fault, count)
+    told(alloc, service.serve_zones(alloc), fault, count)
 }
 
 /// Lets the addresses of a network use the server.
@@ -212,7 +269,7 @@ pub extern "C" fn zone_service_set_allowed(
     fault: &mut [u8],
     count: &mut usize,
 ) -> u32
-    ensures made { result ≡ 0 → (network : Network) × Inserts service.old.service.answering.server.rules.access.allow (network ∷ []) service.new.service.answering.server.rules.access.allow }
+    ensures made { result ≡ 0 → (network : Network) × Inserts service.old.service.answering.server.server.rules.access.allow (network ∷ []) service.new.service.answering.server.server.rules.access.allow }
 {
     let service = service.service();
     told(alloc, service.allow(network), fault, count)
@@ -227,7 +284,7 @@ pub extern "C" fn zone_service_set_denied(
     fault: &mut [u8],
     count: &mut usize,
 ) -> u32
-    ensures made { result ≡ 0 → (network : Network) × Inserts service.old.service.answering.server.rules.access.deny (network ∷ []) service.new.service.answering.server.rules.access.deny }
+    ensures made { result ≡ 0 → (network : Network) × Inserts service.old.service.answering.server.server.rules.access.deny (network ∷ []) service.new.service.answering.server.server.rules.access.deny }
 {
     let service = service.service();
     told(alloc, service.deny(network), fault, count)
@@ -242,7 +299,7 @@ pub extern "C" fn zone_service_set_transfer_allowed(
     fault: &mut [u8],
     count: &mut usize,
 ) -> u32
-    ensures made { result ≡ 0 → (network : Network) × Inserts service.old.service.answering.server.rules.transfers.allow (network ∷ []) service.new.service.answering.server.rules.transfers.allow }
+    ensures made { result ≡ 0 → (network : Network) × Inserts service.old.service.answering.server.server.rules.transfers.allow (network ∷ []) service.new.service.answering.server.server.rules.transfers.allow }
 {
     let service = service.service();
     told(alloc, service.allow_transfer(network), fault, count)
@@ -257,7 +314,7 @@ pub extern "C" fn zone_service_set_transfer_denied(
     fault: &mut [u8],
     count: &mut usize,
 ) -> u32
-    ensures made { result ≡ 0 → (network : Network) × Inserts service.old.service.answering.server.rules.transfers.deny (network ∷ []) service.new.service.answering.server.rules.transfers.deny }
+    ensures made { result ≡ 0 → (network : Network) × Inserts service.old.service.answering.server.server.rules.transfers.deny (network ∷ []) service.new.service.answering.server.server.rules.transfers.deny }
 {
     let service = service.service();
     told(alloc, service.deny_transfer(network), fault, count)
@@ -272,7 +329,7 @@ pub extern "C" fn zone_service_set_max_udp(
     fault: &mut [u8],
     count: &mut usize,
 ) -> u32
-    ensures made { result ≡ 0 → service.new.service.answering.server.rules ≡ record service.old.service.answering.server.rules { max_udp = size } }
+    ensures made { result ≡ 0 → service.new.service.answering.server.server.rules ≡ record service.old.service.answering.server.server.rules { max_udp = size } }
 {
     let service = service.service();
     told(alloc, service.set_max_udp(size), fault, count)
@@ -309,10 +366,29 @@ pub extern "C" fn zone_service_set_identifier(
     fault: &mut [u8],
     count: &mut usize,
 ) -> u32
-    ensures made { result ≡ 0 → service.new.service.answering.server.catalog ≡ record service.old.service.answering.server.catalog { nsid = Some text.now } }
+    ensures made { result ≡ 0 → service.new.service.answering.server.server.catalog ≡ record service.old.service.answering.server.server.catalog { nsid = Some text.now } }
 {
     let service = service.service();
     told(alloc, service.set_identifier(alloc, text), fault, count)
+}
+
+/// Has the next query with replies and then one in so many told by a line, which waits to be taken; none where that is 0.
+#[unsafe(no_mangle)]
+pub extern "C" fn zone_service_set_query_log(service: &mut Handle, every: u32)
+    ensures { service.new.service ≡ record service.old.service { answering = record service.old.service.answering { log = record service.old.service.answering.log { every = every; left = 0 } } } }
+{
+    service.service().answering.log.set(every);
+}
+
+/// Writes lines that tell queries, as many of their bytes as there is room for, and says how many.
+#[unsafe(no_mangle)]
+pub extern "C" fn zone_service_take_log(service: &mut Handle, out: &mut [u8]) -> usize
+    ensures within { result ≤ length out.new }
+    ensures put { take result out.new ≡ take result (service.old.service.answering.log.lines.items) }
+    ensures left { service.new.service.answering.log.lines.items ≡ drop result (service.old.service.answering.log.lines.items) }
+    ensures others { service.new.service ≡ record service.old.service { answering = record service.old.service.answering { log = service.new.service.answering.log } } }
+{
+    service.service().answering.log.take(out)
 }
 
 /// Answers a message: writes its replies, each behind its length in two bytes, as many as there is room for, and says how many bytes they take
@@ -331,9 +407,9 @@ pub extern "C" fn zone_service_answer(
     waiting: &mut usize,
 ) -> u32
     ensures others { service.new.service ≡ record service.old.service { answering = service.new.service.answering; counters = service.new.service.counters; limits = service.new.service.limits } }
-    ensures rules { service.new.service.answering.server.rules ≡ service.old.service.answering.server.rules }
+    ensures stays { Stays service.old.service.answering.server service.new.service.answering.server }
     ensures told { (made : ℕ) × (count : ℕ) × (bytes : List ℕ) ×
-        AnswerTold (server_of ⟦<Handler as ZoneHandler>⟧ ⟦<NoKeys as ReplySigner>⟧.signature_for service.old.service.answering.server.catalog) service.old.service.answering message.now source.now port (transport_of stream) now out.old made count bytes service.new.service.answering ×
+        AnswerTold (keyed_of ⟦<Handler as ZoneHandler>⟧ ⟦<LeftToServer as ReplySigner>⟧.signature_for service.old.service.answering.server) service.old.service.answering message.now source.now port (transport_of stream) now out.old made count bytes service.new.service.answering ×
         IsLimited service.old.service.limits stream source.now now made (take count bytes) result (take written.new out.new) service.new.service.limits }
     ensures within { written.new ≤ length out.new }
     ensures waiting { waiting.new ≡ length (waiting_in service.new.service.answering) }
@@ -389,8 +465,8 @@ pub extern "C" fn zone_service_answer_stream(
     waiting: &mut usize,
 ) -> u32
     ensures others { service.new.service ≡ record service.old.service { answering = service.new.service.answering; counters = service.new.service.counters } }
-    ensures rules { service.new.service.answering.server.rules ≡ service.old.service.answering.server.rules }
-    ensures told { StreamTold (server_of ⟦<Handler as ZoneHandler>⟧ ⟦<NoKeys as ReplySigner>⟧.signature_for service.old.service.answering.server.catalog) service.old.service.answering bytes.now source.now port now out.old result taken.new written.new out.new service.new.service.answering }
+    ensures stays { Stays service.old.service.answering.server service.new.service.answering.server }
+    ensures told { StreamTold (keyed_of ⟦<Handler as ZoneHandler>⟧ ⟦<LeftToServer as ReplySigner>⟧.signature_for service.old.service.answering.server) service.old.service.answering bytes.now source.now port now out.old result taken.new written.new out.new service.new.service.answering }
     ensures waiting { waiting.new ≡ length (waiting_in service.new.service.answering) }
     ensures counted { StreamCounted (take taken.new bytes.now) result (take written.new out.new) service.old.service.counters service.new.service.counters }
 {

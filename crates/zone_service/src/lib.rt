@@ -11,6 +11,8 @@ mod exports;
 mod frames;
 mod handle;
 mod limiting;
+mod logging;
 mod service;
 mod settings;
 mod told;
+mod updates;

@@ -1,9 +1,8 @@
 //! What is told of messages, in numbers.
 
 ghost use Rattle.std.specs.Prelude.{◌≡◌, ◌≢◌, ◌≤◌, [], IfErr, IfOk, IfSome, IsNone, length};
-ghost use Rattle.hickory_catalog.specs.Server.{server_of};
 ghost use Rattle.zone_service.specs.Exports.{AnswerTold, IsAddress, IsNoAddress, IsSource, StreamTold, refusal_number, transport_of};
-ghost use Rattle.zone_service.specs.Serving.{waiting_in};
+ghost use Rattle.zone_service.specs.Serving.{Stays, keyed_of, waiting_in};
 
 use crate::answering::{Answering, Refusal};
 use hickory_server::proto::Protocol;
@@ -79,9 +78,8 @@ pub(crate) fn tell_answer<S: ReplySigner, H: ZoneHandler>(
     written: &mut usize,
     waiting: &mut usize,
 ) -> u32
-    ensures rules { answering.new.server.rules ≡ answering.old.server.rules }
-    ensures others { answering.new.server.catalog ≡ record answering.old.server.catalog { zones = answering.new.server.catalog.zones } }
-    ensures told { AnswerTold (server_of H.ZoneHandler S.signature_for answering.old.server.catalog) answering.old message.now source.now port (transport_of stream) now out.old result written.new out.new answering.new }
+    ensures stays { Stays answering.old.server answering.new.server }
+    ensures told { AnswerTold (keyed_of H.ZoneHandler S.signature_for answering.old.server) answering.old message.now source.now port (transport_of stream) now out.old result written.new out.new answering.new }
     ensures waiting { waiting.new ≡ length (waiting_in answering.new) }
     ensures within { written.new ≤ length out.new }
 {
@@ -116,9 +114,8 @@ pub(crate) fn tell_stream<S: ReplySigner, H: ZoneHandler>(
     written: &mut usize,
     waiting: &mut usize,
 ) -> u32
-    ensures rules { answering.new.server.rules ≡ answering.old.server.rules }
-    ensures others { answering.new.server.catalog ≡ record answering.old.server.catalog { zones = answering.new.server.catalog.zones } }
-    ensures told { StreamTold (server_of H.ZoneHandler S.signature_for answering.old.server.catalog) answering.old bytes.now source.now port now out.old result taken.new written.new out.new answering.new }
+    ensures stays { Stays answering.old.server answering.new.server }
+    ensures told { StreamTold (keyed_of H.ZoneHandler S.signature_for answering.old.server) answering.old bytes.now source.now port now out.old result taken.new written.new out.new answering.new }
     ensures waiting { waiting.new ≡ length (waiting_in answering.new) }
     ensures within { (taken.new ≤ length bytes.now) × (written.new ≤ length out.new) }
 {

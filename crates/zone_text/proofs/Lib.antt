@@ -3,9 +3,11 @@ pub mod FirstFaults
 pub mod FrontOnce
 pub mod GenerateOnce
 pub mod Generating
+pub mod Including
 pub mod Kept
 pub mod Minimum
 pub mod MoreFaults
 pub mod NumberBelow
 pub mod Numbering
+pub mod WithoutFiles
 pub mod WordKinds

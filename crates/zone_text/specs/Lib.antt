@@ -1,3 +1,4 @@
+pub mod Included
 pub mod Numbered
 pub mod ZoneFaults
 pub mod ZoneFiles

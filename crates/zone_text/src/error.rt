@@ -1,8 +1,32 @@
 //! Why a zone file could not be read.
 
 use crate::zone_file::fault_word::FaultWord;
+use hickory_wire::Octets;
 use text_words::TextFault;
 use thiserror::Error;
+
+/// Why a file that is included is not given.
+#[derive(Clone, Copy, Debug, PartialEq, Eq, Error)]
+pub enum FileRefusal {
+    /// There is none of this name.
+    #[error("there is no such file")]
+    Absent,
+    /// It may not be read.
+    #[error("no permission to read the file")]
+    Forbidden,
+    /// It is a folder.
+    #[error("a folder, and no file")]
+    Folder,
+    /// The name is none of a file, as where it is no text.
+    #[error("not the name of a file")]
+    BadName,
+    /// Another reason, or none is told.
+    #[error("the file cannot be read")]
+    Other,
+    /// Memory was refused.
+    #[error("out of memory")]
+    Memory,
+}
 
 /// What is wrong with a zone file.
 #[derive(Clone, Copy, Debug, PartialEq, Eq, Error)]
@@ -13,9 +37,15 @@ pub enum ZoneFileFault {
     /// A line begins with `$` and a word that is none of `$ORIGIN`, `$TTL` and `$GENERATE`.
     #[error("unknown directive")]
     UnknownDirective,
-    /// A line is `$INCLUDE`, which is not taken.
+    /// A line is `$INCLUDE`, and files that are included are not taken.
     #[error("$INCLUDE is not taken")]
     IncludeNotTaken,
+    /// Files include one another more than ten levels deep, as where one includes itself.
+    #[error("more than ten files included in one another")]
+    TooManyFiles,
+    /// A file that is included is not given.
+    #[error("{0}")]
+    FileRefused(FileRefusal),
     /// The range of a `$GENERATE` directive is none: two numbers of 31 bits with `-` between them, the first not the greater one, and a step behind `/`
     /// that is not 0, with at most 65,536 numbers.
     #[error("not a range of numbers")]
@@ -56,4 +86,13 @@ pub enum ZoneFileError {
     /// Memory was refused.
     #[error("out of memory")]
     Memory,
+}
+
+/// Why a zone file with inclusions could not be read: in which file, and what.
+#[derive(Drop)]
+pub struct IncludedError {
+    /// The name of the file that the fault stands in, as the directive has it that includes it; no bytes where it is the first.
+    pub file: Octets,
+    /// What is wrong, and where in that file; or want of memory.
+    pub error: ZoneFileError,
 }

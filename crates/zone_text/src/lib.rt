@@ -4,9 +4,10 @@
 mod error;
 mod zone_file;
 
-pub use error::{ZoneFileError, ZoneFileFault};
+pub use error::{FileRefusal, IncludedError, ZoneFileError, ZoneFileFault};
 pub use message_text::{FlagsText, MessageText};
 pub use record_text::{TextError, TextFault, read_data, read_name, read_record};
 pub use zone_file::fault_word::FaultWord;
 pub use zone_file::faults::{MOST_FAULTS, zone_file_faults};
+pub use zone_file::include::{FileOpener, MOST_LEVELS, read_zone_with_files};
 pub use zone_file::{read_zone_bytes, read_zone_file};

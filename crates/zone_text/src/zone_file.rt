@@ -6,6 +6,7 @@ mod fault;
 pub(crate) mod fault_word;
 pub(crate) mod faults;
 mod generate;
+pub(crate) mod include;
 mod number_form;
 mod number_range;
 

@@ -3,5 +3,6 @@ pub mod Boxes
 pub mod DistinctRecords
 pub mod KeyOrder
 pub mod SharedSets
+pub mod SoaAsked
 pub mod StoredSets
 pub mod ZoneByName

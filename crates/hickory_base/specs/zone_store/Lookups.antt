@@ -1,18 +1,14 @@
 -- What is asked of a zone, and what it answers.
-use Rattle.std.specs.Prelude.{Bool, true, false, List, [], Option, Some, None, Result, Ok, Err}
+use Rattle.std.specs.Prelude.{Bool, true, false, List, [], Option, Some, None, Result, Ok}
 use Rattle.wire_messages.specs.op.EdnsFields.{EdnsFields}
 use Rattle.wire_messages.specs.declared.rr.rdata.RData.{RData}
 use Rattle.wire_messages.specs.declared.rr.record.Record.{Record}
-use Rattle.hickory_base.specs.declared.errors.DnsError.TheVariants.{NoRecords}
 use Rattle.hickory_base.specs.declared.errors.LookupError.{LookupError}
-use Rattle.hickory_base.specs.declared.errors.LookupError.TheVariants.{ResponseCode, Net}
 use Rattle.hickory_base.specs.declared.zone_store.lookup.AuthLookup.{AuthLookup}
 use Rattle.hickory_base.specs.declared.zone_store.lookup.AuthLookup.TheVariants.{Empty, Resolved, Records, Whole}
 use Rattle.hickory_base.specs.declared.zone_store.lookup.LookupControlFlow.{LookupControlFlow}
 use Rattle.hickory_base.specs.declared.zone_store.lookup.LookupControlFlow.TheVariants.{Continue, Break, Skip}
-use Rattle.hickory_base.specs.declared.zone_store.lookup.StoredAnswer.{StoredAnswer}
 use Rattle.hickory_base.specs.declared.zone_store.lookup.WholeReply.{WholeReply}
-use Rattle.hickory_base.specs.declared.zone_store.lookup.StoredAnswer.TheVariants as stored
 
 -- the flag DO (RFC 3225 section 3)
 abbrev pub asks_for_dnssec : Option EdnsFields → Bool
@@ -58,10 +54,3 @@ without_additionals other = other
 abbrev pub whole_reply : Result AuthLookup LookupError → Option WholeReply
 whole_reply (Ok (Whole reply)) = Some reply
 whole_reply other = None
-
--- The result that a stored answer stands for: the records; NXDomain, which is 3, where the name has none (RFC 2308 section 2.1); NoError without records where it has
--- others (section 2.2).
-abbrev pub stored_result : StoredAnswer → Result AuthLookup LookupError
-stored_result (stored.Records records) = Ok (Records records.now [])
-stored_result stored.NoName = Err (ResponseCode 3)
-stored_result stored.NoData = Err (Net (NoRecords 0 [] None))

@@ -1,5 +1,5 @@
 -- What a zone held in memory answers: its own records, with no CNAME followed, no wildcard and no delegation.
-use Rattle.std.specs.Prelude.{◌≡◌, ◌==◌, ◌⊎◌, ℕ, Bool, cond, false, not, List, [], ◌∷◌, ◌++◌, drop, filter, Option, Some, None, Result, Ok, Err}
+use Rattle.std.specs.Prelude.{◌≡◌, ◌==◌, ◌⊎◌, ℕ, Bool, cond, false, not, List, [], ◌∷◌, ◌++◌, drop, filter, take, Option, Some, None, Result, Ok, Err}
 use Rattle.std.specs.List.{flat_map, list_any}
 use Rattle.std.specs.Map.{lookup}
 use Rattle.wire_names.specs.rr.domain.DomainName.{DomainName}
@@ -119,6 +119,15 @@ allowed_transfer zone AllowSigned = Err (ResponseCode 5)
 -- the whole zone, and Refused, which is 5, unless everybody may have it
 abbrev pub transfer_answer : MemoryZone → Result ZoneTransfer LookupError
 transfer_answer zone = allowed_transfer zone zone.axfr_policy
+
+-- of a transfer the first record alone, which is the SOA
+abbrev pub soa_alone : Result ZoneTransfer LookupError → Result ZoneTransfer LookupError
+soa_alone (Ok transfer) = Ok (record { records = take 1 transfer.records })
+soa_alone (Err e) = Err e
+
+-- the SOA alone in the place of a transfer
+abbrev pub SoaTransferred : MemoryZone → Option (Result ZoneTransfer LookupError × Option TSigResponseContext) → Type 0
+SoaTransferred zone answer = (result : _) × OrMemory (soa_alone (transfer_answer zone)) result × (answer ≡ Some (result, None))
 
 -- a transfer, which no context goes with
 abbrev pub Transferred : MemoryZone → Option (Result ZoneTransfer LookupError × Option TSigResponseContext) → Type 0

@@ -7,11 +7,9 @@ ghost use Rattle.hickory_base.specs.zone_store.Eithers.{UpdatesEither};
 use crate::errors::{LookupError, UpdateFault};
 use crate::server::{Request, RequestInfo};
 use crate::zone_store::handler::{AxfrPolicy, Nsec3QueryInfo, NxProofKind, ZoneHandler, ZoneType};
-use crate::zone_store::lookup::{
-    AuthLookup, LookupControlFlow, LookupOptions, StoredAnswer, ZoneTransfer,
-};
+use crate::zone_store::lookup::{AuthLookup, LookupControlFlow, LookupOptions, ZoneTransfer};
 use either::{Either, Left, Right};
-use hickory_wire::{LowerName, Record, RecordType, TSigResponseContext};
+use hickory_wire::{LowerName, RecordType, TSigResponseContext};
 use std::alloc::Global;
 
 impl<L: ZoneHandler, R: ZoneHandler> ZoneHandler for Either<L, R> {
@@ -81,7 +79,7 @@ impl<L: ZoneHandler, R: ZoneHandler> ZoneHandler for Either<L, R> {
         record_type: RecordType,
         info: Option<&RequestInfo<'_>>,
         options: LookupOptions,
-    ) -> LookupControlFlow<AuthLookup> {
+    ) -> LookupControlFlow<AuthLookup<'_>> {
         match self {
             Left(handler) => handler.lookup(alloc, name, record_type, info, options),
             Right(handler) => handler.lookup(alloc, name, record_type, info, options),
@@ -93,36 +91,28 @@ impl<L: ZoneHandler, R: ZoneHandler> ZoneHandler for Either<L, R> {
         alloc: Global,
         request: &Request,
         options: LookupOptions,
-    ) -> (LookupControlFlow<AuthLookup>, Option<TSigResponseContext>) {
+    ) -> (
+        LookupControlFlow<AuthLookup<'_>>,
+        Option<TSigResponseContext>,
+    ) {
         match self {
             Left(handler) => handler.search(alloc, request, options),
             Right(handler) => handler.search(alloc, request, options),
         }
     }
 
-    fn stored_answer(&self, request: &Request, options: LookupOptions) -> Option<StoredAnswer<'_>> {
-        match self {
-            Left(handler) => handler.stored_answer(request, options),
-            Right(handler) => handler.stored_answer(request, options),
-        }
-    }
-
-    fn stored_soa(&self, options: LookupOptions) -> Option<&[Record]> {
-        match self {
-            Left(handler) => handler.stored_soa(options),
-            Right(handler) => handler.stored_soa(options),
-        }
-    }
-
-    fn consult(
-        &self,
+    fn consult<'z>(
+        &'z self,
         alloc: Global,
         name: &LowerName,
         record_type: RecordType,
         info: Option<&RequestInfo<'_>>,
         options: LookupOptions,
-        last: LookupControlFlow<AuthLookup>,
-    ) -> (LookupControlFlow<AuthLookup>, Option<TSigResponseContext>) {
+        last: LookupControlFlow<AuthLookup<'z>>,
+    ) -> (
+        LookupControlFlow<AuthLookup<'z>>,
+        Option<TSigResponseContext>,
+    ) {
         match self {
             Left(handler) => handler.consult(alloc, name, record_type, info, options, last),
             Right(handler) => handler.consult(alloc, name, record_type, info, options, last),
@@ -152,7 +142,7 @@ impl<L: ZoneHandler, R: ZoneHandler> ZoneHandler for Either<L, R> {
         alloc: Global,
         name: &LowerName,
         options: LookupOptions,
-    ) -> LookupControlFlow<AuthLookup> {
+    ) -> LookupControlFlow<AuthLookup<'_>> {
         match self {
             Left(handler) => handler.nsec_records(alloc, name, options),
             Right(handler) => handler.nsec_records(alloc, name, options),
@@ -164,7 +154,7 @@ impl<L: ZoneHandler, R: ZoneHandler> ZoneHandler for Either<L, R> {
         alloc: Global,
         info: Nsec3QueryInfo<'_>,
         options: LookupOptions,
-    ) -> LookupControlFlow<AuthLookup> {
+    ) -> LookupControlFlow<AuthLookup<'_>> {
         // Made anew, so that the argument keeps the lifetime that the signature gives it: lent to the handler inside as it
         // is, it would have that of the call.
         let info = Nsec3QueryInfo {

@@ -1,15 +1,14 @@
 //! How the sets of a zone are found.
 
-ghost use Rattle.std.specs.Prelude.{◌≡◌, ◌==◌, ◌++◌, IfOk, OnOk, IfSome, Some, is_some, not};
+ghost use Rattle.std.specs.Prelude.{◌≡◌, ◌==◌, false, IfOk, IfSome, Some, None, Err};
 ghost use Rattle.std.specs.Option.{option_copied};
 ghost use Rattle.std.specs.Map.{lookup};
-ghost use Rattle.hickory_base.specs.zone_store.Lookups.{stored_result};
-ghost use Rattle.hickory_base.specs.zone_store.ZoneAnswers.{OrMemory, any_answer, found, set_answer, set_or_denial, zone_answer, is_in_use, records_at};
+ghost use Rattle.hickory_base.specs.zone_store.ZoneAnswers.{OrMemory, any_answer, set_answer, set_or_denial, zone_answer, is_in_use, records_at};
 ghost use Rattle.hickory_base.specs.zone_store.ZoneSets.{is_key, keys_at, sets_of};
 
 use crate::errors::{DnsError, LookupError};
 use crate::zone_store::copies::append_copies;
-use crate::zone_store::lookup::{AuthLookup, StoredAnswer};
+use crate::zone_store::lookup::AuthLookup;
 use crate::zone_store::record_set::RecordSet;
 use hickory_wire::{Items, LowerName, Record, RecordType, ResponseCode, RrKey};
 use std::alloc::{AllocError, Global};
@@ -91,22 +90,11 @@ pub(crate) fn keys_of_name(
     Ok(keys)
 }
 
-/// These records as an answer without additionals.
-fn found(alloc: Global, answers: Vec<Record>) -> AuthLookup
-    ensures { Ok result ≡ found answers.items }
+/// Why there are no records of the type asked for, where the name has others or has none.
+fn denial(alloc: Global, is_in_use: bool) -> LookupError
+    ensures { Err result ≡ set_or_denial None is_in_use }
 {
-    AuthLookup::Records {
-        answers: Items::from_vec(answers),
-        additionals: Items::new(alloc),
-    }
-}
-
-/// The answer for a name that has no set of the type asked for. No type is below that of the key.
-fn denial(alloc: Global, sets: &BTreeMap<RrKey, Rc<RecordSet>>, first: &RrKey) -> LookupError
-    requires { first.now.record_type ≡ 0 }
-    ensures { Err result ≡ set_or_denial None (is_in_use first.now.name (sets_of sets.now)) }
-{
-    if is_in_use(sets, first) {
+    if is_in_use {
         LookupError::Net(DnsError::NoRecords {
             response_code: ResponseCode::NO_ERROR,
             authorities: Items::new(alloc),
@@ -117,95 +105,73 @@ fn denial(alloc: Global, sets: &BTreeMap<RrKey, Rc<RecordSet>>, first: &RrKey) -
     }
 }
 
-/// All records of a name, whatever their type.
-fn find_any(
+/// Copies of all records of the key's name. No type is below that of the key.
+fn find_any<'m>(
     alloc: Global,
-    sets: &BTreeMap<RrKey, Rc<RecordSet>>,
-    name: LowerName,
-) -> Result<AuthLookup, LookupError>
-    ensures { OrMemory (any_answer (sets_of sets.now) name) result }
+    sets: &'m BTreeMap<RrKey, Rc<RecordSet>>,
+    first: &RrKey,
+) -> Result<AuthLookup<'m>, LookupError>
+    requires { first.now.record_type ≡ 0 }
+    ensures { OrMemory (any_answer (sets_of sets.now) first.now.name) result }
 {
-    let first = RrKey::new(name, RecordType::new(0));
-    if !is_in_use(sets, &first) {
-        return Err(LookupError::ResponseCode(ResponseCode::NX_DOMAIN));
+    if !is_in_use(sets, first) {
+        return Err(denial(alloc, false));
     }
-    let records = copies_of_name(alloc, sets, &first)?;
-    Ok(found(alloc, records))
+    let records = copies_of_name(alloc, sets, first)?;
+    Ok(AuthLookup::owned(Items::from_vec(records)))
 }
 
-/// The records of a name and type.
-fn find_set(
+/// The records of the key's name and a type, where they lie. No type is below that of the key, so that the sets of the name
+/// stand behind it. It needs no memory.
+fn find_set<'m>(
     alloc: Global,
-    sets: &BTreeMap<RrKey, Rc<RecordSet>>,
-    key: RrKey,
-) -> Result<AuthLookup, LookupError>
-    ensures { OrMemory (set_answer (sets_of sets.now) key.name key.record_type) result }
-{
-    match set_under(sets, &key) {
-        Some(records) => {
-            let mut copies = Vec::with_capacity(alloc, records.len())?;
-            append_copies(&mut copies, records)?;
-            Ok(found(alloc, copies))
-        }
-        None => {
-            let first = RrKey::new(key.name, RecordType::new(0));
-            Err(denial(alloc, sets, &first))
-        }
-    }
-}
-
-/// What the sets hold for the key's name and a type, where it lies. No type is below that of the key, so that the sets of the
-/// name stand behind it.
-fn stored_set<'m>(
     sets: &'m BTreeMap<RrKey, Rc<RecordSet>>,
     first: &RrKey,
     record_type: RecordType,
-) -> StoredAnswer<'m>
+) -> Result<AuthLookup<'m>, LookupError>
     requires { first.now.record_type ≡ 0 }
-    ensures { stored_result result ≡ set_answer (sets_of sets.now) first.now.name record_type }
+    ensures { result ≡ set_answer (sets_of sets.now) first.now.name record_type }
 {
-    let mut without = StoredAnswer::NoName;
+    let mut is_in_use = false;
     for (key, set) in sets.range(first..) {
         if first.name != key.name {
-            return without;
+            return Err(denial(alloc, is_in_use));
         }
         if record_type == key.record_type {
-            return StoredAnswer::Records(set.records());
+            return Ok(AuthLookup::lent(set.records()));
         }
-        without = StoredAnswer::NoData;
+        is_in_use = true;
     }
-    without
+    Err(denial(alloc, is_in_use))
 }
 
-/// The same where one set is asked for.
-pub(crate) fn find_stored<'m>(
+/// What the sets hold for the key's name and a type. No type is below that of the key. Only any type takes memory.
+pub(crate) fn find_from<'m>(
+    alloc: Global,
     sets: &'m BTreeMap<RrKey, Rc<RecordSet>>,
     first: &RrKey,
     record_type: RecordType,
-) -> Option<StoredAnswer<'m>>
+) -> Result<AuthLookup<'m>, LookupError>
     requires { first.now.record_type ≡ 0 }
-    ensures found { IfSome result (λ answer. stored_result answer ≡ zone_answer (sets_of sets.now) first.now.name record_type) }
-    ensures lends { is_some result ≡ not (record_type == 255) }
+    ensures found { OrMemory (zone_answer (sets_of sets.now) first.now.name record_type) result }
+    ensures lent { (record_type == 255) ≡ false → result ≡ zone_answer (sets_of sets.now) first.now.name record_type }
 {
     if record_type.value() == RecordType::ANY.value() {
-        return None;
+        find_any(alloc, sets, first)
+    } else {
+        find_set(alloc, sets, first, record_type)
     }
-    Some(stored_set(sets, first, record_type))
 }
 
 /// What the sets hold for a name and type.
-pub(crate) fn find(
+pub(crate) fn find<'m>(
     alloc: Global,
-    sets: &BTreeMap<RrKey, Rc<RecordSet>>,
+    sets: &'m BTreeMap<RrKey, Rc<RecordSet>>,
     name: &LowerName,
     record_type: RecordType,
-) -> Result<AuthLookup, LookupError>
+) -> Result<AuthLookup<'m>, LookupError>
     ensures { OrMemory (zone_answer (sets_of sets.now) name.now record_type) result }
 {
-    let name = name.clone()?;
-    if record_type.value() == RecordType::ANY.value() {
-        find_any(alloc, sets, name)
-    } else {
-        find_set(alloc, sets, RrKey::new(name, record_type))
-    }
+    let first = RrKey::new(name.clone()?, RecordType::new(0));
+    find_from(alloc, sets, &first, record_type)
 }

@@ -4,10 +4,8 @@ ghost use Rattle.std.specs.Prelude.{◌≡◌};
 
 use crate::errors::{LookupError, UpdateFault};
 use crate::server::{Request, RequestInfo};
-use crate::zone_store::lookup::{
-    AuthLookup, LookupControlFlow, LookupOptions, StoredAnswer, ZoneTransfer,
-};
-use hickory_wire::{LowerName, Octets, Record, RecordType, TSigResponseContext};
+use crate::zone_store::lookup::{AuthLookup, LookupControlFlow, LookupOptions, ZoneTransfer};
+use hickory_wire::{LowerName, Octets, RecordType, TSigResponseContext};
 use std::alloc::Global;
 
 /// What a server is to a zone.
@@ -73,20 +71,18 @@ pub struct Nsec3QueryInfo<'q> {
 /// state and the arguments of a call with the answer. Want of memory is `LookupError::Memory` or
 /// `UpdateFault::Memory` within the answer.
 pub trait ZoneHandler: Drop {
-    ghost use Rattle.std.specs.Prelude.{◌≡◌, ℕ, Bool, Option, None, Result, Ok, [], OnErr, IfSome};
+    ghost use Rattle.std.specs.Prelude.{◌≡◌, ℕ, Bool, Option, Result, OnErr};
     ghost use Rattle.std.specs.Option.{option_copied, option_map};
     ghost use Rattle.wire_names.specs.rr.domain.DomainName.{DomainName};
     ghost use Rattle.wire_messages.specs.declared.rr.tsig.TSigResponseContext.{TSigResponseContext};
     ghost use Rattle.hickory_base.specs.zone_store.Denials.{Nsec3Question, nsec3_question};
-    ghost use Rattle.hickory_base.specs.zone_store.Lookups.{Flow, stored_result};
+    ghost use Rattle.hickory_base.specs.zone_store.Lookups.{Flow};
     ghost use Rattle.hickory_base.specs.requests.Requests.{ReceivedRequest, RequestInformation, information_of};
     ghost use Rattle.hickory_base.specs.declared.errors.LookupError.{LookupError};
     ghost use Rattle.hickory_base.specs.declared.errors.UpdateFault.{UpdateFault};
     ghost use Rattle.hickory_base.specs.declared.zone_store.handler.AxfrPolicy.{AxfrPolicy};
     ghost use Rattle.hickory_base.specs.declared.zone_store.handler.NxProofKind.{NxProofKind};
     ghost use Rattle.hickory_base.specs.declared.zone_store.handler.ZoneType.{ZoneType};
-    ghost use Rattle.hickory_base.specs.declared.zone_store.lookup.AuthLookup.TheVariants.{Records};
-    ghost use Rattle.hickory_base.specs.declared.zone_store.lookup.LookupControlFlow.TheVariants.{Continue};
     ghost use Rattle.hickory_base.specs.declared.zone_store.lookup.LookupOptions.{LookupOptions};
     ghost use Rattle.hickory_base.specs.declared.zone_store.lookup.ZoneTransfer.{ZoneTransfer};
 
@@ -134,7 +130,7 @@ pub trait ZoneHandler: Drop {
     fn nx_proof_kind(&self) -> Option<&NxProofKind>
         ensures { option_copied result ≡ nx_proof_kind_of self.now };
 
-    /// Looks a name and a type up.
+    /// Looks a name and a type up. The records of the answer may lie in the handler.
     fn lookup(
         &self,
         alloc: Global,
@@ -142,45 +138,35 @@ pub trait ZoneHandler: Drop {
         record_type: RecordType,
         info: Option<&RequestInfo<'_>>,
         options: LookupOptions,
-    ) -> LookupControlFlow<AuthLookup>
+    ) -> LookupControlFlow<AuthLookup<'_>>
         ensures { lookup_gives self.now name.now record_type (option_map information_of (option_copied info.entry)) options result };
 
-    /// Answers a request, with what a signer of the reply has to know.
+    /// Answers a request, with what a signer of the reply has to know. The records of the answer may lie in the handler.
     fn search(
         &self,
         alloc: Global,
         request: &Request,
         options: LookupOptions,
-    ) -> (LookupControlFlow<AuthLookup>, Option<TSigResponseContext>)
+    ) -> (
+        LookupControlFlow<AuthLookup<'_>>,
+        Option<TSigResponseContext>,
+    )
         ensures { search_gives self.now request.now options result.0 result.1 };
 
-    /// What `search` may answer this request with, as a `Continue` without a context, where it lies in the handler and takes no
-    /// memory. `None` says that `search` has to be asked, as it always does of a handler that keeps no answers.
-    fn stored_answer(&self, request: &Request, options: LookupOptions) -> Option<StoredAnswer<'_>>
-        ensures { IfSome result (λ answer. search_gives self.now request.now options (Continue (stored_result answer)) None) }
-    {
-        None
-    }
-
-    /// The records that `lookup` may find for the SOA of the zone, as a `Continue`, where they lie in the handler. `None` says
-    /// that `lookup` has to be asked.
-    fn stored_soa(&self, options: LookupOptions) -> Option<&[Record]>
-        ensures { IfSome result (λ records. lookup_gives self.now (origin_of self.now) 6 None options (Continue (Ok (Records records.now [])))) }
-    {
-        None
-    }
-
     /// Looks at what another handler of the chain answered, and answers in its place or gives it back.
-    fn consult(
-        &self,
+    fn consult<'z>(
+        &'z self,
         alloc: Global,
         name: &LowerName,
         record_type: RecordType,
         info: Option<&RequestInfo<'_>>,
         options: LookupOptions,
-        last: LookupControlFlow<AuthLookup>,
-    ) -> (LookupControlFlow<AuthLookup>, Option<TSigResponseContext>)
-        ensures { consult_gives self.now name.now record_type (option_map information_of (option_copied info.entry)) options last result.0 result.1 };
+        last: LookupControlFlow<AuthLookup<'z>>,
+    ) -> (
+        LookupControlFlow<AuthLookup<'z>>,
+        Option<TSigResponseContext>,
+    )
+        ensures { consult_gives self.now name.now record_type (option_map information_of (option_copied info.entry)) options last.entry result.0 result.1 };
 
     /// Gives the whole zone, or `None` where another handler is to be asked. `now` is in seconds since 1970.
     fn zone_transfer(
@@ -203,7 +189,7 @@ pub trait ZoneHandler: Drop {
         alloc: Global,
         name: &LowerName,
         options: LookupOptions,
-    ) -> LookupControlFlow<AuthLookup>
+    ) -> LookupControlFlow<AuthLookup<'_>>
         ensures { nsec_gives self.now name.now options result };
 
     /// The NSEC3 records of a denial (RFC 5155 section 7.2).
@@ -212,7 +198,7 @@ pub trait ZoneHandler: Drop {
         alloc: Global,
         info: Nsec3QueryInfo<'_>,
         options: LookupOptions,
-    ) -> LookupControlFlow<AuthLookup>
+    ) -> LookupControlFlow<AuthLookup<'_>>
         ensures { nsec3_gives self.now (nsec3_question info.entry) options result };
 
     /// Makes a dynamic update (RFC 2136), and tells whether the zone changed. `now` is in seconds since 1970. Where it

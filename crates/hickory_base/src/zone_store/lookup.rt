@@ -1,13 +1,14 @@
 //! What is asked of a zone, and what it answers.
 
-ghost use Rattle.std.specs.Prelude.{◌≡◌};
+ghost use Rattle.std.specs.Prelude.{◌≡◌, []};
 ghost use Rattle.std.specs.Option.{option_copied};
 ghost use Rattle.std.specs.Slice.Iter.{iter_rest};
 ghost use Rattle.hickory_base.specs.zone_store.Lookups.{asks_for_dnssec, result_of, is_continue, is_break, answers_of, additionals_of, without_additionals};
+ghost use Rattle.hickory_base.specs.declared.zone_store.lookup.AuthLookup.TheVariants.{Records};
 
 use crate::errors::LookupError;
+use crate::zone_store::record_list::RecordList;
 use hickory_wire::{Edns, Items, Query, Record, ResponseCode};
-use std::mem;
 use std::slice::Iter;
 
 /// What a lookup is to take care of; nothing by default.
@@ -90,23 +91,23 @@ pub struct Lookup {
 /// A handler that is consulted afterwards may still replace it. As the answer to a further lookup, of an SOA, of servers or of a denial, only its
 /// answers count.
 #[derive(Debug, Drop)]
-pub struct WholeReply {
+pub struct WholeReply<'z> {
     /// The response code. One of 16 or more needs a request with EDNS: its high eight bits go into the OPT record, and without one they are lost (RFC
     /// 6891 section 6.1.3).
     pub response_code: ResponseCode,
     /// Whether the reply is authority's word, by AA (RFC 1035 section 4.1.1).
     pub authoritative: bool,
     /// The answer section.
-    pub answers: Items<Record>,
+    pub answers: RecordList<'z>,
     /// The authority section.
-    pub authorities: Items<Record>,
+    pub authorities: RecordList<'z>,
     /// The additional section, without OPT and TSIG.
-    pub additionals: Items<Record>,
+    pub additionals: RecordList<'z>,
 }
 
 /// What a lookup found.
 #[derive(Debug, Drop)]
-pub enum AuthLookup {
+pub enum AuthLookup<'z> {
     /// Nothing.
     Empty,
     /// What was resolved elsewhere.
@@ -114,65 +115,64 @@ pub enum AuthLookup {
     /// Records of the zone.
     Records {
         /// Those that were asked for.
-        answers: Items<Record>,
+        answers: RecordList<'z>,
         /// Those that help to use them.
-        additionals: Items<Record>,
+        additionals: RecordList<'z>,
     },
     /// The whole reply, whatever the handler is to the zone: nothing more is looked up for it.
-    Whole(WholeReply),
+    Whole(WholeReply<'z>),
 }
 
-impl AuthLookup {
-    /// The answers, in their order.
-    pub fn iter(&self) -> Iter<'_, Record>
-        ensures { iter_rest result ≡ answers_of self.now }
+impl<'z> AuthLookup<'z> {
+    /// Records of the zone, where they lie, and no additionals. It needs no memory.
+    pub fn lent(answers: &'z [Record]) -> AuthLookup<'z>
+        ensures { result ≡ Records answers.now [] }
     {
-        let answers: &[Record] = match self {
+        AuthLookup::Records {
+            answers: RecordList::lent(answers),
+            additionals: RecordList::empty(),
+        }
+    }
+
+    /// Records of its own, and no additionals. It needs no memory.
+    pub fn owned(answers: Items<Record>) -> AuthLookup<'z>
+        ensures { result ≡ Records answers [] }
+    {
+        AuthLookup::Records {
+            answers: RecordList::owned(answers),
+            additionals: RecordList::empty(),
+        }
+    }
+
+    /// The answers.
+    pub fn answers(&self) -> &[Record]
+        ensures { result.now ≡ answers_of self.now }
+    {
+        match self {
             AuthLookup::Empty => &[],
             AuthLookup::Resolved(found) => found.answers.as_slice(),
             AuthLookup::Records { answers, .. } => answers.as_slice(),
             AuthLookup::Whole(reply) => reply.answers.as_slice(),
-        };
-        answers.iter()
+        }
+    }
+
+    /// The answers, in their order.
+    pub fn iter(&self) -> Iter<'_, Record>
+        ensures { iter_rest result ≡ answers_of self.now }
+    {
+        self.answers().iter()
     }
 
     /// Takes the additionals out of `Records`, which has none after that. It needs no memory.
-    pub fn take_additionals(&mut self) -> Option<Items<Record>>
+    pub fn take_additionals(&mut self) -> Option<RecordList<'z>>
         ensures taken { result ≡ additionals_of self.old }
         ensures left { self.new ≡ without_additionals self.old }
     {
-        match mem::replace(self, AuthLookup::Empty) {
-            AuthLookup::Records {
-                answers,
-                additionals,
-            } => {
-                let additionals = additionals.into_vec();
-                let none = Vec::new(*additionals.allocator());
-                *self = AuthLookup::Records {
-                    answers,
-                    additionals: Items::from_vec(none),
-                };
-                Some(Items::from_vec(additionals))
-            }
-            other => {
-                *self = other;
-                None
-            }
+        match self {
+            AuthLookup::Records { additionals, .. } => Some(additionals.take()),
+            _ => None,
         }
     }
-}
-
-/// What a zone has for a question, where it lies: an answer that takes no memory.
-///
-/// Contracts speak of the answer that it stands for as `stored_result`.
-#[derive(Clone, Copy)]
-pub enum StoredAnswer<'z> {
-    /// The records that are asked for.
-    Records(&'z [Record]),
-    /// The name has no records at all (RFC 2308 section 2.1).
-    NoName,
-    /// The name has records of other types alone (RFC 2308 section 2.2).
-    NoData,
 }
 
 /// The records of a zone transfer, in the order in which they are sent (RFC 5936 section 2.2).

@@ -6,10 +6,8 @@ ghost use Rattle.hickory_base.specs.declared.errors.UpdateFault.TheVariants.{Cod
 use crate::errors::{LookupError, UpdateFault};
 use crate::server::{Request, RequestInfo};
 use crate::zone_store::handler::{AxfrPolicy, Nsec3QueryInfo, NxProofKind, ZoneHandler, ZoneType};
-use crate::zone_store::lookup::{
-    AuthLookup, LookupControlFlow, LookupOptions, StoredAnswer, ZoneTransfer,
-};
-use hickory_wire::{LowerName, Record, RecordType, ResponseCode, TSigResponseContext};
+use crate::zone_store::lookup::{AuthLookup, LookupControlFlow, LookupOptions, ZoneTransfer};
+use hickory_wire::{LowerName, RecordType, ResponseCode, TSigResponseContext};
 use std::alloc::Global;
 use std::rc::Rc;
 
@@ -65,7 +63,7 @@ impl<H: ZoneHandler> ZoneHandler for Rc<H> {
         record_type: RecordType,
         info: Option<&RequestInfo<'_>>,
         options: LookupOptions,
-    ) -> LookupControlFlow<AuthLookup> {
+    ) -> LookupControlFlow<AuthLookup<'_>> {
         (**self).lookup(alloc, name, record_type, info, options)
     }
 
@@ -74,27 +72,25 @@ impl<H: ZoneHandler> ZoneHandler for Rc<H> {
         alloc: Global,
         request: &Request,
         options: LookupOptions,
-    ) -> (LookupControlFlow<AuthLookup>, Option<TSigResponseContext>) {
+    ) -> (
+        LookupControlFlow<AuthLookup<'_>>,
+        Option<TSigResponseContext>,
+    ) {
         (**self).search(alloc, request, options)
     }
 
-    fn stored_answer(&self, request: &Request, options: LookupOptions) -> Option<StoredAnswer<'_>> {
-        (**self).stored_answer(request, options)
-    }
-
-    fn stored_soa(&self, options: LookupOptions) -> Option<&[Record]> {
-        (**self).stored_soa(options)
-    }
-
-    fn consult(
-        &self,
+    fn consult<'z>(
+        &'z self,
         alloc: Global,
         name: &LowerName,
         record_type: RecordType,
         info: Option<&RequestInfo<'_>>,
         options: LookupOptions,
-        last: LookupControlFlow<AuthLookup>,
-    ) -> (LookupControlFlow<AuthLookup>, Option<TSigResponseContext>) {
+        last: LookupControlFlow<AuthLookup<'z>>,
+    ) -> (
+        LookupControlFlow<AuthLookup<'z>>,
+        Option<TSigResponseContext>,
+    ) {
         (**self).consult(alloc, name, record_type, info, options, last)
     }
 
@@ -118,7 +114,7 @@ impl<H: ZoneHandler> ZoneHandler for Rc<H> {
         alloc: Global,
         name: &LowerName,
         options: LookupOptions,
-    ) -> LookupControlFlow<AuthLookup> {
+    ) -> LookupControlFlow<AuthLookup<'_>> {
         (**self).nsec_records(alloc, name, options)
     }
 
@@ -127,7 +123,7 @@ impl<H: ZoneHandler> ZoneHandler for Rc<H> {
         alloc: Global,
         info: Nsec3QueryInfo<'_>,
         options: LookupOptions,
-    ) -> LookupControlFlow<AuthLookup> {
+    ) -> LookupControlFlow<AuthLookup<'_>> {
         // Made anew, so that the argument keeps the lifetime that the signature gives it: lent to the handler inside as it
         // is, it would have that of the call.
         let info = Nsec3QueryInfo {

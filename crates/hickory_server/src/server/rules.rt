@@ -1,6 +1,6 @@
 //! What a server holds every message to.
 
-ghost use Rattle.std.specs.Prelude.{◌≡◌, ◌↔◌, ℕ, Contains, IsTrue, MatchOption};
+ghost use Rattle.std.specs.Prelude.{◌≡◌, ◌≢◌, ◌↔◌, ℕ, Contains, IsTrue, MatchOption};
 ghost use Rattle.wire_messages.specs.declared.op.query.Query.{Query};
 ghost use Rattle.access_control.specs.Access.{Network};
 ghost use Rattle.hickory_server.specs.Ruling.{IsIncremental, IsOfServedClass, IsQuery, IsResponse, IsRuling, IsTransfer, udp_limit};
@@ -29,7 +29,7 @@ pub enum Ruling {
     Refuse,
     /// It is answered with TC and no records, and no zone is asked.
     Truncate,
-    /// It is answered by a transfer of the whole zone.
+    /// It is answered by what the handlers of the zone give as a transfer.
     Transfer,
     /// It is for the zones.
     Pass,
@@ -75,15 +75,19 @@ fn is_transfer(query: &LowerQuery) -> bool
     query.query_type() == RecordType::AXFR || query.query_type() == RecordType::IXFR
 }
 
-/// What becomes over a stream of a question whose asker may have transfers: of what changed in a zone no record is kept, so the whole zone is given.
-fn ruling_over_streams(query: &LowerQuery) -> Ruling
+/// What becomes of a question for a transfer whose asker may have it: what changed in a zone is asked of its handlers over any transport, and the whole
+/// zone over streams alone.
+fn ruling_of_transfer(protocol: Protocol, query: &LowerQuery) -> Ruling
     ensures incremental { IsIncremental query.now → result ≡ Ruling.Transfer }
-    ensures others { ¬ (IsIncremental query.now) → result ≡ Ruling.Pass }
+    ensures datagram { ¬ (IsIncremental query.now) → protocol ≡ Protocol.Udp → result ≡ Ruling.Truncate }
+    ensures stream { ¬ (IsIncremental query.now) → protocol ≢ Protocol.Udp → result ≡ Ruling.Pass }
 {
     if query.query_type() == RecordType::IXFR {
-        Ruling::Transfer
-    } else {
-        Ruling::Pass
+        return Ruling::Transfer;
+    }
+    match protocol {
+        Protocol::Udp => Ruling::Truncate,
+        _ => Ruling::Pass,
     }
 }
 
@@ -125,10 +129,7 @@ impl Rules {
         if !self.transfers.allow(request.src().ip()) {
             return Ruling::Refuse;
         }
-        match request.protocol() {
-            Protocol::Udp => Ruling::Truncate,
-            _ => ruling_over_streams(query),
-        }
+        ruling_of_transfer(request.protocol(), query)
     }
 
     /// What the rules make of a request.

@@ -257,9 +257,9 @@ impl<S: ReplySigner, H: ZoneHandler> Server<S, H> {
     ///
     /// A message whose address may not use the server is denied; one that is shorter than a header, or begins with no message, is
     /// unreadable; one with QR set is a response. None of these has a reply. A query of another class than IN and ANY is answered
-    /// Refused, and so is one for a transfer (AXFR, IXFR) from an address that may have none; any other transfer over UDP is answered
-    /// with TC and no records (RFC 5936 section 4.2), and one for what changed in a zone (IXFR) over another transport by the whole zone (RFC 1995
-    /// section 4). Over UDP no reply is longer than the client takes, nor than the limit of the rules.
+    /// Refused, and so is one for a transfer (AXFR, IXFR) from an address that may have none; a whole zone (AXFR) that is asked for over UDP is answered
+    /// with TC and no records (RFC 5936 section 4.2), and a query for what changed in a zone (IXFR) by what its handlers give as a transfer (RFC 1995 sections 2
+    /// and 4). Over UDP no reply is longer than the client takes, nor than the limit of the rules.
     ///
     /// `Memory` says that the catalog is as before, and `MemoryAfterHandling` that the message was handled and its replies are missing.
     pub fn serve(

@@ -68,12 +68,12 @@ impl BlocklistConfig {
     }
 
     /// The answer for a blocked name, as a resolver would give it.
-    fn resolve(
+    fn resolve<'z>(
         &self,
         alloc: Global,
         name: &Name,
         record_type: RecordType,
-    ) -> Result<AuthLookup, LookupError>
+    ) -> Result<AuthLookup<'z>, LookupError>
         ensures answered { IfOk result (λ found. found ≡ found_for self.now name.now record_type) }
         ensures refused { IfErr result (λ e. e ≡ lookup_error.Memory) }
     {
@@ -110,12 +110,12 @@ impl BlocklistZoneHandler {
     }
 
     /// What a blocked name is answered with, and nothing for any other name.
-    fn block(
+    fn block<'z>(
         &self,
         alloc: Global,
         name: &LowerName,
         record_type: RecordType,
-    ) -> Option<Result<AuthLookup, LookupError>>
+    ) -> Option<Result<AuthLookup<'z>, LookupError>>
         ensures blocked { IfSome result (λ found. (IsBlockedBy self.now name.now × (found ≡ Ok (found_for self.now.config name.now record_type))) ⊎ (found ≡ Err lookup_error.Memory)) }
         ensures free { IfNone result (¬ (IsBlockedBy self.now name.now)) }
     {
@@ -127,14 +127,14 @@ impl BlocklistZoneHandler {
     }
 
     /// The answer for a blocked name, and for any other `otherwise`.
-    fn answer(
+    fn answer<'z>(
         &self,
         alloc: Global,
         name: &LowerName,
         record_type: RecordType,
-        otherwise: LookupControlFlow<AuthLookup>,
-    ) -> LookupControlFlow<AuthLookup>
-        ensures { Answers self.now name.now record_type otherwise result }
+        otherwise: LookupControlFlow<AuthLookup<'z>>,
+    ) -> LookupControlFlow<AuthLookup<'z>>
+        ensures { Answers self.now name.now record_type otherwise.entry result }
     {
         match self.block(alloc, name, record_type) {
             Some(found) => LookupControlFlow::Break(found),
@@ -195,7 +195,7 @@ impl ZoneHandler for BlocklistZoneHandler {
         record_type: RecordType,
         _info: Option<&RequestInfo<'_>>,
         _options: LookupOptions,
-    ) -> LookupControlFlow<AuthLookup> {
+    ) -> LookupControlFlow<AuthLookup<'_>> {
         self.answer(alloc, name, record_type, LookupControlFlow::Skip)
     }
 
@@ -204,7 +204,10 @@ impl ZoneHandler for BlocklistZoneHandler {
         alloc: Global,
         request: &Request,
         _options: LookupOptions,
-    ) -> (LookupControlFlow<AuthLookup>, Option<TSigResponseContext>) {
+    ) -> (
+        LookupControlFlow<AuthLookup<'_>>,
+        Option<TSigResponseContext>,
+    ) {
         match request.request_info() {
             Ok(RequestInfo { query, .. }) => {
                 let skip = LookupControlFlow::Skip;
@@ -215,15 +218,18 @@ impl ZoneHandler for BlocklistZoneHandler {
         }
     }
 
-    fn consult(
-        &self,
+    fn consult<'z>(
+        &'z self,
         alloc: Global,
         name: &LowerName,
         record_type: RecordType,
         _info: Option<&RequestInfo<'_>>,
         _options: LookupOptions,
-        last: LookupControlFlow<AuthLookup>,
-    ) -> (LookupControlFlow<AuthLookup>, Option<TSigResponseContext>) {
+        last: LookupControlFlow<AuthLookup<'z>>,
+    ) -> (
+        LookupControlFlow<AuthLookup<'z>>,
+        Option<TSigResponseContext>,
+    ) {
         match self.config.consult_action {
             BlocklistConsultAction::Enforce => (self.answer(alloc, name, record_type, last), None),
             BlocklistConsultAction::Disabled | BlocklistConsultAction::Log => (last, None),
@@ -250,7 +256,7 @@ impl ZoneHandler for BlocklistZoneHandler {
         _alloc: Global,
         _name: &LowerName,
         _options: LookupOptions,
-    ) -> LookupControlFlow<AuthLookup> {
+    ) -> LookupControlFlow<AuthLookup<'_>> {
         LookupControlFlow::Continue(Err(LookupError::Io))
     }
 
@@ -259,7 +265,7 @@ impl ZoneHandler for BlocklistZoneHandler {
         _alloc: Global,
         _info: Nsec3QueryInfo<'_>,
         _options: LookupOptions,
-    ) -> LookupControlFlow<AuthLookup> {
+    ) -> LookupControlFlow<AuthLookup<'_>> {
         LookupControlFlow::Continue(Err(LookupError::Io))
     }
 

@@ -1,12 +1,12 @@
 //! What the handler answers: transfers by its own policy, and for the rest what the zone in memory answers.
 
-ghost use Rattle.std.specs.Prelude.{◌≡◌, ◌⊎◌, Err, None, false};
+ghost use Rattle.std.specs.Prelude.{◌≡◌, ◌⊎◌, Err, None, Some, false};
 ghost use Rattle.hickory_base.specs.requests.Questions.{one_query};
-ghost use Rattle.hickory_base.specs.zone_store.ZoneAnswers.{LookedUp, whole_zone, zone_soa};
+ghost use Rattle.hickory_base.specs.zone_store.ZoneAnswers.{LookedUp, soa_alone, whole_zone, zone_soa};
 ghost use Rattle.hickory_base.specs.declared.errors.LookupError.TheVariants as lookup_error;
 ghost use Rattle.hickory_base.specs.declared.zone_store.lookup.LookupControlFlow.TheVariants.{Skip};
 ghost use Rattle.hickory_store.specs.Permission.{transfer_permission};
-ghost use Rattle.hickory_store.specs.TransferAnswers.{SearchedIn, TransferredAs, asks_for_transfer, transfer_failure};
+ghost use Rattle.hickory_store.specs.TransferAnswers.{SearchedIn, SoaTransferredAs, TransferredAs, asks_for_transfer, transfer_failure};
 ghost use Rattle.hickory_store.specs.UpdateAnswers.{AnswersUpdate};
 
 use crate::sqlite::handler::SqliteZoneHandler;
@@ -15,7 +15,7 @@ use hickory_base::errors::{DnsError, LookupError, UpdateFault};
 use hickory_base::server::{Request, RequestInfo};
 use hickory_base::zone_store::{
     AuthLookup, AxfrPolicy, InMemoryZoneHandler, LookupControlFlow, LookupOptions, Nsec3QueryInfo,
-    NxProofKind, StoredAnswer, ZoneHandler, ZoneTransfer, ZoneType,
+    NxProofKind, ZoneHandler, ZoneTransfer, ZoneType,
 };
 use hickory_wire::{LowerName, Record, RecordType, TSigResponseContext};
 use std::alloc::Global;
@@ -30,7 +30,24 @@ fn failure(fault: UpdateFault) -> LookupError
     }
 }
 
-/// The whole zone as a transfer, and what the signer of the reply has to know; nothing of that where memory is refused.
+/// What is given for a transfer, and what the signer of the reply has to know; nothing of that where memory is refused.
+fn given(
+    made: Result<ZoneTransfer, LookupError>,
+    context: Option<TSigResponseContext>,
+) -> (
+    Result<ZoneTransfer, LookupError>,
+    Option<TSigResponseContext>,
+)
+    ensures given { (result ≡ (made, context)) ⊎ (result ≡ (Err lookup_error.Memory, None)) }
+    ensures memory { made ≡ Err lookup_error.Memory → result ≡ (Err lookup_error.Memory, None) }
+{
+    match made {
+        Err(LookupError::Memory) => (Err(LookupError::Memory), None),
+        answer => (answer, context),
+    }
+}
+
+/// The whole zone as a transfer.
 fn transfer(
     zone: &InMemoryZoneHandler,
     alloc: Global,
@@ -41,10 +58,21 @@ fn transfer(
 )
     ensures { (result ≡ (whole_zone zone.now (zone_soa zone.now), context)) ⊎ (result ≡ (Err lookup_error.Memory, None)) }
 {
-    match zone.whole_zone(alloc) {
-        Err(LookupError::Memory) => (Err(LookupError::Memory), None),
-        answer => (answer, context),
-    }
+    given(zone.whole_zone(alloc), context)
+}
+
+/// The zone's SOA record alone in the place of a transfer.
+fn soa_alone(
+    zone: &InMemoryZoneHandler,
+    alloc: Global,
+    context: Option<TSigResponseContext>,
+) -> (
+    Result<ZoneTransfer, LookupError>,
+    Option<TSigResponseContext>,
+)
+    ensures { (result ≡ (soa_alone (whole_zone zone.now (zone_soa zone.now)), context)) ⊎ (result ≡ (Err lookup_error.Memory, None)) }
+{
+    given(zone.soa_alone(alloc), context)
 }
 
 /// Whether a request asks for a transfer.
@@ -54,6 +82,28 @@ fn asks_for_transfer(request: &Request) -> bool
     match request.request_info() {
         Ok(RequestInfo { query, .. }) => query.query_type() == RecordType::AXFR,
         Err(_) => false,
+    }
+}
+
+impl<V: Verifier> SqliteZoneHandler<V> {
+    /// The zone's SOA record alone in the place of a transfer (RFC 1995 section 2), for whoever may have one, with what the signer of the reply has to know.
+    /// Without an SOA it is ServFail.
+    pub fn soa_transfer(
+        &self,
+        alloc: Global,
+        request: &Request,
+        now: u64,
+    ) -> (
+        Result<ZoneTransfer, LookupError>,
+        Option<TSigResponseContext>,
+    )
+        ensures { SoaTransferredAs self.now.zone (transfer_permission V.Verifier self.now.verifier self.now.axfr_policy request.now now) (Some result) }
+    {
+        let (permission, context) = self.authorize_transfer(alloc, request, now);
+        match permission {
+            Ok(()) => soa_alone(&self.in_memory, alloc, context),
+            Err(fault) => (Err(failure(fault)), context),
+        }
     }
 }
 
@@ -109,7 +159,7 @@ impl<V: Verifier> ZoneHandler for SqliteZoneHandler<V> {
         record_type: RecordType,
         info: Option<&RequestInfo<'_>>,
         options: LookupOptions,
-    ) -> LookupControlFlow<AuthLookup> {
+    ) -> LookupControlFlow<AuthLookup<'_>> {
         self.in_memory
             .lookup(alloc, name, record_type, info, options)
     }
@@ -119,7 +169,10 @@ impl<V: Verifier> ZoneHandler for SqliteZoneHandler<V> {
         alloc: Global,
         request: &Request,
         options: LookupOptions,
-    ) -> (LookupControlFlow<AuthLookup>, Option<TSigResponseContext>) {
+    ) -> (
+        LookupControlFlow<AuthLookup<'_>>,
+        Option<TSigResponseContext>,
+    ) {
         if asks_for_transfer(request) {
             let failed = Err(LookupError::Net(DnsError::Other));
             return (LookupControlFlow::Break(failed), None);
@@ -127,26 +180,18 @@ impl<V: Verifier> ZoneHandler for SqliteZoneHandler<V> {
         self.in_memory.search(alloc, request, options)
     }
 
-    fn stored_answer(&self, request: &Request, options: LookupOptions) -> Option<StoredAnswer<'_>> {
-        if asks_for_transfer(request) {
-            return None;
-        }
-        self.in_memory.stored_answer(request, options)
-    }
-
-    fn stored_soa(&self, options: LookupOptions) -> Option<&[Record]> {
-        self.in_memory.stored_soa(options)
-    }
-
-    fn consult(
-        &self,
+    fn consult<'z>(
+        &'z self,
         _alloc: Global,
         _name: &LowerName,
         _record_type: RecordType,
         _info: Option<&RequestInfo<'_>>,
         _options: LookupOptions,
-        last: LookupControlFlow<AuthLookup>,
-    ) -> (LookupControlFlow<AuthLookup>, Option<TSigResponseContext>) {
+        last: LookupControlFlow<AuthLookup<'z>>,
+    ) -> (
+        LookupControlFlow<AuthLookup<'z>>,
+        Option<TSigResponseContext>,
+    ) {
         (last, None)
     }
 
@@ -175,7 +220,7 @@ impl<V: Verifier> ZoneHandler for SqliteZoneHandler<V> {
         alloc: Global,
         name: &LowerName,
         options: LookupOptions,
-    ) -> LookupControlFlow<AuthLookup> {
+    ) -> LookupControlFlow<AuthLookup<'_>> {
         self.in_memory.nsec_records(alloc, name, options)
     }
 
@@ -184,7 +229,7 @@ impl<V: Verifier> ZoneHandler for SqliteZoneHandler<V> {
         alloc: Global,
         info: Nsec3QueryInfo<'_>,
         options: LookupOptions,
-    ) -> LookupControlFlow<AuthLookup> {
+    ) -> LookupControlFlow<AuthLookup<'_>> {
         let info = Nsec3QueryInfo {
             qtype: info.qtype,
             ..info

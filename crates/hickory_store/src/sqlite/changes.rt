@@ -5,8 +5,8 @@ ghost use Rattle.std.specs.List.{list_any};
 ghost use Rattle.hickory_base.specs.zone_store.ZoneRecords.{is_at};
 ghost use Rattle.hickory_store.specs.Changes.{changes, comes, goes_when, has_ttl, in_class, in_rrset, is_cleared, is_ignored, is_newer, is_spared, is_there, is_type, replaces_rrset, turn};
 ghost use Rattle.hickory_store.specs.Identity.{same_record, ttl_at};
-ghost use Rattle.hickory_store.specs.Serials.{is_greater};
 
+use hickory_base::zone_store::serials::is_greater;
 use hickory_wire::{DNSClass, Name, RData, Record, RecordType};
 use std::alloc::AllocError;
 
@@ -29,14 +29,6 @@ fn is_same(r: &Record, q: &Record) -> bool
     ensures { result ≡ same_record r.now q.now }
 {
     r == q
-}
-
-/// Whether a serial is greater than another (RFC 1982 section 3.2).
-fn is_greater(a: u32, b: u32) -> bool
-    ensures { result ≡ is_greater a b }
-{
-    const HALF: u32 = 1 << 31;
-    (a < b && HALF < b - a) || (b < a && a - b < HALF)
 }
 
 /// Whether the data are those of an SOA that is newer than the other.

@@ -14,7 +14,8 @@ ghost use Rattle.hickory_base.specs.declared.zone_store.handler.AxfrPolicy.TheVa
 ghost use Rattle.hickory_store.specs.Identity.{same_record, ttl_at};
 ghost use Rattle.hickory_store.specs.Permission.{allowed, is_within, kind_refusal, refused, timed_kind, transfer_permission, update_permission, verified_kind};
 ghost use Rattle.hickory_store.specs.Prescan.{prescan_refusal, update_refusal};
-ghost use Rattle.hickory_store.specs.Serials.{is_greater, next_serial};
+ghost use Rattle.hickory_base.specs.zone_store.Serials.{is_greater};
+ghost use Rattle.hickory_store.specs.Serials.{next_serial};
 ghost use Rattle.hickory_store.specs.UpdateAnswers.{applied};
 ghost use Rattle.hickory_store.specs.WorkedChanges.{added, alias, apex_address, apex_soa, comes_and_goes, deletes, hosts, ns, soa_of, updated, zone_at};
 ghost use Rattle.hickory_store.specs.WorkedUpdates.{address, asked, at_address, nx, origin, outside, required, required_of, scanned_empty, scanned_full, server, soa, types, with_data, www, www_in_capitals, zone};

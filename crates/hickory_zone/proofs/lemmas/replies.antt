@@ -1,5 +1,6 @@
 -- Chains, and the answers that they end in.
 pub mod AllPut
+pub mod AtOnce
 pub mod Finished
 pub mod Follows
 pub mod Handling

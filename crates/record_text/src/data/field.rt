@@ -85,6 +85,12 @@ pub(crate) enum Rest {
     Gateway,
     /// The identity of a host, with the servers where it is met (RFC 8005 section 5).
     HostIdentity,
+    /// A set of types below 128 (RFC 2535 section 5.2).
+    LowTypes,
+    /// A location (RFC 1876 section 3).
+    Location,
+    /// Whether a relay may be asked at once, and the relay (RFC 8777 section 4.2).
+    Relay,
     /// Bytes in the form that is one for all types, which is the only one of the type (RFC 3597 section 5).
     Generic,
 }

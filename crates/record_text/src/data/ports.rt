@@ -1,15 +1,14 @@
 //! The ports of services, as the bits of a bitmap (RFC 1035 section 3.4.2).
 
-ghost use Rattle.std.specs.Prelude.{◌≡◌, ◌≢◌, ◌≤◌, false, IfErr, IfOk, OnErr, OnOk};
+ghost use Rattle.std.specs.Prelude.{◌≡◌, ◌≢◌, false, IfErr, IfOk, OnErr, OnOk};
 ghost use Rattle.text_words.specs.declared.error.TextError.TheVariants.{Memory};
 ghost use Rattle.text_words.specs.Spelling.{Puts};
 ghost use Rattle.record_text.specs.RecordText.{ArePortBits, ArePorts, HasNone, SpellsPort};
-ghost use Rattle.record_text.specs.TypeBitmaps.{bitmap_len};
 
 use crate::data::field::Names;
 use crate::data::fields::number16;
 use crate::data::mnemonics::number_named;
-use crate::data::types::put_bitmap;
+use crate::data::types::{bitmap_len, put_bitmap};
 use std::alloc::Global;
 use text_words::{TextError, TextFault, Word};
 
@@ -37,18 +36,6 @@ fn ports(alloc: Global, words: &[Word<'_>]) -> Result<Vec<u16>, TextError>
         ports.push(port(word)?)?;
     }
     Ok(ports)
-}
-
-/// How many bytes a bitmap has that goes to the byte of the greatest of some numbers.
-fn bitmap_len(numbers: &[u16]) -> u16
-    ensures value { result ≡ bitmap_len numbers.now }
-    ensures small { result ≤ 8192 }
-{
-    let mut len = 0;
-    for number in numbers {
-        len = len.max(*number / 8 + 1);
-    }
-    len
 }
 
 /// Puts the bits of the ports that words are behind other bytes.

@@ -4,24 +4,11 @@ ghost use Rattle.std.specs.Prelude.{if◌then◌else◌, ◌≡◌, ◌≢◌, �
 ghost use Rattle.text_words.specs.declared.error.TextError.TheVariants.{Memory};
 ghost use Rattle.text_words.specs.Spelling.{IsNoNumber, IsNumber, Puts};
 ghost use Rattle.record_text.specs.RecordText.{HasNone};
-ghost use Rattle.record_text.specs.Prefixes.{ArePrefixes, IsAddressOf, IsPrefixOf, SpellsPrefix, address_bits, before_byte, behind_byte, is_negated, trimmed, without_mark};
+ghost use Rattle.record_text.specs.Prefixes.{ArePrefixes, IsAddressOf, IsPrefixOf, SpellsPrefix, address_bits, is_negated, trimmed, without_mark};
 
 use std::alloc::Global;
 use std::net::{Ipv4Addr, Ipv6Addr};
-use text_words::{TextError, TextFault, Word, number_of_digits};
-
-/// What stands in a text before the first such byte, and behind it; all of it and nothing, where it has none.
-fn cut_at(text: &[u8], byte: u8) -> (&[u8], &[u8])
-    ensures before { result.0.now ≡ before_byte byte text.now }
-    ensures behind { result.1.now ≡ behind_byte byte text.now }
-{
-    for place in 0..text.len() {
-        if text[place] == byte {
-            return (&text[..place], &text[place + 1..]);
-        }
-    }
-    (text, &text[text.len()..])
-}
+use text_words::{TextError, TextFault, Word, cut_at, number_of_digits};
 
 /// Whether `!` stands first, and what stands behind it.
 fn without_mark(text: &[u8]) -> (bool, &[u8])

@@ -12,11 +12,13 @@ use crate::data::gateway::put_gateway;
 use crate::data::host_identity::put_host;
 use crate::data::ports::put_ports;
 use crate::data::prefixes::put_prefixes;
-use crate::data::types::put_types;
+use crate::data::relay::put_relay;
+use crate::data::types::{put_low_types, put_types};
 use base64::DecodeAllocError;
 use base64::engine::general_purpose::STANDARD;
 use hex::FromHexError;
 use hickory_wire::Name;
+use location_text::put_location;
 use service_text::put_parameters;
 use std::alloc::Global;
 use text_words::{TextError, TextFault, Word, fault_at, put_string};
@@ -125,6 +127,9 @@ pub(crate) fn put_rest(
         (Rest::Services, _) => put_ports(alloc, words, data),
         (Rest::Prefixes, _) => put_prefixes(alloc, words, data),
         (Rest::Gateway, _) => put_gateway(alloc, words, end, origin, data),
+        (Rest::LowTypes, _) => put_low_types(alloc, words, data),
+        (Rest::Location, _) => put_location(words, end, data),
+        (Rest::Relay, _) => put_relay(alloc, words, end, origin, data),
         (Rest::HostIdentity, _) => put_host(alloc, words, end, origin, data),
         (Rest::Generic, None) => Err(fault_at(end, TextFault::MissingField)),
         (Rest::Strings, None) => Err(fault_at(end, TextFault::MissingField)),

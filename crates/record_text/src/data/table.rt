@@ -10,7 +10,7 @@ use hickory_wire::RecordType;
 use text_words::{TextError, TextFault, Word, number_of_digits};
 
 /// The types by their numbers (RFC 1035 section 3.2.2, IANA's registry).
-static ROWS: [Row; 83] = [
+static ROWS: [Row; 90] = [
     Row {
         number: 1,
         mnemonic: "A",
@@ -199,6 +199,18 @@ static ROWS: [Row; 83] = [
         mnemonic: "AAAA",
         fields: &[Field::Ipv6],
         rest: Rest::Nothing,
+    },
+    Row {
+        number: 29,
+        mnemonic: "LOC",
+        fields: &[],
+        rest: Rest::Location,
+    },
+    Row {
+        number: 30,
+        mnemonic: "NXT",
+        fields: &[Field::Name],
+        rest: Rest::LowTypes,
     },
     Row {
         number: 31,
@@ -473,6 +485,30 @@ static ROWS: [Row; 83] = [
         rest: Rest::Strings,
     },
     Row {
+        number: 100,
+        mnemonic: "UINFO",
+        fields: &[],
+        rest: Rest::Generic,
+    },
+    Row {
+        number: 101,
+        mnemonic: "UID",
+        fields: &[],
+        rest: Rest::Generic,
+    },
+    Row {
+        number: 102,
+        mnemonic: "GID",
+        fields: &[],
+        rest: Rest::Generic,
+    },
+    Row {
+        number: 103,
+        mnemonic: "UNSPEC",
+        fields: &[],
+        rest: Rest::Generic,
+    },
+    Row {
         number: 104,
         mnemonic: "NID",
         fields: &[Field::Number16, Field::Locator64],
@@ -561,6 +597,12 @@ static ROWS: [Row; 83] = [
         mnemonic: "AVC",
         fields: &[],
         rest: Rest::Strings,
+    },
+    Row {
+        number: 260,
+        mnemonic: "AMTRELAY",
+        fields: &[Field::Number8],
+        rest: Rest::Relay,
     },
     Row {
         number: 261,

@@ -1,15 +1,15 @@
 //! Sets of types as bytes (RFC 4034 section 4.1.2).
 
-ghost use Rattle.std.specs.Prelude.{◌≡◌, ◌==◌, ◌<◌, ◌≤◌, ◌+◌, ◌*◌, ◌++◌, ◌≢◌, IfErr, IfOk, OnOk};
+ghost use Rattle.std.specs.Prelude.{◌≡◌, ◌==◌, ◌<◌, ◌≤◌, ◌+◌, ◌*◌, ◌++◌, ◌≢◌, false, IfErr, IfOk, OnErr, OnOk};
 ghost use Rattle.std.specs.List.{list_any};
 ghost use Rattle.text_words.specs.declared.error.TextError.TheVariants.{Memory};
 ghost use Rattle.text_words.specs.Spelling.{Puts};
-ghost use Rattle.record_text.specs.RecordText.{AreTypes, HasNone, IsTypeSet};
-ghost use Rattle.record_text.specs.TypeBitmaps.{bitmap, bitmap_octet, type_bit, window_len, window_octets, windows};
+ghost use Rattle.record_text.specs.RecordText.{AreLowTypes, AreTypes, HasNone, IsLowTypeSet, IsTypeSet, SpellsType};
+ghost use Rattle.record_text.specs.TypeBitmaps.{bitmap, bitmap_len, bitmap_octet, type_bit, window_len, window_octets, windows};
 
 use crate::data::table::type_of;
 use std::alloc::{AllocError, Global};
-use text_words::{TextError, Word};
+use text_words::{TextError, TextFault, Word};
 
 /// Whether a type is among some.
 fn has_type(types: &[u16], number: u16) -> bool
@@ -120,5 +120,55 @@ pub(crate) fn put_types(
 {
     let types = numbers(alloc, words)?;
     put_windows(types.as_slice(), 256, data)?;
+    Ok(())
+}
+
+/// How many bytes a bitmap has that goes to the byte of the greatest of some numbers.
+pub(crate) fn bitmap_len(numbers: &[u16]) -> u16
+    ensures value { result ≡ bitmap_len numbers.now }
+    ensures small { result ≤ 8192 }
+{
+    let mut len = 0;
+    for number in numbers {
+        len = len.max(*number / 8 + 1);
+    }
+    len
+}
+
+/// The number of a type from 1 to 127 that a word is.
+fn low_type(word: &Word<'_>) -> Result<u16, TextError>
+    ensures spelled { IfOk result (λ number. (word.now.quoted ≡ false) × SpellsType word.now.bytes.now number × (0 < number) × (number < 128)) }
+    ensures refused { OnErr result (HasNone (λ number. (word.now.quoted ≡ false) × SpellsType word.now.bytes.now number × (0 < number) × (number < 128))) }
+{
+    let number = type_of(word)?.value();
+    if number == 0 || number > 127 {
+        return Err(word.fault(TextFault::NumberOutOfRange));
+    }
+    Ok(number)
+}
+
+/// The numbers of the types from 1 to 127 that words are.
+fn low_types(alloc: Global, words: &[Word<'_>]) -> Result<Vec<u16>, TextError>
+    ensures spelled { IfOk result (λ numbers. AreLowTypes words.now numbers.items) }
+    ensures refused { IfErr result (λ e. e ≢ Memory → HasNone (AreLowTypes words.now)) }
+{
+    let mut numbers = Vec::new(alloc);
+    for word in words {
+        numbers.push(low_type(word)?)?;
+    }
+    Ok(numbers)
+}
+
+/// Puts the set of types from 1 to 127 that words are behind other bytes (RFC 2535 section 5.2).
+pub(crate) fn put_low_types(
+    alloc: Global,
+    words: &[Word<'_>],
+    data: &mut Vec<u8>,
+) -> Result<(), TextError>
+    ensures put { OnOk result (Puts (IsLowTypeSet words.now) «data».old.items «data».new.items) }
+    ensures refused { IfErr result (λ e. e ≢ Memory → HasNone (IsLowTypeSet words.now)) }
+{
+    let types = low_types(alloc, words)?;
+    put_bitmap(types.as_slice(), 0, bitmap_len(types.as_slice()), data)?;
     Ok(())
 }

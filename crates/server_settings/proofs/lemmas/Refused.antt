@@ -1,9 +1,9 @@
 -- What has settings is not refused.
-use Rattle.std.proofs.Common.{◌≡◌, ℕ, List, true, false, Option, Some, None, String, Global, option_map, refl, sym, ap, subst, ◌∙◌, inl, inr}
+use Rattle.std.proofs.Common.{◌≡◌, ℕ, List, true, Option, Some, None, String, Global, refl, sym, ap, subst, ◌∙◌, inl, inr}
 use Rattle.std.proofs.lemmas.Bool.{false≢true}
 use Rattle.std.specs.Prelude.{is_some}
 use Rattle.toml.specs.Data.{Data, Members, no_members, member}
-use Rattle.server_settings.specs.Settings.{AreKnown, HasMember, IsDocument, IsRefused, Pair, is_option, join, settings_of, texts_of, under}
+use Rattle.server_settings.specs.Settings.{AreKnown, HasMember, IsDocument, IsRefused, Pair, is_option, join, settings_of, settings_under}
 
 pub same_some : {A : Type 0} (a b : A) → Some a ≡ Some b → a ≡ b
 same_some a b e = ap (λ o. elim o [ Some x ↦ x | None ↦ a ]) e
@@ -18,13 +18,11 @@ joined (Some front) (Some back) settings e = (refl, (back, refl))
 joined (Some front) None settings e = absurd (false≢true (ap is_some e))
 joined None back settings e = absurd (false≢true (ap is_some e))
 
-none_under : (name : List ℕ) (texts : Option (List (List ℕ))) → texts ≡ None → is_some (option_map (under name) texts) ≡ false
-none_under name texts none = ap (λ t. is_some (option_map (under name) t)) none
-
-given_member : (ms : Members) (settings : List Pair) (name : List ℕ) (d : Data) → settings_of ms ≡ Some settings → HasMember name d ms → texts_of d ≡ None → ⊥
+given_member : (ms : Members) (settings : List Pair) (name : List ℕ) (d : Data) → settings_of ms ≡ Some settings → HasMember name d ms → settings_under name d ≡ None → ⊥
 given_member no_members settings name d given there none = elim there [ ]
-given_member (member k e ms) settings name d given (inl (_, is)) none =
-    false≢true (sym (none_under k (texts_of e) (ap texts_of is ∙ none)) ∙ (joined _ _ settings given).0)
+given_member (member k e ms) settings name d given (inl (named, is)) none =
+    let nothing : settings_under k e ≡ None = rw (named, is) none in
+    false≢true (sym (ap is_some nothing) ∙ (joined _ _ settings given).0)
 given_member (member k e ms) settings name d given (inr there) none =
     let (_, (rest, back)) = joined _ _ settings given in
     given_member ms rest name d back there none

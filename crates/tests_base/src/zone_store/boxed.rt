@@ -24,7 +24,7 @@ struct Scripted {
     is_updated: bool,
 }
 
-fn number(count: usize) -> Result<AuthLookup, LookupError> {
+fn number<'z>(count: usize) -> Result<AuthLookup<'z>, LookupError> {
     Err(LookupError::BadQueryCount(count))
 }
 
@@ -89,7 +89,7 @@ impl ZoneHandler for Scripted {
         record_type: RecordType,
         info: Option<&RequestInfo<'_>>,
         options: LookupOptions,
-    ) -> LookupControlFlow<AuthLookup> {
+    ) -> LookupControlFlow<AuthLookup<'_>> {
         let is_known = info.is_some() && options.dnssec_ok && *name == self.origin;
         let count = usize::from(record_type.value());
         LookupControlFlow::Continue(number(if is_known { count } else { 0 }))
@@ -100,20 +100,26 @@ impl ZoneHandler for Scripted {
         _alloc: Global,
         request: &Request,
         _options: LookupOptions,
-    ) -> (LookupControlFlow<AuthLookup>, Option<TSigResponseContext>) {
+    ) -> (
+        LookupControlFlow<AuthLookup<'_>>,
+        Option<TSigResponseContext>,
+    ) {
         let id = request.metadata().id;
         (LookupControlFlow::Skip, context(id, 0))
     }
 
-    fn consult(
-        &self,
+    fn consult<'z>(
+        &'z self,
         _alloc: Global,
         _name: &LowerName,
         record_type: RecordType,
         _info: Option<&RequestInfo<'_>>,
         _options: LookupOptions,
-        last: LookupControlFlow<AuthLookup>,
-    ) -> (LookupControlFlow<AuthLookup>, Option<TSigResponseContext>) {
+        last: LookupControlFlow<AuthLookup<'z>>,
+    ) -> (
+        LookupControlFlow<AuthLookup<'z>>,
+        Option<TSigResponseContext>,
+    ) {
         (last, context(record_type.value(), 0))
     }
 
@@ -137,7 +143,7 @@ impl ZoneHandler for Scripted {
         _alloc: Global,
         name: &LowerName,
         _options: LookupOptions,
-    ) -> LookupControlFlow<AuthLookup> {
+    ) -> LookupControlFlow<AuthLookup<'_>> {
         LookupControlFlow::Break(number(name.as_name().num_labels()))
     }
 
@@ -146,7 +152,7 @@ impl ZoneHandler for Scripted {
         _alloc: Global,
         info: Nsec3QueryInfo<'_>,
         _options: LookupOptions,
-    ) -> LookupControlFlow<AuthLookup> {
+    ) -> LookupControlFlow<AuthLookup<'_>> {
         LookupControlFlow::Break(number(usize::from(info.iterations)))
     }
 

@@ -37,7 +37,7 @@ fn told(fault: &LookupError) -> Word {
 }
 
 /// The word for an answer, with its number of records or of questions, or its code.
-fn word(answer: &LookupControlFlow<AuthLookup>) -> Word {
+fn word(answer: &LookupControlFlow<AuthLookup<'_>>) -> Word {
     match answer {
         LookupControlFlow::Continue(Ok(found)) => ("found", found.iter().count()),
         LookupControlFlow::Continue(Err(fault)) => told(fault),
@@ -48,7 +48,7 @@ fn word(answer: &LookupControlFlow<AuthLookup>) -> Word {
 }
 
 /// The same word, of an answer that is not used any more.
-pub(crate) fn last_word(answer: LookupControlFlow<AuthLookup>) -> Word {
+pub(crate) fn last_word(answer: LookupControlFlow<AuthLookup<'_>>) -> Word {
     let told = word(&answer);
     drop(answer);
     told

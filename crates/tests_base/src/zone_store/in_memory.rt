@@ -2,8 +2,7 @@
 
 use super::fixtures::{PLAIN, Sets, Word, last_word, lower, put_address, put_start, zone_of};
 use crate::fixtures::{QUERY, request};
-use hickory_base::server::Request;
-use hickory_base::zone_store::{InMemoryZoneHandler, StoredAnswer, ZoneHandler};
+use hickory_base::zone_store::{InMemoryZoneHandler, ZoneHandler};
 use hickory_wire::RecordType;
 use std::alloc::Global;
 use std::collections::BTreeMap;
@@ -91,60 +90,49 @@ const OTHER_TYPE: [u8; 33] =
 const NO_NAME: [u8; 33] =
     *b"\x12\x34\x01\x00\x00\x01\x00\x00\x00\x00\x00\x00\x03wwx\x07example\x03com\x00\x00\x01\x00\x01";
 
-/// The word for what a handler lends for a request, with its number of records.
-fn lent_for<H: ZoneHandler>(handler: &H, request: &Request) -> Word {
-    match handler.stored_answer(request, PLAIN) {
-        Some(StoredAnswer::Records(records)) => ("records", records.len()),
-        Some(StoredAnswer::NoName) => ("no name", 0),
-        Some(StoredAnswer::NoData) => ("no data", 0),
-        None => ("nothing", 0),
-    }
-}
-
-/// The same for a request of these bytes.
-fn lent<H: ZoneHandler>(alloc: Global, handler: &H, bytes: &[u8]) -> Result<Word, Fail> {
+/// The word for what a handler answers to a request of these bytes.
+fn answered<H: ZoneHandler>(alloc: Global, handler: &H, bytes: &[u8]) -> Result<Word, Fail> {
     let request = request(alloc, bytes)?;
-    let told = lent_for(handler, &request);
+    let (answer, context) = handler.search(alloc, &request, PLAIN);
+    let told = last_word(answer);
+    drop(context);
     drop(request);
     Ok(told)
 }
 
-/// The same for a name that is there, for one with other records, and for one that is not there; and how many records are lent for
-/// the SOA.
-fn all_lent<H: ZoneHandler>(
-    alloc: Global,
-    handler: &H,
-) -> Result<([Word; 3], Option<usize>), Fail> {
+/// The same for a name that is there, for one with other records, and for one that is not there; and the word for the SOA.
+fn all_answered<H: ZoneHandler>(alloc: Global, handler: &H) -> Result<([Word; 3], Word), Fail> {
     let words = [
-        lent(alloc, handler, &QUERY)?,
-        lent(alloc, handler, &OTHER_TYPE)?,
-        lent(alloc, handler, &NO_NAME)?,
+        answered(alloc, handler, &QUERY)?,
+        answered(alloc, handler, &OTHER_TYPE)?,
+        answered(alloc, handler, &NO_NAME)?,
     ];
-    Ok((words, handler.stored_soa(PLAIN).map(|soa| soa.len())))
+    let soa = handler.lookup(alloc, handler.origin(), RecordType::SOA, None, PLAIN);
+    Ok((words, last_word(soa)))
 }
 
-/// What is lent by a zone.
-fn lent_by_zone(alloc: Global) -> Result<([Word; 3], Option<usize>), Fail> {
+/// What a zone answers.
+fn answered_by_zone(alloc: Global) -> Result<([Word; 3], Word), Fail> {
     let zone = zone_with_start(alloc)?;
-    let told = all_lent(alloc, &zone);
+    let told = all_answered(alloc, &zone);
     drop(zone);
     told
 }
 
-/// What is lent out of a box.
-fn lent_by_box(alloc: Global) -> Result<([Word; 3], Option<usize>), Fail> {
+/// What it answers out of a box.
+fn answered_by_box(alloc: Global) -> Result<([Word; 3], Word), Fail> {
     let zone: Box<dyn ZoneHandler> = Box::new(alloc, zone_with_start(alloc)?)?;
-    let told = all_lent(alloc, &zone);
+    let told = all_answered(alloc, &zone);
     drop(zone);
     told
 }
 
 #[test]
 fn a_box_lends_what_its_zone_lends(rt: HostRuntime) -> Result<(), Fail> {
-    let expected = ([("records", 1), ("no data", 0), ("no name", 0)], Some(1));
-    let by_zone = lent_by_zone(rt.alloc())?;
+    let expected = ([("found", 1), ("no records", 0), ("code", 3)], ("found", 1));
+    let by_zone = answered_by_zone(rt.alloc())?;
     assert_eq!(rt; by_zone, expected);
-    let by_box = lent_by_box(rt.alloc())?;
+    let by_box = answered_by_box(rt.alloc())?;
     assert_eq!(rt; by_box, expected);
     Ok(())
 }

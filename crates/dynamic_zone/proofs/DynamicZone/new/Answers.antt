@@ -1,10 +1,7 @@
+-- The overview is of the zone.
 use Rattle.std.proofs.Common.{subst}
-use Rattle.std.specs.Prelude.{◌↔◌, IsTrue}
-use Rattle.hickory_zone.specs.Features.{AreFeatures}
-use Rattle.hickory_zone.specs.Replies.{zone_of}
-use Rattle.hickory_zone.specs.Zones.{AreOwners}
+use Rattle.dynamic_zone.specs.Overviews.{IsOverview}
 use Rattle.dynamic_zone.proofs.DynamicZone.new.Goals as goal
 
 pub invariant_of-result : goal.invariant_of-result
-invariant_of-result g c =
-    subst (λ z. AreFeatures (zone_of z) c.seen-is_owned.result.0 × (IsTrue c.seen-is_owned.result.1 ↔ AreOwners z.origin z.sets)) c.in_memory.ensures (c.seen-is_owned.ensures.has, c.seen-is_owned.ensures.owned)
+invariant_of-result g c = subst (λ z. IsOverview z c.of-overview.result) c.in_memory.ensures (c.of-overview.ensures.has, c.of-overview.ensures.owned)

@@ -1,34 +1,53 @@
 //! How a zone that is held in memory answers.
 
-ghost use Rattle.std.specs.Prelude.{◌≡◌, [], Err, IfSome, None, Ok, Some, false, is_some};
+ghost use Rattle.std.specs.Prelude.{◌≡◌, ◌≢◌, Err, IfSome, None, false, true};
 ghost use Rattle.std.specs.Map.{lookup};
 ghost use Rattle.std.specs.Option.{option_copied};
 ghost use Rattle.hickory_base.specs.requests.Questions.{one_query};
-ghost use Rattle.hickory_base.specs.zone_store.Lookups.{stored_result};
-ghost use Rattle.hickory_base.specs.zone_store.ZoneAnswers.{LookedUp, OrMemory, Searched, Transferred, asks_for_set, transfer_answer};
+ghost use Rattle.hickory_base.specs.zone_store.ZoneAnswers.{LookedUp, OrMemory, Searched, Transferred, asks_for_set, found, soa_alone, transfer_answer, zone_answer};
 ghost use Rattle.hickory_base.specs.zone_store.ZoneSets.{is_key};
 ghost use Rattle.hickory_base.specs.declared.errors.UpdateFault.TheVariants.{Code};
-ghost use Rattle.hickory_base.specs.declared.zone_store.lookup.AuthLookup.TheVariants.{Records};
+ghost use Rattle.hickory_base.specs.declared.errors.LookupError.TheVariants.{Memory};
 ghost use Rattle.hickory_base.specs.declared.zone_store.lookup.LookupControlFlow.TheVariants.{Continue, Skip};
 
 use crate::errors::{LookupError, UpdateFault};
 use crate::server::{Request, RequestInfo};
-use crate::zone_store::find::{find, find_stored};
+use crate::zone_store::find::{find, find_from};
 use crate::zone_store::handler::{AxfrPolicy, Nsec3QueryInfo, NxProofKind, ZoneHandler, ZoneType};
 use crate::zone_store::in_memory::InMemoryZoneHandler;
-use crate::zone_store::lookup::{
-    AuthLookup, LookupControlFlow, LookupOptions, StoredAnswer, ZoneTransfer,
-};
+use crate::zone_store::lookup::{AuthLookup, LookupControlFlow, LookupOptions, ZoneTransfer};
 use hickory_wire::{LowerName, Record, RecordType, ResponseCode, TSigResponseContext};
 use std::alloc::Global;
 
 impl InMemoryZoneHandler {
+    /// The records of type SOA at the origin, where these are asked for. It needs no memory.
+    fn soa_asked(&self, name: &LowerName, record_type: RecordType) -> Option<&[Record]>
+        ensures asked { IfSome result (λ records. zone_answer self.now.sets name.now record_type ≡ found records.now) }
+        ensures given { name.now ≡ self.now.origin → record_type ≡ 6 → option_copied result ≡ lookup (is_key self.now.origin 6) self.now.sets }
+    {
+        if record_type.value() == RecordType::SOA.value() && *name == self.apex.name {
+            self.soa_set()
+        } else {
+            None
+        }
+    }
+
     /// The zone's records for whoever may have them.
     fn transfer(&self, alloc: Global) -> Result<ZoneTransfer, LookupError>
         ensures { OrMemory (transfer_answer self.now) result }
     {
         match self.axfr_policy {
             AxfrPolicy::AllowAll => self.whole_zone(alloc),
+            _ => Err(LookupError::ResponseCode(ResponseCode::REFUSED)),
+        }
+    }
+
+    /// The zone's SOA record alone in the place of a transfer, for whoever may have one (RFC 1995 section 2). Without an SOA it is ServFail.
+    pub fn soa_transfer(&self, alloc: Global) -> Result<ZoneTransfer, LookupError>
+        ensures { OrMemory (soa_alone (transfer_answer self.now)) result }
+    {
+        match self.axfr_policy {
+            AxfrPolicy::AllowAll => self.soa_alone(alloc),
             _ => Err(LookupError::ResponseCode(ResponseCode::REFUSED)),
         }
     }
@@ -79,6 +98,7 @@ impl ZoneHandler for InMemoryZoneHandler {
         None
     }
 
+    /// What is lent of a set takes no memory, but a key to find it does; the SOA of the zone takes none.
     fn lookup(
         &self,
         alloc: Global,
@@ -86,54 +106,49 @@ impl ZoneHandler for InMemoryZoneHandler {
         record_type: RecordType,
         _info: Option<&RequestInfo<'_>>,
         _options: LookupOptions,
-    ) -> LookupControlFlow<AuthLookup> {
+    ) -> LookupControlFlow<AuthLookup<'_>>
+        ensures gives { LookedUp self.now name.now record_type result }
+        ensures soa { name.now ≡ self.now.origin → record_type ≡ 6 → IfSome (lookup (is_key self.now.origin 6) self.now.sets) (λ records. result ≡ Continue (found records)) }
+    {
+        if let Some(records) = self.soa_asked(name, record_type) {
+            return LookupControlFlow::Continue(Ok(AuthLookup::lent(records)));
+        }
         LookupControlFlow::Continue(find(alloc, &self.records, name, record_type))
     }
 
+    /// It takes no memory, unless records of any type are asked for, which are copied.
     fn search(
         &self,
         alloc: Global,
         request: &Request,
-        options: LookupOptions,
-    ) -> (LookupControlFlow<AuthLookup>, Option<TSigResponseContext>) {
+        _options: LookupOptions,
+    ) -> (
+        LookupControlFlow<AuthLookup<'_>>,
+        Option<TSigResponseContext>,
+    )
+        ensures gives { Searched self.now request.now result.0 × (result.1 ≡ None) }
+        ensures lent { asks_for_set (one_query request.now.message.queries.queries) ≡ true → result.0 ≢ Continue (Err Memory) }
+    {
         let query = match request.message().queries.try_as_query() {
             Ok(query) => query,
             Err(e) => return (LookupControlFlow::Break(Err(e)), None),
         };
-        (
-            self.lookup(alloc, query.name(), query.query_type(), None, options),
-            None,
-        )
+        let found = find_from(alloc, &self.records, query.first_key(), query.query_type());
+        (LookupControlFlow::Continue(found), None)
     }
 
-    /// What is stored for the one question, unless records of any type are asked for.
-    fn stored_answer(&self, request: &Request, _options: LookupOptions) -> Option<StoredAnswer<'_>>
-        ensures stored { IfSome result (λ answer. Searched self.now request.now (Continue (stored_result answer))) }
-        ensures lends { is_some result ≡ asks_for_set (one_query request.now.message.queries.queries) }
-    {
-        match request.message().queries.try_as_query() {
-            Ok(query) => find_stored(&self.records, query.first_key(), query.query_type()),
-            Err(_) => None,
-        }
-    }
-
-    /// The records of type SOA at the origin, where there are any.
-    fn stored_soa(&self, _options: LookupOptions) -> Option<&[Record]>
-        ensures stored { IfSome result (λ records. LookedUp self.now self.now.origin 6 (Continue (Ok (Records records.now [])))) }
-        ensures lends { option_copied result ≡ lookup (is_key self.now.origin 6) self.now.sets }
-    {
-        self.soa_set()
-    }
-
-    fn consult(
-        &self,
+    fn consult<'z>(
+        &'z self,
         _alloc: Global,
         _name: &LowerName,
         _record_type: RecordType,
         _info: Option<&RequestInfo<'_>>,
         _options: LookupOptions,
-        last: LookupControlFlow<AuthLookup>,
-    ) -> (LookupControlFlow<AuthLookup>, Option<TSigResponseContext>) {
+        last: LookupControlFlow<AuthLookup<'z>>,
+    ) -> (
+        LookupControlFlow<AuthLookup<'z>>,
+        Option<TSigResponseContext>,
+    ) {
         (last, None)
     }
 
@@ -157,7 +172,7 @@ impl ZoneHandler for InMemoryZoneHandler {
         _alloc: Global,
         _name: &LowerName,
         _options: LookupOptions,
-    ) -> LookupControlFlow<AuthLookup> {
+    ) -> LookupControlFlow<AuthLookup<'_>> {
         LookupControlFlow::Skip
     }
 
@@ -166,7 +181,7 @@ impl ZoneHandler for InMemoryZoneHandler {
         _alloc: Global,
         _info: Nsec3QueryInfo<'_>,
         _options: LookupOptions,
-    ) -> LookupControlFlow<AuthLookup> {
+    ) -> LookupControlFlow<AuthLookup<'_>> {
         LookupControlFlow::Skip
     }
 

@@ -1,9 +1,9 @@
 //! The records of a zone that is held in memory: by name and type, and as a whole.
 
-ghost use Rattle.std.specs.Prelude.{◌≡◌, ◌++◌, OnOk, IfOk, Some, Ok, cond, drop, filter};
+ghost use Rattle.std.specs.Prelude.{◌≡◌, ◌++◌, ◌∷◌, [], OnOk, IfOk, MatchResult, None, Some, Ok, cond, drop, filter};
 ghost use Rattle.std.specs.List.{flat_map, list_any};
 ghost use Rattle.std.specs.Option.{option_copied};
-ghost use Rattle.hickory_base.specs.zone_store.ZoneAnswers.{OrMemory, whole_zone, zone_soa};
+ghost use Rattle.hickory_base.specs.zone_store.ZoneAnswers.{OrMemory, soa_alone, whole_zone, zone_soa};
 ghost use Rattle.hickory_base.specs.zone_store.ZoneRecords.{existing, is_at, rrset};
 ghost use Rattle.hickory_base.specs.zone_store.ZoneSets.{is_key, keys_at, sets_of, zone_records};
 
@@ -33,6 +33,15 @@ fn append_others(
         append_copies(all, others)?;
     }
     Ok(())
+}
+
+/// A copy of one record as all that is sent.
+fn one_record(alloc: Global, record: &Record) -> Result<ZoneTransfer, AllocError>
+    ensures { IfOk result (λ transfer. transfer.records ≡ «record».now ∷ []) }
+{
+    let mut records = Items::new(alloc);
+    records.push(record.clone()?)?;
+    Ok(ZoneTransfer { records })
 }
 
 impl InMemoryZoneHandler {
@@ -82,14 +91,31 @@ impl InMemoryZoneHandler {
         })
     }
 
+    /// The SOA record at the origin; without one it is ServFail.
+    fn soa_or_failure(&self) -> Result<&Record, LookupError>
+        ensures { MatchResult result (λ soa. zone_soa self.now ≡ Some soa.now) (λ e. (zone_soa self.now ≡ None) × (e ≡ LookupError.ResponseCode 2)) }
+    {
+        match self.soa() {
+            None => Err(LookupError::ResponseCode(ResponseCode::SERV_FAIL)),
+            Some(soa) => Ok(soa),
+        }
+    }
+
     /// The whole zone as a transfer, whoever may have it: the SOA record at the origin, all other records in the order
     /// of the sets, and that SOA record again (RFC 5936 section 2.2). Without an SOA it is ServFail.
     pub fn whole_zone(&self, alloc: Global) -> Result<ZoneTransfer, LookupError>
         ensures { OrMemory (whole_zone self.now (zone_soa self.now)) result }
     {
-        match self.soa() {
-            None => Err(LookupError::ResponseCode(ResponseCode::SERV_FAIL)),
-            Some(soa) => Ok(self.all_records(alloc, soa)?),
-        }
+        let soa = self.soa_or_failure()?;
+        Ok(self.all_records(alloc, soa)?)
+    }
+
+    /// The SOA record at the origin alone, as the whole answer to a query for what changed in the zone (RFC 1995 section 2), whoever may have it.
+    /// Without an SOA it is ServFail.
+    pub fn soa_alone(&self, alloc: Global) -> Result<ZoneTransfer, LookupError>
+        ensures { OrMemory (soa_alone (whole_zone self.now (zone_soa self.now))) result }
+    {
+        let soa = self.soa_or_failure()?;
+        Ok(one_record(alloc, soa)?)
     }
 }

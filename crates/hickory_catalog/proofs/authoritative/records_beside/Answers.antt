@@ -12,4 +12,4 @@ returns-then-is_nothing_denied-clause-given g c =
 
 pub returns-clause-given : goal.returns-clause-given
 returns-clause-given g c =
-    if_ok_map c.records_given.result _ _ c.records_given.ensures.given (λ records w. (c.beside_answer.result, c.beside_answer.ensures, w.0, w.1))
+    if_ok_map c.records_given-records.result _ _ c.records_given-records.ensures.given (λ records w. (c.beside_answer-beside.result, c.beside_answer-beside.ensures, w.0, w.1))

@@ -1,5 +1,5 @@
 use Rattle.hickory_catalog.specs.Server.{server_of}
-use Rattle.hickory_catalog.proofs.RepliesFit.{error_fits, query_fits, request_fits, signed_fits, update_fits}
+use Rattle.hickory_catalog.proofs.RepliesFit.{error_fits, query_fits, request_fits, signed_fits, transferred_fits, update_fits}
 use Rattle.hickory_catalog.proofs.laws.replies_of_requests.Goals as goal
 
 pub returns-clause-queries : goal.returns-clause-queries
@@ -13,6 +13,10 @@ returns-clause-updates g c = λ catalog request edns now reply zones updates r.
 pub returns-clause-requests : goal.returns-clause-requests
 returns-clause-requests g c = λ catalog request now replies zones r.
     request_fits (server_of g.H.ZoneHandler g.S.ReplySigner.signature_for catalog) c.forwarded_replies.ensures.codes c.authoritative_replies.ensures.codes request now replies zones r
+
+pub returns-clause-transfers : goal.returns-clause-transfers
+returns-clause-transfers g c = λ catalog request edns now replies r.
+    transferred_fits (server_of g.H.ZoneHandler g.S.ReplySigner.signature_for catalog) request edns now replies r
 
 pub returns-clause-errors : goal.returns-clause-errors
 returns-clause-errors g c = λ request edns code small. error_fits request edns code small

@@ -1,11 +1,10 @@
-use Rattle.std.proofs.Common.{Some, ap, ◌∙◌}
-use Rattle.hickory_catalog.specs.Replies.{contents_of}
-use Rattle.hickory_catalog.proofs.QueryReplies.{get_at, if_ok_map}
+use Rattle.std.proofs.Common.{refl}
+use Rattle.hickory_catalog.specs.Queries.{whole_contents}
+use Rattle.hickory_catalog.proofs.QueryReplies.{at_place, if_ok_map}
 use Rattle.hickory_catalog.proofs.queries.answer_outcome.Goals as goal
 
-pub returns-clause-replied : goal.returns-clause-replied
-returns-clause-replied g c =
-    let handler = get_at c.args.asked.now.chain.now c.args.place c.index-asked-place.result c.requires c.index-asked-place.is ∙ ap Some c.index-asked-place.is in
-    let replied = c.in_ok-contents.ensures.replied in
-    if_ok_map c.send_signed-told.result _ _ (rw c.message.ensures at c.send_signed-told.ensures.replied)
-    (λ info w. (_, contents_of c.in_ok-contents.contents, w.0, handler, replied.0, replied.1, w.1, w.2))
+pub returns-in-Ok-Whole-clause-replied : goal.returns-in-Ok-Whole-clause-replied
+returns-in-Ok-Whole-clause-replied g c =
+    let at = at_place c.args.asked.now.chain.now c.args.place c.requires in
+    if_ok_map c.answer_whole.result _ _ (rw c.message.ensures at c.answer_whole.ensures.replied)
+    (λ info w. (at.0, whole_contents c.args.asked.now.request.now.message.metadata c.in-Ok-Whole.whole, w.0, at.1, rw c.in-Ok-Whole.is refl, rw (c.in-Ok-Whole.is, c.in-Ok-Whole.field-0-is) (refl, w.1), w.2, w.3))

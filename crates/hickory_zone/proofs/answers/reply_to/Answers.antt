@@ -1,8 +1,6 @@
 use Rattle.std.proofs.Common.{◌≡◌, false, true, refl, sym, ap, subst, ◌∙◌}
 use Rattle.std.proofs.lemmas.Bool.{false≢true}
-use Rattle.hickory_base.specs.declared.zone_store.lookup.WholeReply.{WholeReply}
 use Rattle.hickory_zone.proofs.lemmas.replies.Handling.{from_lower, in_lower, into_zone, out_of_zone}
-use Rattle.hickory_zone.proofs.lemmas.zones.Outcomes.{if_ok}
 use Rattle.hickory_zone.specs.Chains.{IsIn}
 use Rattle.hickory_zone.specs.Handled.{question}
 use Rattle.hickory_zone.specs.Replies.{IsReplied, RepliesTo, refuses, replies, zone_of}
@@ -12,11 +10,11 @@ pub returns-then-not-is_in : goal.returns-then-not-is_in
 returns-then-not-is_in c =
     let zone = c.args.zone.now in
     let f : c.is_in.result ≡ false = c.if-not-is_in.true in
-    subst (RepliesTo (zone_of zone) (question c.args.name.now c.args.record_type)) (sym c.refused.ensures)
+    subst (RepliesTo (zone_of zone) (question c.args.name.now c.args.record_type)) (sym c.refused-reply.ensures)
     (refuses (λ own. false≢true (sym f ∙ (c.is_in.ensures zone.sets).1 (out_of_zone zone c.origin.result.now c.args.name.now c.args.name.now c.origin.ensures refl (from_lower (zone_of zone) c.args.name.now own.within)))))
 
-pub reply_within-requires-clause-within : goal.reply_within-requires-clause-within
-reply_within-requires-clause-within c =
+pub put_within-requires-clause-within : goal.put_within-requires-clause-within
+put_within-requires-clause-within c =
     let zone = c.args.zone.now in
     let e : c.is_in.result ≡ true = c.if-not-is_in.false in
     subst (IsIn (zone_of zone)) (sym (ap (λ k. k.name) c.new-first.ensures ∙ c.in_ok-clone.ensures.cases))
@@ -26,9 +24,9 @@ pub returns : goal.returns
 returns c =
     let zone = c.args.zone.now in
     let e : c.is_in.result ≡ true = c.if-not-is_in.false in
-    if_ok c.reply_within.result _ _ c.reply_within.ensures
-    (λ (reply : WholeReply) x. replies (record {
+    let reply = c.put_within.new.reply in
+    replies (record {
       within = in_lower (zone_of zone) c.args.name.now (into_zone zone c.origin.result.now c.args.name.now c.args.name.now c.origin.ensures refl ((c.is_in.ensures zone.sets).0 e));
       class = refl;
     })
-    (subst (λ n. IsReplied (zone_of zone) n c.args.record_type reply) c.as_name.ensures.name x))
+    (subst (λ n. IsReplied (zone_of zone) n c.args.record_type reply) c.as_name-name.ensures.name c.in_ok-put_within.ensures)

@@ -1,4 +1,4 @@
-use Rattle.std.proofs.Common.{◌≡◌, false, inr, refl, sym, ap, ◌∙◌}
+use Rattle.std.proofs.Common.{◌≡◌, false, sym, ap, ◌∙◌}
 use Rattle.std.specs.Option.{option_copied}
 use Rattle.std.proofs.lemmas.Bool.{false≢true}
 use Rattle.hickory_zone.proofs.lemmas.zones.Wild.{none_stands, stands}
@@ -8,7 +8,7 @@ use Rattle.hickory_zone.specs.Zones.{wildcard}
 use Rattle.hickory_zone.proofs.find.find_wild.Goals as goal
 
 pub returns-in_default : goal.returns-in_default
-returns-in_default c = λ origin owners. inr (none_owned origin (sets_of c.args.sets.now) (wildcard c.args.encloser.now) owners (rw c.in_default.is at c.in_ok-source.ensures), λ name. refl)
+returns-in_default c = λ origin owners. none_owned origin (sets_of c.args.sets.now) (wildcard c.args.encloser.now) owners (rw c.in_default.is at c.in_ok-source.ensures)
 
 pub returns-then-is_above : goal.returns-then-is_above
 returns-then-is_above c =

@@ -1,53 +1,46 @@
-use Rattle.std.proofs.Common.{◌≡◌, None, Some, ap, refl, subst}
+use Rattle.std.proofs.Common.{◌≡◌, ◌∙◌, ap, arith, subst, sym}
 use Rattle.std.specs.Option.{option_copied}
 use Rattle.hickory_base.specs.zone_store.ZoneSets.{sets_of}
-use Rattle.hickory_zone.proofs.lemmas.zones.CutsAbove.{above_encloser, refers}
-use Rattle.hickory_zone.proofs.lemmas.zones.Outcomes.{below_encloser, if_ok, is_above, nothing, within}
-use Rattle.hickory_zone.proofs.lemmas.zones.Redirected.{as_direct, as_redirected, from_encloser, nothing_redirects}
-use Rattle.hickory_zone.specs.FoundRecords.{CutAbove, IsEncloser, RedirectedAt}
-use Rattle.hickory_zone.specs.Zones.{Zone, direct}
+use Rattle.wire_names.specs.rr.domain.DomainName.{DomainName}
+use Rattle.hickory_zone.proofs.lemmas.zones.Outcomes.{within}
+use Rattle.hickory_zone.proofs.lemmas.zones.Wild.{told}
+use Rattle.hickory_zone.specs.FoundRecords.{IsEncloser}
+use Rattle.hickory_zone.specs.Zones.{Exists, Sets, Zone, ancestor}
 use Rattle.hickory_zone.proofs.find.look_above.Goals as goal
 
-pub returns-in_default : goal.returns-in_default
-returns-in_default c =
-    let zone : Zone = record { origin = c.args.origin.now; sets = sets_of c.args.sets.now } in
-    let found = c.in_ok-encloser.ensures c.args.origin.now c.requires.owners in
-    direct (nothing_redirects zone c.args.first.now.name (rw c.in_default.is at found)) (nothing zone c.args.first.now.name c.args.record_type (rw c.in_default.is at found))
+-- where the name right above one that does not exist does
+encloser : (sets : Sets) (name parent : DomainName) → parent ≡ ancestor name 1 → ¬ (Exists sets name) → Exists sets parent → IsEncloser sets name parent
+encloser sets name parent is missing x = record {
+  off = 1;
+  is = is;
+  closest = record {
+    exists = subst (Exists sets) is x;
+    longest = λ j less y. let e : j ≡ 0 = omega arith in missing (subst (λ k. Exists sets (ancestor name k)) e y);
+  };
+}
 
-pub redirection_from-requires-clause-within : goal.redirection_from-requires-clause-within
-redirection_from-requires-clause-within c =
-    let zone : Zone = record { origin = c.args.origin.now; sets = sets_of c.args.sets.now } in
-    let found = c.in_ok-encloser.ensures c.args.origin.now c.requires.owners in
-    let e : IsEncloser zone.sets c.args.first.now.name c.in-Some.encloser = rw c.in-Some.is at found in
-    within zone c.args.first.now.name c.in-Some.encloser c.requires.owners c.requires.within e
+pub find_wild-requires-clause-qualified : goal.find_wild-requires-clause-qualified
+find_wild-requires-clause-qualified c = ap (λ d. d.is_fqdn) c.remove_first_label.ensures ∙ ap (λ d. d.is_fqdn) c.in_ok-parent.ensures.cases ∙ c.requires.qualified
 
-pub returns-in-Some-2 : goal.returns-in-Some-2
-returns-in-Some-2 c =
-    let zone : Zone = record { origin = c.args.origin.now; sets = sets_of c.args.sets.now } in
-    let found = c.in_ok-encloser.ensures c.args.origin.now c.requires.owners in
-    let e : IsEncloser zone.sets c.args.first.now.name c.in-Some.encloser = rw c.in-Some.is at found in
-    as_redirected zone c.args.first.now.name c.args.record_type c.in_ok-by.field-0 c.in-Some-2.by c.in-Some-2.is
-    (from_encloser zone c.args.first.now.name c.in-Some.encloser c.in_ok-by.field-0 e c.requires.missing c.in_ok-by.ensures)
-
-pub returns-in-Some-above : goal.returns-in-Some-above
-returns-in-Some-above c =
+pub found_below-requires-clause-within : goal.found_below-requires-clause-within
+found_below-requires-clause-within c =
     let zone : Zone = record { origin = c.args.origin.now; sets = sets_of c.args.sets.now } in
     let name = c.args.first.now.name in
-    let found = c.in_ok-encloser.ensures c.args.origin.now c.requires.owners in
-    let e : IsEncloser zone.sets name c.in-Some.encloser = rw c.in-Some.is at found in
-    let cut : option_copied c.args.above ≡ Some c.in-Some-above.cut.now = ap option_copied c.in-Some-above.is in
-    direct (as_direct zone name c.in_ok-by.field-0 c.in_default-2.is (from_encloser zone name c.in-Some.encloser c.in_ok-by.field-0 e c.requires.missing c.in_ok-by.ensures))
-    (refers zone name c.args.record_type c.in-Some-above.cut.now (subst (CutAbove zone name) cut c.requires.above))
+    let parent = c.remove_first_label.new.self in
+    let up : parent ≡ ancestor name 1 = c.remove_first_label.ensures ∙ ap (λ d. ancestor d 1) c.in_ok-parent.ensures.cases in
+    within zone name parent c.requires.owners c.requires.within
+    (encloser zone.sets name parent up c.requires.missing
+    (told c.args.sets.now c.args.first.now (option_copied c.args.behind) c.args.origin.now parent c.args.record_type c.in_ok-wild.wild c.requires.least c.requires.qualified c.requires.owners c.requires.behind
+    (c.in_ok-wild.ensures c.args.origin.now c.requires.owners) (c.is_told.ensures c.if-is_told.true)))
 
-pub returns : goal.returns
-returns c =
+pub returns-then-is_told : goal.returns-then-is_told
+returns-then-is_told c =
     let zone : Zone = record { origin = c.args.origin.now; sets = sets_of c.args.sets.now } in
     let name = c.args.first.now.name in
-    let found = c.in_ok-encloser.ensures c.args.origin.now c.requires.owners in
-    let e : IsEncloser zone.sets name c.in-Some.encloser = rw c.in-Some.is at found in
-    let at : RedirectedAt zone name c.in_ok-by.field-0 = from_encloser zone name c.in-Some.encloser c.in_ok-by.field-0 e c.requires.missing c.in_ok-by.ensures in
-    let uncut : option_copied c.args.above ≡ None = ap option_copied c.in_default-above.is in
-    if_ok c.find_wild.result _ _ (c.find_wild.ensures c.args.origin.now c.requires.owners)
-    (λ f w. direct (as_direct zone name c.in_ok-by.field-0 c.in_default-2.is at)
-    (below_encloser zone name c.in-Some.encloser c.args.record_type None f e c.requires.missing refl
-    (above_encloser zone name c.in-Some.encloser e (is_above zone.sets name c.in-Some.encloser e c.requires.missing) (subst (CutAbove zone name) uncut c.requires.above)) w))
+    let parent = c.remove_first_label.new.self in
+    let up : parent ≡ ancestor name 1 = c.remove_first_label.ensures ∙ ap (λ d. ancestor d 1) c.in_ok-parent.ensures.cases in
+    let wild = c.in_ok-wild.ensures c.args.origin.now c.requires.owners in
+    let e : IsEncloser zone.sets name parent = encloser zone.sets name parent up c.requires.missing
+    (told c.args.sets.now c.args.first.now (option_copied c.args.behind) c.args.origin.now parent c.args.record_type c.in_ok-wild.wild c.requires.least c.requires.qualified c.requires.owners c.requires.behind wild
+    (c.is_told.ensures c.if-is_told.true)) in
+    c.found_below.ensures name c.args.record_type e c.requires.missing c.requires.above wild

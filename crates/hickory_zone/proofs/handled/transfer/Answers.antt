@@ -6,10 +6,10 @@ use Rattle.hickory_zone.proofs.handled.transfer.Goals as goal
 
 pub returns-then-names_zone : goal.returns-then-names_zone
 returns-then-names_zone c =
-    transferred c.args.zone.now (one_query c.args.request.now.message.queries.queries) c.in-Ok.info.query.now c.zone_transfer.result c.in-Ok.ensures.query
-    (sym (c.names_zone.ensures (zone_of c.args.zone.now) (sym c.origin.ensures)) ∙ c.if-names_zone.true) c.zone_transfer.ensures
+    transferred c.args.zone.now c.args.request.now (one_query c.args.request.now.message.queries.queries) c.in-Ok.info.query.now c.given.result c.in-Ok.ensures.query
+    (sym (c.names_zone.ensures (zone_of c.args.zone.now) (sym c.origin.ensures)) ∙ c.if-names_zone.true) c.given.ensures
 
 pub returns-else-names_zone : goal.returns-else-names_zone
 returns-else-names_zone c =
-    not_transferred c.args.zone.now (one_query c.args.request.now.message.queries.queries) c.in-Ok.info.query.now _ c.in-Ok.ensures.query
+    not_transferred c.args.zone.now c.args.request.now (one_query c.args.request.now.message.queries.queries) c.in-Ok.info.query.now _ c.in-Ok.ensures.query
     (sym (c.names_zone.ensures (zone_of c.args.zone.now) (sym c.origin.ensures)) ∙ c.if-names_zone.false) refl

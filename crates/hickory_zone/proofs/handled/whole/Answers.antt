@@ -3,4 +3,4 @@ use Rattle.hickory_zone.specs.Handled.{in_whole}
 use Rattle.hickory_zone.proofs.handled.whole.Goals as goal
 
 pub returns : goal.returns
-returns c = inl (in_whole c.in_ok-reply.ensures)
+returns c = inl (in_whole c.in_ok-answer.ensures)

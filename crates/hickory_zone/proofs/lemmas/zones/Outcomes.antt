@@ -65,6 +65,11 @@ not_at_all [] k h = drop-nil k
 not_at_all (l ∷ ls) zero h = refl
 not_at_all (l ∷ ls) (suc k) h = absurd (omega (arith, length-drop (suc k) (l ∷ ls)))
 
+-- what is answered where this was found at a wildcard, or none
+abbrev pub wild_outcome : Sets → DomainName → Option Found → Outcome
+wild_outcome sets q None = no_name
+wild_outcome sets q (Some found) = outcome_of sets q found
+
 module _ (zone : Zone) (q : DomainName) (t : ℕ) where
   -- where nothing above the name exists
   pub nothing : ((k : ℕ) → ¬ (Exists zone.sets (ancestor q k))) → AnswersDirectly zone q t no_name
@@ -87,13 +92,12 @@ module _ (zone : Zone) (q : DomainName) (t : ℕ) where
       | inr above ↦ none (j - k) (subst (IsCut zone) (sym (further j above)) c)
     ]
 
-  pub wild_or_not : (k : ℕ) (found : Found) → HasClosestEncloser zone.sets q k → 0 < k → IsAuthoritativeAt zone (ancestor q k) → WildFound zone.sets (ancestor q k) t found → AnswersDirectly zone q t (outcome_of zone.sets q found)
-  wild_or_not zero found closest more auth w = absurd (omega arith)
-  wild_or_not (suc k) found closest more auth (inl w) = subst (AnswersDirectly zone q t) (sym (w.1 q)) (wild (authoritative (suc k) closest auth) (closest.longest 0 (omega arith)) closest w.0)
-  wild_or_not (suc k) found closest more auth (inr w) =
-      subst (AnswersDirectly zone q t) (sym (w.1 q))
-      (denied (authoritative (suc k) closest auth) (closest.longest 0 (omega arith))
-      (λ j h. subst (λ n. ¬ (Exists zone.sets (wildcard (ancestor q n)))) (closest_once zone.sets q (suc k) j closest h) w.0))
+  pub wild_or_not : (k : ℕ) (wilds : Option Found) → HasClosestEncloser zone.sets q k → 0 < k → IsAuthoritativeAt zone (ancestor q k) → WildFound zone.sets (ancestor q k) t wilds → AnswersDirectly zone q t (wild_outcome zone.sets q wilds)
+  wild_or_not zero wilds closest more auth w = absurd (omega arith)
+  wild_or_not (suc k) (Some found) closest more auth w = subst (AnswersDirectly zone q t) (sym (w.1 q)) (wild (authoritative (suc k) closest auth) (closest.longest 0 (omega arith)) closest w.0)
+  wild_or_not (suc k) None closest more auth w =
+      denied (authoritative (suc k) closest auth) (closest.longest 0 (omega arith))
+      (λ j h. subst (λ n. ¬ (Exists zone.sets (wildcard (ancestor q n)))) (closest_once zone.sets q (suc k) j closest h) w)
 
 -- the closest encloser lies in the zone
 pub encloser_within : (zone : Zone) (q : DomainName) (k : ℕ) → AreOwners zone.origin zone.sets → Encloses zone.origin.labels q.labels → HasClosestEncloser zone.sets q k → Encloses zone.origin.labels (ancestor q k).labels
@@ -158,11 +162,11 @@ if_ok (Ok x) P Q h f = f x h
 if_ok (Err e) P Q h f = h
 
 -- what is found below the closest encloser of a name that does not exist
-pub below_encloser : (zone : Zone) (q encloser : DomainName) (t : ℕ) (cut : Option Delegation) (found : Found) (e : IsEncloser zone.sets q encloser) → ¬ (Exists zone.sets q) → cut ≡ None → CutAt zone encloser cut
-    → WildFound zone.sets encloser t found → AnswersDirectly zone q t (outcome_of zone.sets q found)
-below_encloser zone q encloser t cut found e apart none at w =
-    wild_or_not zone q t e.off found e.closest (is_above zone.sets q encloser e apart) (subst (λ (n : DomainName). CutAt zone n None) e.is (subst (CutAt zone encloser) none at))
-    (subst (λ (n : DomainName). WildFound zone.sets n t found) e.is w)
+pub below_encloser : (zone : Zone) (q encloser : DomainName) (t : ℕ) (cut : Option Delegation) (wilds : Option Found) (e : IsEncloser zone.sets q encloser) → ¬ (Exists zone.sets q) → cut ≡ None → CutAt zone encloser cut
+    → WildFound zone.sets encloser t wilds → AnswersDirectly zone q t (wild_outcome zone.sets q wilds)
+below_encloser zone q encloser t cut wilds e apart none at w =
+    wild_or_not zone q t e.off wilds e.closest (is_above zone.sets q encloser e apart) (subst (λ (n : DomainName). CutAt zone n None) e.is (subst (CutAt zone encloser) none at))
+    (subst (λ (n : DomainName). WildFound zone.sets n t wilds) e.is w)
 
 pub within : (zone : Zone) (q encloser : DomainName) → AreOwners zone.origin zone.sets → Encloses zone.origin.labels q.labels → IsEncloser zone.sets q encloser → Encloses zone.origin.labels encloser.labels
 within zone q encloser owners inside e = subst (λ (n : DomainName). Encloses zone.origin.labels n.labels) (sym e.is) (encloser_within zone q e.off owners inside e.closest)

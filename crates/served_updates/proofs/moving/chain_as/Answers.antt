@@ -7,7 +7,7 @@ use Rattle.served_updates.proofs.Served.{zip_push}
 use Rattle.served_updates.proofs.moving.chain_as.Goals as goal
 
 pub loop-handler-preserved : goal.loop-handler-preserved
-loop-handler-preserved c =
+loop-handler-preserved g c =
     let so_far = c.loop-handler.invariant in
     let more : c.loop-handler.handler-iterator.rest.items ≡ c.in-Some.handler ∷ c.next.new.self.rest.items = search rules in
     let served = rw c.in_ok-policy.ensures at c.in_ok-served_as.ensures in (

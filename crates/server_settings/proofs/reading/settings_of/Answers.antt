@@ -12,8 +12,8 @@ loop-name-preserved c =
     let entry : Entry = (c.in-Some.name.now, c.in-Some.value.now) in
     let left = c.next.new.self in
     let front : c.loop-name.name-iterator ≡ entry ∷ left = grind (arith, common_steps) in
-    let (texts, gives, put) = c.in_default.ensures.put in (
-      sums-on (settings_of (members_view left)) (settings_of (members_view c.args.table.now.entries)) texts (string_bytes entry.0) _ _ put (rw (front, gives) at sums),
+    let (those, gives, put) = c.in_default.ensures.put in (
+      sums-on (settings_of (members_view left)) (settings_of (members_view c.args.table.now.entries)) those _ _ put (rw (front, gives) at sums),
       (λ rest. (rw front at known) (c.in_default.ensures.known, rest)),
       (λ name d there. (rw front at has) name d (inr there)),
     )

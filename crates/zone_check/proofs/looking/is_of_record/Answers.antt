@@ -1,3 +1,4 @@
+use Rattle.std.proofs.lemmas.Option.{slice_get_within}
 use Rattle.zone_check.proofs.looking.is_of_record.Goals as goal
 
 pub returns-in-BelowDname : goal.returns-in-BelowDname
@@ -17,3 +18,12 @@ returns-in-HostIsAlias c = rw c.in-HostIsAlias.is c.has_aliased_host.ensures
 
 pub returns-in-AtCut : goal.returns-in-AtCut
 returns-in-AtCut c = rw c.in-AtCut.is c.is_data_at_cut.ensures
+
+pub returns-in-IdleGlue : goal.returns-in-IdleGlue
+returns-in-IdleGlue c = rw c.in-IdleGlue.is c.is_idle_glue.ensures
+
+pub returns-in-Repeated : goal.returns-in-Repeated
+returns-in-Repeated c = rw c.in-Repeated.is (c.is_repeated.ensures c.args.record.now c.requires)
+
+pub is_repeated-requires : goal.is_repeated-requires
+is_repeated-requires c = slice_get_within c.args.zone.now.records c.args.place c.args.record.now c.requires

@@ -8,4 +8,4 @@ pub returns : goal.returns
 returns c =
     let before : Service = c.service-service.result.now in
     let after : Service = c.allow.new.self in
-    record { made = λ done. rw c.service-service.ensures.value at (holds c.allow.result ((network : Network) × Inserts before.answering.server.rules.access.allow (network ∷ []) after.answering.server.rules.access.allow) (c.told.ensures.done.0 done) c.allow.ensures.ok) }
+    record { made = λ done. rw c.service-service.ensures.value at (holds c.allow.result ((network : Network) × Inserts before.answering.server.server.rules.access.allow (network ∷ []) after.answering.server.server.rules.access.allow) (c.told.ensures.done.0 done) c.allow.ensures.ok) }

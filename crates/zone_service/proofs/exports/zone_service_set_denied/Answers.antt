@@ -8,4 +8,4 @@ pub returns : goal.returns
 returns c =
     let before : Service = c.service-service.result.now in
     let after : Service = c.deny.new.self in
-    record { made = λ done. rw c.service-service.ensures.value at (holds c.deny.result ((network : Network) × Inserts before.answering.server.rules.access.deny (network ∷ []) after.answering.server.rules.access.deny) (c.told.ensures.done.0 done) c.deny.ensures.ok) }
+    record { made = λ done. rw c.service-service.ensures.value at (holds c.deny.result ((network : Network) × Inserts before.answering.server.server.rules.access.deny (network ∷ []) after.answering.server.server.rules.access.deny) (c.told.ensures.done.0 done) c.deny.ensures.ok) }

@@ -8,4 +8,4 @@ pub returns : goal.returns
 returns c =
     let before : Service = c.service-service.result.now in
     let after : Service = c.deny_transfer.new.self in
-    record { made = λ done. rw c.service-service.ensures.value at (holds c.deny_transfer.result ((network : Network) × Inserts before.answering.server.rules.transfers.deny (network ∷ []) after.answering.server.rules.transfers.deny) (c.told.ensures.done.0 done) c.deny_transfer.ensures.ok) }
+    record { made = λ done. rw c.service-service.ensures.value at (holds c.deny_transfer.result ((network : Network) × Inserts before.answering.server.server.rules.transfers.deny (network ∷ []) after.answering.server.server.rules.transfers.deny) (c.told.ensures.done.0 done) c.deny_transfer.ensures.ok) }

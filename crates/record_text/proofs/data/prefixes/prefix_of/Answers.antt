@@ -1,6 +1,6 @@
 use Rattle.std.proofs.Common.{◌∙◌, ap, arith}
 use Rattle.std.proofs.lemmas.Result.{err_from_is_err_and}
-use Rattle.record_text.specs.Prefixes.{behind_byte}
+use Rattle.text_words.specs.Cuts.{behind_byte}
 use Rattle.record_text.proofs.PrefixesOnce.{no_bits, too_many}
 use Rattle.record_text.proofs.data.prefixes.prefix_of.Goals as goal
 

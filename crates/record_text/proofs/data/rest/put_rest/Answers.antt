@@ -5,15 +5,16 @@ use Rattle.std.specs.List.{slice_get}
 use Rattle.std.specs.Prelude.{IfErr, OnOk, ◌≢◌}
 use Rattle.hex.specs.Hex.{decode_of}
 use Rattle.record_text.specs.declared.data.field.Rest.TheVariants as kind
+use Rattle.location_text.specs.LocationText.{IsLocation}
 use Rattle.service_text.specs.ServiceText.{AreServiceParameters}
 use Rattle.text_words.specs.declared.error.TextError.{TextError}
 use Rattle.text_words.specs.declared.error.TextError.TheVariants.{Memory}
 use Rattle.text_words.specs.declared.words.Word.{Word}
 use Rattle.text_words.specs.Spelling.{Puts}
-use Rattle.record_text.specs.RecordText.{ArePlain, ArePortBits, AreStrings, HasNone, IsBase64, IsGateway, IsRest, IsTypeSet, bytes_of}
-use Rattle.record_text.specs.RecordText.IsRest.{nothing, strings, hex, base64, types, service, ports, prefixes, gateway}
+use Rattle.record_text.specs.RecordText.{ArePlain, ArePortBits, AreStrings, HasNone, IsBase64, IsGateway, IsLowTypeSet, IsRest, IsTypeSet, bytes_of}
+use Rattle.record_text.specs.RecordText.IsRest.{nothing, strings, hex, base64, types, service, ports, prefixes, gateway, low_types, location}
 use Rattle.record_text.specs.Prefixes.{ArePrefixes}
-use Rattle.record_text.proofs.NoRow.{no_base64, no_gateway, no_hex, no_nothing, no_ports, no_prefixes, no_service, no_strings, no_types, not_generic, some_hex, some_strings}
+use Rattle.record_text.proofs.NoRow.{no_base64, no_gateway, no_hex, no_location, no_low, no_nothing, no_ports, no_prefixes, no_service, no_strings, no_types, not_generic, some_hex, some_strings}
 use Rattle.record_text.proofs.data.rest.put_rest.Goals as goal
 
 is_nil : (words : List Word) → None ≡ slice_get words 0 → words ≡ []
@@ -118,3 +119,23 @@ returns-in-Prefixes-default-clause-put c =
 
 pub returns-in-Prefixes-default-clause-refused : goal.returns-in-Prefixes-default-clause-refused
 returns-in-Prefixes-default-clause-refused c = rw c.in-Prefixes-default.is-0 (refused c.put_prefixes.result (ArePrefixes c.args.words.now) (IsRest (option_copied c.args.origin) kind.Prefixes c.args.words.now) (no_prefixes (option_copied c.args.origin) c.args.words.now) c.put_prefixes.ensures.refused)
+
+pub returns-in-LowTypes-default-clause-put : goal.returns-in-LowTypes-default-clause-put
+returns-in-LowTypes-default-clause-put c =
+    rw c.in-LowTypes-default.is-0 (as_rest c.put_low_types.result (IsLowTypeSet c.args.words.now) (IsRest (option_copied c.args.origin) kind.LowTypes c.args.words.now) c.args.data.now.items c.put_low_types.new.data.items (λ octets is. low_types is) c.put_low_types.ensures.put)
+
+pub returns-in-LowTypes-default-clause-refused : goal.returns-in-LowTypes-default-clause-refused
+returns-in-LowTypes-default-clause-refused c = rw c.in-LowTypes-default.is-0 (refused c.put_low_types.result (IsLowTypeSet c.args.words.now) (IsRest (option_copied c.args.origin) kind.LowTypes c.args.words.now) (no_low (option_copied c.args.origin) c.args.words.now) c.put_low_types.ensures.refused)
+
+pub returns-in-Location-default-clause-put : goal.returns-in-Location-default-clause-put
+returns-in-Location-default-clause-put c =
+    rw c.in-Location-default.is-0 (as_rest c.put_location.result (IsLocation c.args.words.now) (IsRest (option_copied c.args.origin) kind.Location c.args.words.now) c.args.data.now.items c.put_location.new.data.items (λ octets is. location is) c.put_location.ensures.put)
+
+pub returns-in-Location-default-clause-refused : goal.returns-in-Location-default-clause-refused
+returns-in-Location-default-clause-refused c = rw c.in-Location-default.is-0 (refused c.put_location.result (IsLocation c.args.words.now) (IsRest (option_copied c.args.origin) kind.Location c.args.words.now) (no_location (option_copied c.args.origin) c.args.words.now) c.put_location.ensures.refused)
+
+pub returns-in-Relay-default-clause-put : goal.returns-in-Relay-default-clause-put
+returns-in-Relay-default-clause-put c = rw c.in-Relay-default.is-0 c.put_relay.ensures.put
+
+pub returns-in-Relay-default-clause-refused : goal.returns-in-Relay-default-clause-refused
+returns-in-Relay-default-clause-refused c = rw c.in-Relay-default.is-0 c.put_relay.ensures.refused

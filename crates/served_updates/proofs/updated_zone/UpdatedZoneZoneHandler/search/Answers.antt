@@ -7,6 +7,6 @@ use Rattle.served_updates.proofs.updated_zone.UpdatedZoneZoneHandler.search.Goal
 pub returns-in-Some : goal.returns-in-Some
 returns-in-Some g c = (
   by_above c.args.self.now (one_query c.args.request.now.message.queries.queries) c.in-Ok.info.query.now c.in-Some.parent.now c.whole.result c.in-Ok.ensures.query
-      (sym c.asked_above.ensures ∙ ap option_copied c.in-Some.is) (c.whole.ensures c.args.self.now.zone.zone),
+      (sym c.asked_above.ensures ∙ ap option_copied c.in-Some.is) (c.whole.ensures c.args.self.now.zone.kept.updatable.zone),
   refl,
 )

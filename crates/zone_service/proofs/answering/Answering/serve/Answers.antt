@@ -11,3 +11,6 @@ returns-in-Err-Memory-clause-err g c = rw c.in-Err-Memory.field-0-is at c.in-Err
 
 pub returns-in-Err-MemoryAfterHandling-clause-err : goal.returns-in-Err-MemoryAfterHandling-clause-err
 returns-in-Err-MemoryAfterHandling-clause-err g c = rw c.in-Err-MemoryAfterHandling.field-0-is at c.in-Err-MemoryAfterHandling.ensures.err
+
+pub returns-in-Ok-Replies-clause-logged : goal.returns-in-Ok-Replies-clause-logged
+returns-in-Ok-Replies-clause-logged g c = rw c.as_slice-sent.ensures at c.log_replies.ensures

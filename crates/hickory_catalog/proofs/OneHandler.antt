@@ -1,0 +1,31 @@
+-- What a chain of one handler answers.
+use Rattle.std.proofs.Common.{◌≡◌, ◌<◌, ◌≤◌, List, [], ◌∷◌, length, get_or, Option, None, refl, sym, ap, arith}
+use Rattle.std.specs.Option.{IsSome}
+use Rattle.wire_messages.specs.declared.rr.tsig.TSigResponseContext.{TSigResponseContext}
+use Rattle.hickory_base.specs.zone_store.Lookups.{Flow, result_of}
+use Rattle.hickory_base.specs.requests.Requests.{ReceivedRequest, RequestInformation}
+use Rattle.hickory_base.specs.declared.zone_store.handler.ZoneHandler.{Ghosts}
+use Rattle.hickory_base.specs.declared.zone_store.lookup.LookupControlFlow.TheVariants.{Continue, Break, Skip}
+use Rattle.hickory_base.specs.declared.zone_store.lookup.LookupOptions.{LookupOptions}
+use Rattle.hickory_catalog.specs.Transcripts.{ChainAnswers, all_consulted, answered, nobody, options_of, skipped}
+
+-- a list of one is known by its first
+pub only_one : {X : Type 0} (xs : List X) (x : X) → 1 ≤ length xs → length xs < 2 → x ≡ get_or xs 0 x → xs ≡ x ∷ []
+only_one [] x least below is = absurd (omega (arith, least))
+only_one (y ∷ []) x least below is = ap (λ z. z ∷ []) (sym is)
+only_one (y ∷ z ∷ zs) x least below is = absurd (omega (arith, below))
+
+module _ {H : Type 0} (handler : Ghosts H) (request : ReceivedRequest) (info : RequestInformation) (options : LookupOptions) (h : H) where
+  -- it skips
+  pub skips_alone : (answer : Flow) (context : Option TSigResponseContext) → handler.search_gives h request (options_of request) answer context → result_of answer ≡ None
+      → ChainAnswers handler request info options (h ∷ []) 1 answer None
+  skips_alone (Continue _) context gave none = absurd cc
+  skips_alone (Break _) context gave none = absurd cc
+  skips_alone Skip context gave none = record { answer = Skip; context = None; asked = skipped gave nobody; followed = (refl, refl) }
+
+  -- it answers
+  pub answers_alone : (answer : Flow) (context : Option TSigResponseContext) → handler.search_gives h request (options_of request) answer context → IsSome (result_of answer)
+      → ChainAnswers handler request info options (h ∷ []) 0 answer context
+  answers_alone (Continue result) context gave is = record { answer = Continue result; context = context; asked = answered tt gave; followed = all_consulted }
+  answers_alone (Break result) context gave is = record { answer = Break result; context = context; asked = answered tt gave; followed = (refl, refl) }
+  answers_alone Skip context gave is = absurd cc

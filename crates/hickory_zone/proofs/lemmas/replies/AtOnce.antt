@@ -1,0 +1,59 @@
+-- What is replied of what was found alone.
+use Rattle.std.proofs.Common.{◌≡◌, ◌==◌, ℕ, Bool, true, false, not, ◌||◌, [], ◌∷◌, ◌++◌, List, Option, Some, None, refl, sym, ap, subst, ◌∙◌}
+use Rattle.std.specs.Prelude.{is_some}
+use Rattle.std.specs.List.{AllByRecursion}
+use Rattle.wire_names.specs.rr.domain.DomainName.{DomainName}
+use Rattle.wire_messages.specs.declared.rr.rdata.RData.{RData}
+use Rattle.wire_messages.specs.declared.rr.rdata.RData.TheVariants as rdata
+use Rattle.wire_messages.specs.declared.rr.record.Record.{Record}
+use Rattle.hickory_base.specs.declared.zone_store.lookup.WholeReply.{WholeReply}
+use Rattle.hickory_zone.specs.declared.additionals.Source.TheVariants as source
+use Rattle.hickory_zone.specs.Additionals.{AreAdditionals, at_most_one, host_in, hosts_of, is_hostless, name_from, no_host, target_start}
+use Rattle.hickory_zone.specs.Endings as ended
+use Rattle.hickory_zone.specs.ReplyAtOnce.{IsReplyAtOnce}
+use Rattle.hickory_zone.specs.Replies.{denial_soa, whole}
+use Rattle.hickory_zone.specs.Zones.{Records, Zone, answer, no_data, no_name, type_mx, type_ns}
+
+last_false : (a b c : Bool) → not (a || (b || c)) ≡ true → c ≡ false
+last_false true b c h = absurd cc
+last_false false true c h = absurd cc
+last_false false false true h = absurd cc
+last_false false false false h = refl
+
+none_of : (o : Option ℕ) → is_some o ≡ false → o ≡ None
+none_of None h = refl
+none_of (Some n) h = absurd cc
+
+none_in : (content : RData) → is_hostless content ≡ true → host_in content ≡ None
+none_in (rdata.A address) h = refl
+none_in (rdata.AAAA address) h = refl
+none_in (rdata.NS name) h = absurd cc
+none_in (rdata.CNAME name) h = refl
+none_in (rdata.PTR name) h = refl
+none_in (rdata.MX mx) h = absurd cc
+none_in (rdata.SOA soa) h = refl
+none_in (rdata.TXT strings) h = refl
+none_in (rdata.OPT options) h = refl
+none_in (rdata.TSIG tsig) h = refl
+none_in (rdata.NULL bytes) h = refl
+none_in (rdata.Update0 t) h = refl
+none_in (rdata.Unknown t bytes) h = ap (λ start. name_from start bytes) (none_of (target_start t) (last_false (t == type_ns) (t == type_mx) (is_some (target_start t)) h))
+
+no_hosts : (rs : Records) → AllByRecursion (λ (q : Record RData). is_hostless q.rdata ≡ true) rs → hosts_of rs ≡ []
+no_hosts [] h = refl
+no_hosts (r ∷ rs) h = ap (λ o. at_most_one o ++ hosts_of rs) (none_in r.rdata h.0) ∙ no_hosts rs h.1
+
+module _ (zone : Zone) (t : ℕ) (name : DomainName) (reply : WholeReply) where
+  pub of_records : (rs : Records) → AllByRecursion (λ (q : Record RData). is_hostless q.rdata ≡ true) rs → reply ≡ whole 0 true rs [] [] → IsReplyAtOnce zone t name (answer rs) reply
+  of_records rs h is = record {
+    chain = rs;
+    ending = ended.answer;
+    steps = refl;
+    ends_in = record { additionals = []; completed = subst (λ (ns : List DomainName). AreAdditionals source.Answer zone rs ns []) (sym (no_hosts rs h)) no_host; is = is };
+  }
+
+  pub of_no_data : (soa : Records) → soa ≡ denial_soa zone → reply ≡ whole 0 true [] soa [] → IsReplyAtOnce zone t name no_data reply
+  of_no_data soa own is = record { chain = []; ending = ended.no_data; steps = refl; ends_in = record { additionals = []; completed = refl; is = is ∙ ap (λ (rs : Records). whole 0 true [] rs []) own } }
+
+  pub of_no_name : (soa : Records) → soa ≡ denial_soa zone → reply ≡ whole 3 true [] soa [] → IsReplyAtOnce zone t name no_name reply
+  of_no_name soa own is = record { chain = []; ending = ended.no_name; steps = refl; ends_in = record { additionals = []; completed = refl; is = is ∙ ap (λ (rs : Records). whole 3 true [] rs []) own } }

@@ -1,0 +1,3 @@
+pub mod CrashLemmas
+pub mod FileLemmas
+pub mod Owed

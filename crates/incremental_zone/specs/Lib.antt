@@ -1,0 +1,2 @@
+pub mod IncrementalZones
+pub mod Versions

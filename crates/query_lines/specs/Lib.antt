@@ -1,0 +1,2 @@
+pub mod QueryLines
+pub mod QueryLogs

@@ -1,0 +1,200 @@
+//! Opening the journals of zones that are served.
+
+ghost use Rattle.std.specs.Prelude.{◌≡◌, IfOk, IsTrue, OnOk};
+ghost use Rattle.sqlite_disk.specs.Disk.{Only};
+ghost use Rattle.served_updates.specs.Journals.{HasJournal, IsJournalled, OpensJournal};
+
+use crate::moving::{Handler, Zones};
+use crate::updated_zone::UpdatedZone;
+use durable_updates::{CompactError, OpenError, RedoError, SnapshotError};
+use durable_zone::DurableZone;
+use either::Either;
+use hickory_store::sqlite::Verifier;
+use hickory_wire::{LowerName, Name};
+use sqlite_disk::Disk;
+use std::alloc::{AllocError, AllocFailed, Global};
+use thiserror::Error;
+use update_journal::JournalError;
+
+/// What was found as the journal of a zone was opened.
+#[derive(Clone, Copy, Debug, PartialEq, Eq)]
+pub struct Opened {
+    /// The serial of the zone that was there before, that of its file.
+    pub file: u32,
+    /// The serial of the zone by its journal.
+    pub journal: u32,
+    /// Whether the journal takes updates: not where it could not be compacted for want of room or another failure of the disk.
+    pub takes_updates: bool,
+}
+
+/// Why the journal of a zone is not opened.
+#[derive(Clone, Copy, Debug, PartialEq, Eq, Error)]
+pub enum JournalFault {
+    /// No zone of this name takes updates.
+    #[error("no zone of this name takes updates")]
+    NoUpdates,
+    /// Its files are not recovered.
+    #[error("the disk failed")]
+    Disk,
+    /// One of its entries is no update of the zone.
+    #[error("an entry is no update of this zone")]
+    Damaged,
+    /// The zone does not read back as it is, so that it cannot be kept.
+    #[error("the zone does not read back as it is")]
+    NoSnapshot,
+    /// Memory was refused.
+    #[error("no memory")]
+    Memory,
+}
+
+impl From<AllocError> for JournalFault {
+    fn from(_e: AllocError) -> JournalFault {
+        JournalFault::Memory
+    }
+}
+
+impl<T: Drop> From<AllocFailed<T>> for JournalFault {
+    fn from(_e: AllocFailed<T>) -> JournalFault {
+        JournalFault::Memory
+    }
+}
+
+/// The fault of a journal that is not opened.
+fn fault_of(error: &OpenError) -> JournalFault {
+    match error {
+        OpenError::Journal(JournalError::Memory) | OpenError::Entries(RedoError::Memory) => {
+            JournalFault::Memory
+        }
+        OpenError::Journal(_) => JournalFault::Disk,
+        OpenError::Entries(RedoError::Damaged) => JournalFault::Damaged,
+    }
+}
+
+/// The zone with the journal in two files, as [`DurableZone::open`] takes them.
+fn with_journal<V: Verifier, D: Disk + Drop>(
+    alloc: Global,
+    zone: UpdatedZone<V, D>,
+    first: D,
+    second: D,
+) -> Result<UpdatedZone<V, D>, JournalFault>
+    requires usable { IsTrue (D.is_usable first) × IsTrue (D.is_usable second) }
+    requires restarted { Only (D.seen first) (D.may_leave first) × Only (D.seen second) (D.may_leave second) }
+    ensures { IfOk result (IsJournalled D.Disk first second zone) }
+{
+    let UpdatedZone {
+        zone,
+        parent,
+        policy,
+    } = zone;
+    let (updatable, _) = zone.into_zone().into_parts();
+    match DurableZone::open(alloc, updatable, first, second) {
+        Ok(zone) => Ok(UpdatedZone::new(alloc, zone, parent, policy)),
+        Err((error, _, _)) => Err(fault_of(&error)),
+    }
+}
+
+/// Compacts the journal of a zone; whether it takes updates from then on. A failure of the disk leaves the zone as it is, and is no fault: its queries go on.
+fn compacted<V: Verifier, D: Disk + Drop>(
+    alloc: Global,
+    zone: &mut UpdatedZone<V, D>,
+) -> Result<bool, JournalFault>
+    ensures { zone.new ≡ zone.old }
+{
+    match zone.zone.compact(alloc) {
+        Err(CompactError::Zone(SnapshotError::Memory)) => Err(JournalFault::Memory),
+        Err(CompactError::Journal(JournalError::Memory)) => Err(JournalFault::Memory),
+        Err(CompactError::Zone(SnapshotError::Unreadable)) => Err(JournalFault::NoSnapshot),
+        _ => Ok(zone.zone.zone().takes_updates()),
+    }
+}
+
+/// Opens the journal of the first handler of a chain, which is to be the one that takes updates.
+fn open_in_chain<D: Disk + Drop>(
+    alloc: Global,
+    chain: &mut Vec<Handler<D>>,
+    first: D,
+    second: D,
+) -> Result<Opened, JournalFault>
+    requires usable { IsTrue (D.is_usable first) × IsTrue (D.is_usable second) }
+    requires restarted { Only (D.seen first) (D.may_leave first) × Only (D.seen second) (D.may_leave second) }
+    ensures { OnOk result (HasJournal D.Disk first second chain.old.items chain.new.items) }
+{
+    if chain.is_empty() {
+        return Err(JournalFault::NoUpdates);
+    }
+    let Either::Left(zone) = chain.remove(0) else {
+        return Err(JournalFault::NoUpdates);
+    };
+    let file = zone.serial();
+    let mut zone = with_journal(alloc, zone, first, second)?;
+    let takes_updates = compacted(alloc, &mut zone)?;
+    let journal = zone.serial();
+    chain.insert(0, Either::Left(zone))?;
+    Ok(Opened {
+        file,
+        journal,
+        takes_updates,
+    })
+}
+
+/// Opens the journal of the zone of this apex, which takes updates, in two files by turns, as [`DurableZone::open`] does, and compacts it: from then on the zone
+/// as it was before counts for nothing, and the files have at most twice what the zone takes and what is updated since. Each update is on the disk before it is
+/// answered (RFC 2136 section 3.5).
+///
+/// A disk that fails while the journal is compacted is told by `takes_updates`: the zone is served as its journal says, and each update is ServFail. After an
+/// error the zone may be gone.
+pub fn open_journal<D: Disk + Drop>(
+    alloc: Global,
+    zones: &mut Zones<D>,
+    apex: &Name,
+    first: D,
+    second: D,
+) -> Result<Opened, JournalFault>
+    requires usable { IsTrue (D.is_usable first) × IsTrue (D.is_usable second) }
+    // After a restart, what is read is what is on the disk.
+    requires restarted { Only (D.seen first) (D.may_leave first) × Only (D.seen second) (D.may_leave second) }
+    ensures opened { OnOk result (OpensJournal D.Disk first second apex.now zones.old.zones zones.new.zones) }
+    ensures others { zones.new ≡ record zones.old { zones = zones.new.zones } }
+{
+    let name = LowerName::new(alloc, apex)?;
+    let Some(mut chain) = zones.remove(&name) else {
+        return Err(JournalFault::NoUpdates);
+    };
+    let opened = open_in_chain(alloc, &mut chain, first, second)?;
+    match zones.upsert(name, chain) {
+        Ok(_) => Ok(opened),
+        Err(_) => Err(JournalFault::Memory),
+    }
+}
+
+/// Whether the zone of this apex takes updates by keys and rules.
+pub fn has_updates<D: Disk + Drop>(
+    alloc: Global,
+    zones: &Zones<D>,
+    apex: &Name,
+) -> Result<bool, AllocError> {
+    let name = LowerName::new(alloc, apex)?;
+    if !zones.contains(&name) {
+        return Ok(false);
+    }
+    match zones.find(&name)? {
+        Some(chain) => Ok(matches!(chain.first(), Some(Either::Left(_)))),
+        None => Ok(false),
+    }
+}
+
+/// Whether the zone of this apex has a journal that takes no updates any more, as after a write that failed: each is ServFail until the journal is opened again.
+pub fn is_shut<D: Disk + Drop>(
+    alloc: Global,
+    zones: &Zones<D>,
+    apex: &Name,
+) -> Result<bool, AllocError> {
+    let name = LowerName::new(alloc, apex)?;
+    let Some(chain) = zones.find(&name)? else {
+        return Ok(false);
+    };
+    match chain.first() {
+        Some(Either::Left(zone)) => Ok(!zone.zone.zone().takes_updates()),
+        _ => Ok(false),
+    }
+}

@@ -1,0 +1,5 @@
+pub mod Applying
+pub mod Compared
+pub mod Naming
+pub mod Staying
+pub mod Following

@@ -1,0 +1,121 @@
+-- An update leaves the names alone that it does not speak of, but for the apex.
+use Rattle.std.proofs.Common.{◌≡◌, ◌∙◌, ap, sym, refl, subst, ℕ, Bool, true, false, cond, ◌&&◌, ◌||◌, ◌++◌, [], ◌∷◌, List, filter, map, Option, Some, None, Result, Ok, Err}
+use Rattle.std.specs.List.{AllByRecursion, list_any}
+use Rattle.wire_names.specs.rr.domain.DomainName.{DomainName}
+use Rattle.wire_names.specs.rr.domain.NameOrder.{name_eq}
+use Rattle.wire_names.proofs.lemmas.rr.domain.SameNames.{eq_from_same}
+use Rattle.wire_messages.specs.declared.rr.tsig.TSigResponseContext.{TSigResponseContext}
+use Rattle.hickory_base.specs.requests.Requests.{ReceivedRequest}
+use Rattle.hickory_base.specs.requests.Updates.{UpdateMessage, update_of}
+use Rattle.hickory_base.specs.zone_store.ZoneAnswers.{MemoryZone}
+use Rattle.hickory_base.specs.zone_store.ZoneRecords.{is_at}
+use Rattle.hickory_base.specs.zone_store.ZoneSets.{zone_records}
+use Rattle.hickory_store.specs.Changes.{any_change, fold, is_type}
+use Rattle.hickory_store.specs.Identity.{SameZone, same_record, ttl_at}
+use Rattle.hickory_store.specs.NameUpdates.{of_name}
+use Rattle.hickory_store.specs.Permission.{update_permission}
+use Rattle.hickory_store.specs.Prerequisites.{prerequisites_refusal}
+use Rattle.hickory_store.specs.Prescan.{prescan_refusal}
+use Rattle.hickory_store.specs.UpdatableZone.{UpdatableZone}
+use Rattle.hickory_store.specs.UpdateAnswers.{AnswersUpdate, IsOutcome, Outcome, applied, incremented, is_apex_soa, message_outcome, next_data, unless_refused, with_next_serial}
+use Rattle.hickory_store.specs.declared.sqlite.verifier.Verifier.{Ghosts}
+use Rattle.hickory_store.proofs.ApexNs.{Records, Resource, and_left, names}
+use Rattle.hickory_store.proofs.NamesApart.{fold_by_name}
+use Rattle.hickory_store.proofs.RecordByRecord.{itself}
+use Rattle.hickory_store.proofs.SameZones.{Identity, name_respects, ttl_filter}
+use Rattle.zone_differences.specs.Standing.{are_among}
+use Rattle.zone_differences.specs.declared.names.NameRecords.{NameRecords}
+use Rattle.zone_differences.proofs.Naming.{among_equal}
+
+module _ (identity : Identity) where
+  -- ---- the records of an update
+
+  own_name : (q : Resource) → is_at q.name q ≡ true
+  own_name q = eq_from_same q.name q.name (itself q.name)
+
+  of_own : (z : Records) (q : Resource) → ttl_at z q ≡ ttl_at (of_name q.name z) q
+  of_own z q = ap (λ b. cond b (ttl_at z q) None) (sym (own_name q)) ∙ sym (ttl_filter (is_at q.name) (name_respects identity q.name) z q)
+
+  module _ (es : List NameRecords) (q : Resource) (apart : are_among es q.name ≡ false) where
+    none_named : (r : Resource) → are_among es r.name ≡ true → is_at q.name r ≡ false
+    none_named r h = no (is_at q.name r) refl
+      where
+        no : (b : Bool) → is_at q.name r ≡ b → b ≡ false
+        no true e = absurd (let f : false ≡ true = sym apart ∙ among_equal q.name r.name e es ∙ h in cc)
+        no false e = refl
+
+    none_of_name : (rs : Records) → AllByRecursion (λ r. are_among es r.name ≡ true) rs → of_name q.name rs ≡ []
+    none_of_name [] h = refl
+    none_of_name (r ∷ rs) h = ap (λ b. cond b (r ∷ of_name q.name rs) (of_name q.name rs)) (none_named r h.0) ∙ none_of_name rs h.1
+
+    folded : (o : DomainName) (rs z : Records) → AllByRecursion (λ r. are_among es r.name ≡ true) rs → ttl_at (fold o 1 z rs) q ≡ ttl_at z q
+    folded o rs z h =
+        of_own (fold o 1 z rs) q
+        ∙ ap (λ (l : Records). ttl_at l q) (fold_by_name o 1 q.name rs z ∙ ap (λ (us : Records). fold o 1 (of_name q.name z) us) (none_of_name rs h))
+        ∙ sym (of_own z q)
+
+    off_apex : (o : DomainName) → are_among es o ≡ true → is_at o q ≡ false
+    off_apex o h = no (is_at o q) refl
+      where
+        no : (b : Bool) → is_at o q ≡ b → b ≡ false
+        no true e = absurd (let f : false ≡ true = sym apart ∙ sym (among_equal o q.name e es) ∙ h in cc)
+        no false e = refl
+
+  -- ---- the serial
+
+  module _ (o : DomainName) (q : Resource) (off : is_at o q ≡ false) where
+    not_there : (r : Resource) → is_at o r ≡ true → same_record q r ≡ false
+    not_there r h = no (same_record q r) refl
+      where
+        no : (b : Bool) → same_record q r ≡ b → b ≡ false
+        no true e = absurd (let f : true ≡ false = sym h ∙ name_respects identity o q r e ∙ off in cc)
+        no false e = refl
+
+    one_kept : (r : Resource) (b : Bool) → is_apex_soa o r ≡ b → (x : Option ℕ) → cond (same_record q (cond b (record r { rdata = next_data r.rdata }) r)) (Some (cond b (record r { rdata = next_data r.rdata }) r).ttl) x ≡ cond (same_record q r) (Some r.ttl) x
+    one_kept r false e x = refl
+    one_kept r true e x =
+        let at : is_at o r ≡ true = and_left (is_at o r) (is_type 6 r) e in
+        ap (λ b. cond b (Some r.ttl) x) (not_there (record r { rdata = next_data r.rdata }) at) ∙ sym (ap (λ b. cond b (Some r.ttl) x) (not_there r at))
+
+    incremented_kept : (z : Records) → ttl_at (map (incremented o) z) q ≡ ttl_at z q
+    incremented_kept [] = refl
+    incremented_kept (r ∷ z) = one_kept r (is_apex_soa o r) refl (ttl_at (map (incremented o) z) q) ∙ ap (λ x. cond (same_record q r) (Some r.ttl) x) (incremented_kept z)
+
+  -- ---- an update that is answered
+
+  module _ (o : DomainName) (es : List NameRecords) (rs z records : Records) (there : are_among es o ≡ true) (spoken : AllByRecursion (λ r. are_among es r.name ≡ true) rs) where
+    abbrev Stays : Type 0
+    Stays = (q : Resource) → are_among es q.name ≡ false → ttl_at z q ≡ ttl_at records q
+
+    by_serial : (b changed : Bool) → IsOutcome (cond b (Ok (map (incremented o) (fold o 1 z rs), true)) (Err 2)) records changed → Stays
+    by_serial true changed is q apart =
+        sym (is.0 q ∙ incremented_kept o q (off_apex es q apart o there) (fold o 1 z rs) ∙ folded es q apart o rs z spoken)
+    by_serial false changed is q apart = absurd is
+
+    by_change : (b changed : Bool) → IsOutcome (cond b (with_next_serial o (fold o 1 z rs)) (Ok (z, false))) records changed → Stays
+    by_change true changed is q apart = by_serial (list_any (is_apex_soa o) (fold o 1 z rs)) changed is q apart
+    by_change false changed is q apart = sym (is.0 q)
+
+    by_refusal : (code : Option ℕ) (outcome : Outcome) (changed : Bool) → IsOutcome (unless_refused code outcome) records changed → (IsOutcome outcome records changed → Stays) → Stays
+    by_refusal None outcome changed is go = go is
+    by_refusal (Some code) outcome changed is go = absurd is
+
+  pub stays : {V : Type 0} (by : Ghosts V) (request : ReceivedRequest) (now : ℕ) (context : Option TSigResponseContext) (old new : UpdatableZone V) (es : List NameRecords)
+      → are_among es old.zone.origin ≡ true → AllByRecursion (λ r. are_among es r.name ≡ true) (update_of request.message).updates
+      → AnswersUpdate by old request now (Ok true) context new → (q : Resource) → are_among es q.name ≡ false → ttl_at (zone_records old.zone.sets) q ≡ ttl_at (zone_records new.zone.sets) q
+  stays by request now context old new es there spoken a =
+      let o : DomainName = old.zone.origin in
+      let z : Records = zone_records old.zone.sets in
+      let records : Records = zone_records new.zone.sets in
+      let message : UpdateMessage = update_of request.message in
+      let last : Outcome = applied o 1 z message.updates true in
+      let scan : Option ℕ = prescan_refusal o 1 message.updates in
+      let required : Option ℕ = prerequisites_refusal o 1 z message.prerequisites in
+      by_refusal o es message.updates z records there spoken (update_permission by old.verifier old.allow_update request now).refusal (unless_refused required (unless_refused scan last)) true a.0.0
+      (λ is. by_refusal o es message.updates z records there spoken required (unless_refused scan last) true is
+      (λ is. by_refusal o es message.updates z records there spoken scan last true is
+      (λ is. by_change o es message.updates z records there spoken (any_change o 1 z message.updates) true is)))
+
+  pub origin_kept : {V : Type 0} (by : Ghosts V) (request : ReceivedRequest) (now : ℕ) (context : Option TSigResponseContext) (old new : UpdatableZone V)
+      → AnswersUpdate by old request now (Ok true) context new → new.zone.origin ≡ old.zone.origin
+  origin_kept by request now context old new a = ap (λ (m : MemoryZone). m.origin) a.0.1

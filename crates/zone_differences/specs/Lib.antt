@@ -1,0 +1,4 @@
+pub mod Differences
+pub mod Histories
+pub mod Sequences
+pub mod Standing

@@ -1,0 +1,14 @@
+//! Laws of the definitions, each the contract of a function with nothing to do.
+
+ghost use Rattle.zone_differences.specs.Differences.{AppliedLeads, AppliedRespects};
+
+use hickory_store::sqlite::laws::identities;
+
+/// Who applies the difference between two versions of a zone to the one has the other (RFC 1995 section 4), whatever the order of its records; and who
+/// applies it to lists that stand for one zone has lists that stand for one zone.
+pub fn differences_lead()
+    ensures leads { AppliedLeads }
+    ensures respects { AppliedRespects }
+{
+    identities();
+}

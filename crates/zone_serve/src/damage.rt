@@ -1,0 +1,53 @@
+//! Where a journal is damaged.
+
+use crate::files::bytes_of;
+use hickory_server::proto::{LowerName, Name};
+use journal_entries::{EntryPlace, first_wrong};
+use std::alloc::Global;
+use std::fmt;
+use std::rt::Files;
+use update_journal::{is_newer, read_entries};
+
+/// Where in its two files a journal has an entry that is no update of the zone.
+#[derive(Clone, Copy, Debug, PartialEq, Eq)]
+pub struct Damage {
+    /// The entry.
+    pub entry: EntryPlace,
+    /// Whether it is one of the second file.
+    pub is_second: bool,
+}
+
+impl fmt::Display for Damage {
+    fn fmt<W: fmt::Write>(&self, f: &mut fmt::Formatter<W>) -> fmt::Result {
+        write!(f, "{}", self.entry)?;
+        if self.is_second {
+            f.write_str(" of the file '-wal' beside it")?;
+        }
+        Ok(())
+    }
+}
+
+/// The entries of a file, if it can be read.
+fn entries_of<R: Files + Alloc<A = Global>>(rt: &R, file: &str) -> Option<Vec<Vec<u8>>> {
+    let bytes = bytes_of(rt, file).ok()?;
+    let found = read_entries(rt.alloc(), &bytes).ok()?;
+    Some(found.entries)
+}
+
+/// Where the journal at a path is damaged: the first entry, of the file that counts, which may not stand in the journal of this zone. It is looked for as far as
+/// files and memory give.
+pub fn find_damage<R: Files + Alloc<A = Global>>(
+    rt: &R,
+    path: &str,
+    apex: &Name,
+) -> Option<Damage> {
+    let alloc = rt.alloc();
+    let zone = LowerName::new(alloc, apex).ok()?;
+    let beside = format!(in alloc; "{path}-wal").ok()?;
+    let first = entries_of(rt, path)?;
+    let second = entries_of(rt, beside.as_str())?;
+    let is_second = is_newer(&second, &first);
+    let counting = if is_second { &second } else { &first };
+    let entry = first_wrong(alloc, counting, &zone).ok()??;
+    Some(Damage { entry, is_second })
+}

@@ -1,0 +1,252 @@
+//! The journals of zones that take updates, from the arguments.
+
+ghost use Rattle.std.specs.Prelude.{◌≡◌, IfOk, IsTrue, OnOk};
+ghost use Rattle.sqlite_disk.specs.Disk.{Only};
+ghost use Rattle.served_zones.specs.ServedZones.{IsApexText};
+ghost use Rattle.zone_serve.specs.Journals.{AreJournalled, HasOpened, IsJournalledBy};
+
+use crate::damage::{Damage, find_damage};
+use crate::fault::Fault;
+use crate::files::{FileFault, fault_of};
+use crate::server::apex_of;
+use crate::serving::Watch;
+use hickory_server::proto::Name;
+use serve_options::arguments::ZoneArgument;
+use served_updates::journals::{JournalFault, Opened, has_updates, is_shut, open_journal};
+use served_updates::moving::{Handler, Zones};
+use signed_server::{LeftToServer, SignedServer};
+use sqlite_disk::{Disk, Files as TwoFiles};
+use sqlite_std_file::{File, OpenError, Unknown, open};
+use std::alloc::Global;
+use std::rt::Files;
+use thiserror::Error;
+
+/// Why the journal in a file is not opened.
+#[derive(Clone, Copy, Debug, PartialEq, Eq, Error)]
+pub enum JournalFileFault {
+    /// One of its two files cannot be opened.
+    #[error("{0}")]
+    File(FileFault),
+    /// Another process has them open, or another zone.
+    #[error("the journal is in use")]
+    InUse,
+    /// A journal of SQLite's has the name of one beside it.
+    #[error("a journal of SQLite stands beside it")]
+    Rollback,
+    /// An entry is no update of the zone.
+    #[error("{0} is no update of this zone")]
+    Entry(Damage),
+    /// It is not taken for another reason.
+    #[error("{0}")]
+    Journal(JournalFault),
+    /// Memory was refused.
+    #[error("no memory")]
+    Memory,
+}
+
+/// Where the files of journals are opened.
+pub trait JournalFiles<D: Disk> {
+    /// The two files of the journal at a path, for this process alone: what is read of them is what is on the disk.
+    fn open_two(&self, path: &str) -> Result<TwoFiles<D>, JournalFileFault>
+        ensures usable { IfOk result (λ files. IsTrue (D.is_usable files.db) × IsTrue (D.is_usable files.log)) }
+        ensures restarted { IfOk result (λ files. Only (D.seen files.db) (D.may_leave files.db) × Only (D.seen files.log) (D.may_leave files.log)) };
+}
+
+/// The files of the system.
+#[derive(Drop)]
+pub struct SystemFiles<'a> {
+    /// The runtime.
+    pub rt: &'a HostRuntime,
+}
+
+/// The fault of files that are not opened.
+fn fault_of_opening(error: &OpenError) -> JournalFileFault {
+    match error {
+        OpenError::OutOfMemory => JournalFileFault::Memory,
+        OpenError::Busy => JournalFileFault::InUse,
+        OpenError::HotJournal => JournalFileFault::Rollback,
+        OpenError::Io(e) => match fault_of(e) {
+            FileFault::Memory => JournalFileFault::Memory,
+            fault => JournalFileFault::File(fault),
+        },
+    }
+}
+
+impl<'a> JournalFiles<File> for SystemFiles<'a> {
+    fn open_two(&self, path: &str) -> Result<TwoFiles<File>, JournalFileFault> {
+        match open(self.rt, path, Unknown) {
+            Ok(files) => Ok(files),
+            Err(error) => Err(fault_of_opening(&error)),
+        }
+    }
+}
+
+/// A zone with a journal.
+#[derive(Drop)]
+pub struct Journalled<'a> {
+    /// The name of its apex.
+    apex: Name,
+    /// The file of the journal.
+    file: &'a str,
+    /// Whether it was told that the journal takes no updates any more.
+    is_told: bool,
+}
+
+/// Opens the journal at a path for the zone of this apex.
+fn open_at<D: Disk + Drop, F: JournalFiles<D>>(
+    alloc: Global,
+    files: &F,
+    path: &str,
+    zones: &mut Zones<D>,
+    apex: &Name,
+) -> Result<Opened, JournalFileFault>
+    ensures opened { OnOk result (HasOpened D.Disk apex.now zones.old.zones zones.new.zones) }
+    ensures others { zones.new ≡ record zones.old { zones = zones.new.zones } }
+{
+    let TwoFiles { db, log } = files.open_two(path)?;
+    match open_journal(alloc, zones, apex, db, log) {
+        Ok(opened) => Ok(opened),
+        Err(JournalFault::Memory) => Err(JournalFileFault::Memory),
+        Err(fault) => Err(JournalFileFault::Journal(fault)),
+    }
+}
+
+/// Tells that a journal takes no updates any more. That it cannot be told changes nothing.
+fn tell_shut<R: Eprint>(rt: &R, file: &str) {
+    let _ = eprintln!(rt;
+        "zone_serve: {file}: the journal is not written: each update is SERVFAIL until the next start"
+    );
+}
+
+/// Tells what an operator is to know of a journal that was opened. That it cannot be told changes nothing.
+fn tell_opened<R: Eprint>(rt: &R, file: &str, opened: Opened) {
+    if opened.journal != opened.file {
+        let _ = eprintln!(rt;
+            "zone_serve: {file}: the journal counts, with serial {}, and not the zone file, with serial {}",
+            opened.journal, opened.file
+        );
+    }
+    if !opened.takes_updates {
+        tell_shut(rt, file);
+    }
+}
+
+/// The name of the zone of a journal, which is to take updates, and to have no journal yet.
+fn apex_for<D: Disk + Drop>(
+    alloc: Global,
+    zones: &Zones<D>,
+    argument: ZoneArgument<'_>,
+    earlier: &[Journalled<'_>],
+) -> Result<Name, Fault>
+    ensures { IfOk result (IsApexText argument.entry.name.now) }
+{
+    let place = argument.place;
+    let apex = apex_of(alloc, argument.name, place)?;
+    if earlier.iter().any(|it| it.apex == apex) {
+        return Err(Fault::JournalTwice { place });
+    }
+    if !has_updates(alloc, zones, &apex)? {
+        return Err(Fault::JournalZone { place });
+    }
+    Ok(apex)
+}
+
+/// The fault of the journal at a path, with the entry at which it is damaged, if it is.
+fn with_place<R: Files + Alloc<A = Global>>(
+    rt: &R,
+    path: &str,
+    apex: &Name,
+    fault: JournalFileFault,
+) -> JournalFileFault {
+    match fault {
+        JournalFileFault::Journal(JournalFault::Damaged) => match find_damage(rt, path, apex) {
+            Some(damage) => JournalFileFault::Entry(damage),
+            None => fault,
+        },
+        _ => fault,
+    }
+}
+
+/// Opens the journal of an argument, the one at this place among them.
+fn open_one<'a, R: Files + Eprint + Alloc<A = Global>, D: Disk + Drop, F: JournalFiles<D>>(
+    rt: &R,
+    files: &F,
+    argument: ZoneArgument<'a>,
+    place: usize,
+    zones: &mut Zones<D>,
+    earlier: &[Journalled<'_>],
+) -> Result<Journalled<'a>, Fault>
+    ensures opened { OnOk result (IsJournalledBy D.Disk argument.entry zones.old.zones zones.new.zones) }
+    ensures others { zones.new ≡ record zones.old { zones = zones.new.zones } }
+{
+    let alloc = rt.alloc();
+    let file = argument.file;
+    let apex = apex_for(alloc, zones, argument, earlier)?;
+    match open_at(alloc, files, file, zones, &apex) {
+        Ok(opened) => {
+            tell_opened(rt, file, opened);
+            Ok(Journalled {
+                apex,
+                file,
+                is_told: !opened.takes_updates,
+            })
+        }
+        Err(JournalFileFault::Memory) => Err(Fault::Memory),
+        Err(fault) => Err(Fault::Journal {
+            place,
+            fault: with_place(rt, file, &apex, fault),
+        }),
+    }
+}
+
+/// Opens the journals of the arguments, in their order, each for its zone, and tells where a journal has another zone than the file.
+pub fn open_journals<'a, R: Files + Eprint + Alloc<A = Global>, D: Disk + Drop, F: JournalFiles<D>>(
+    rt: &R,
+    files: &F,
+    arguments: &[ZoneArgument<'a>],
+    zones: &mut Zones<D>,
+) -> Result<Vec<Journalled<'a>>, Fault>
+    ensures opened { OnOk result (AreJournalled D.Disk arguments.now zones.old.zones zones.new.zones) }
+    ensures others { zones.new ≡ record zones.old { zones = zones.new.zones } }
+{
+    let mut opened = Vec::new(rt.alloc());
+    for place in 0..arguments.len() {
+        let one = open_one(rt, files, arguments[place], place, zones, &opened)?;
+        opened.push(one)?;
+    }
+    Ok(opened)
+}
+
+/// Tells of journals that take no updates any more, each once.
+#[derive(Drop)]
+pub struct JournalWatch<'r, 'a> {
+    /// The runtime.
+    pub rt: &'r HostRuntime,
+    /// The zones that have journals.
+    pub journals: Vec<Journalled<'a>>,
+}
+
+/// Tells of one journal.
+fn look_at<R: Eprint + Alloc<A = Global>, D: Disk + Drop>(
+    rt: &R,
+    zones: &Zones<D>,
+    journal: &mut Journalled<'_>,
+) {
+    if journal.is_told {
+        return;
+    }
+    if let Ok(true) = is_shut(rt.alloc(), zones, &journal.apex) {
+        tell_shut(rt, journal.file);
+        journal.is_told = true;
+    }
+}
+
+impl<'r, 'a, D: Disk + Drop> Watch<LeftToServer, Handler<D>> for JournalWatch<'r, 'a> {
+    fn after_line(&mut self, server: &SignedServer<LeftToServer, Handler<D>>) {
+        for place in 0..self.journals.len() {
+            if let Some(journal) = self.journals.get_mut(place) {
+                look_at(self.rt, &server.server.catalog, journal);
+            }
+        }
+    }
+}

@@ -1,0 +1,38 @@
+//! Messages and their replies in the log of queries.
+
+ghost use Rattle.std.specs.Net.Socket.{socket_ip};
+ghost use Rattle.std.specs.Prelude.{◌≡◌};
+ghost use Rattle.zone_service.specs.Logged.{AreLogged, is_stream};
+
+use hickory_server::proto::{Octets, Protocol};
+use query_lines::QueryLog;
+use std::alloc::Global;
+use std::net::SocketAddr;
+
+/// Whether a message came over a stream.
+fn is_stream(protocol: Protocol) -> bool
+    ensures { result ≡ is_stream protocol }
+{
+    match protocol {
+        Protocol::Udp => false,
+        _ => true,
+    }
+}
+
+/// Has a log tell a message with the first of its replies.
+pub(crate) fn log_replies(
+    log: &mut QueryLog,
+    alloc: Global,
+    now: u64,
+    source: SocketAddr,
+    protocol: Protocol,
+    message: &[u8],
+    replies: &[Octets],
+)
+    ensures { AreLogged log.old now (socket_ip source) protocol message.now replies.now log.new }
+{
+    if let [reply, ..] = replies {
+        let stream = is_stream(protocol);
+        log.put(alloc, now, source.ip(), stream, message, reply.as_slice());
+    }
+}
