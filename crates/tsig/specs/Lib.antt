@@ -5,6 +5,7 @@ pub mod Judging
 pub mod JudgingSteps
 pub mod KeyTexts
 pub mod Keys
+pub mod Pads
 pub mod Reading
 pub mod Signing
 pub mod Standing

@@ -1,6 +1,7 @@
 //! The algorithms of keys (RFC 8945 section 6).
 
 ghost use Rattle.std.specs.Prelude.{◌≡◌, IfOk};
+ghost use Rattle.tsig.specs.Digest.{canonical};
 ghost use Rattle.tsig.specs.Hmac.{algorithm_label, algorithm_name, block_len, hash_function, least_len, mac_len};
 
 use std::alloc::{AllocError, Global};
@@ -99,6 +100,20 @@ impl Algorithm {
             Algorithm::HmacSha384_192 => b"hmac-sha384-192",
             Algorithm::HmacSha512 => b"hmac-sha512",
             Algorithm::HmacSha512_256 => b"hmac-sha512-256",
+        }
+    }
+
+    /// Its name in canonical wire form (RFC 8945 section 4.3.3).
+    pub(crate) fn canonical(self) -> &'static [u8]
+        ensures { result.now ≡ canonical (algorithm_name self) }
+    {
+        match self {
+            Algorithm::HmacSha256 => b"\x0bhmac-sha256\0",
+            Algorithm::HmacSha256_128 => b"\x0fhmac-sha256-128\0",
+            Algorithm::HmacSha384 => b"\x0bhmac-sha384\0",
+            Algorithm::HmacSha384_192 => b"\x0fhmac-sha384-192\0",
+            Algorithm::HmacSha512 => b"\x0bhmac-sha512\0",
+            Algorithm::HmacSha512_256 => b"\x0fhmac-sha512-256\0",
         }
     }
 

@@ -3,12 +3,23 @@
 ghost use Rattle.std.specs.Prelude.{◌≡◌, ◌++◌, ◌%◌, ◌^◌, IfOk, OnOk, length, slice_range, take};
 ghost use Rattle.std.specs.Int.{w16, to_be_bytes};
 ghost use Rattle.tsig.specs.Digest.{canonical, next_digest, octets_48, prior_mac, reply_digest, request_digest, timers, unsigned_message, variables};
+ghost use Rattle.tsig.specs.Hmac.{algorithm_name};
 
+use crate::algorithm::Algorithm;
 use std::alloc::{AllocError, Global};
 use wire_messages::rr::tsig::TSIG;
-use wire_messages::serialize::writing::full_form::{write_name, write_u16};
+use wire_messages::serialize::writing::full_form::{full_name_len, write_name, write_u16};
 use wire_names::rr::domain::lower_name::LowerName;
 use wire_names::rr::domain::name::Name;
+
+/// How many bytes the longest name of an algorithm takes.
+const LONGEST_ALGORITHM: usize = 17;
+
+/// How many bytes the TSIG variables take beside their names and the other data.
+const FIXED_VARIABLES: usize = 18;
+
+/// How many bytes the TSIG timers take.
+const TIMERS_LEN: usize = 8;
 
 /// The bytes from a place up to another one, so far as they are there.
 pub(crate) fn part(bytes: &[u8], from: usize, to: usize) -> &[u8]
@@ -39,10 +50,10 @@ fn len_u16(bytes: &[u8]) -> u16
 }
 
 /// Puts a name behind the bytes, in canonical wire form.
-fn put_name(alloc: Global, out: &mut Vec<u8>, name: &Name) -> Result<(), AllocError>
+fn put_name(out: &mut Vec<u8>, name: &Name) -> Result<(), AllocError>
     ensures { OnOk result (out.new.items ≡ out.old.items ++ canonical name.now) }
 {
-    let lower = LowerName::new(alloc, name)?;
+    let lower = LowerName::new(*out.allocator(), name)?;
     write_name(out, lower.as_name())
 }
 
@@ -71,35 +82,41 @@ fn put_timers(out: &mut Vec<u8>, t: &TSIG) -> Result<(), AllocError>
 
 /// Puts the TSIG variables behind the bytes.
 fn put_variables(
-    alloc: Global,
     out: &mut Vec<u8>,
     key: &Name,
-    algorithm: &Name,
+    algorithm: Algorithm,
     t: &TSIG,
 ) -> Result<(), AllocError>
-    ensures { OnOk result (out.new.items ≡ out.old.items ++ variables key.now algorithm.now t.now) }
+    ensures { OnOk result (out.new.items ≡ out.old.items ++ variables key.now (algorithm_name algorithm) t.now) }
 {
-    put_name(alloc, out, key)?;
+    put_name(out, key)?;
     write_u16(out, 255)?;
     out.extend_from_slice(&0u32.to_be_bytes())?;
-    put_name(alloc, out, algorithm)?;
+    out.extend_from_slice(algorithm.canonical())?;
     put_timers(out, t)?;
     write_u16(out, t.error)?;
     write_u16(out, len_u16(t.other.as_slice()))?;
     out.extend_from_slice(t.other.as_slice())
 }
 
-/// The message as it was before it was signed, where its last record begins at this place.
+/// For how many bytes room is made before TSIG variables are put: no fewer than they take.
+pub(crate) fn variables_room(key: &Name, t: &TSIG) -> usize {
+    let names = usize::from(full_name_len(key)) + LONGEST_ALGORITHM;
+    (names + FIXED_VARIABLES).saturating_add(t.other.len())
+}
+
+/// The message as it was before it was signed, where its last record begins at this place, with room for some bytes behind it.
 pub(crate) fn unsigned_message(
     alloc: Global,
     bytes: &[u8],
     original: u16,
     additionals: u16,
     place: usize,
+    room: usize,
 ) -> Result<Vec<u8>, AllocError>
     ensures { IfOk result (λ out. out.items ≡ unsigned_message bytes.now original additionals place) }
 {
-    let mut out = Vec::new(alloc);
+    let mut out = Vec::with_capacity(alloc, bytes.len().min(place).saturating_add(room))?;
     write_u16(&mut out, original)?;
     out.extend_from_slice(part(bytes, 2, 10))?;
     write_u16(&mut out, additionals.saturating_sub(1))?;
@@ -109,16 +126,31 @@ pub(crate) fn unsigned_message(
 
 /// What a request is signed over, the message before it was signed in front.
 pub(crate) fn request_digest(
-    alloc: Global,
     key: &Name,
-    algorithm: &Name,
+    algorithm: Algorithm,
     t: &TSIG,
     mut message: Vec<u8>,
 ) -> Result<Vec<u8>, AllocError>
-    ensures { IfOk result (λ out. out.items ≡ request_digest key.now algorithm.now t.now message.items) }
+    ensures { IfOk result (λ out. out.items ≡ request_digest key.now (algorithm_name algorithm) t.now message.items) }
 {
-    put_variables(alloc, &mut message, key, algorithm, t)?;
+    put_variables(&mut message, key, algorithm, t)?;
     Ok(message)
+}
+
+/// The MAC before a message, and the message, with room for some bytes behind it.
+fn digest_begun(
+    alloc: Global,
+    mac: &[u8],
+    message: &[u8],
+    room: usize,
+) -> Result<Vec<u8>, AllocError>
+    ensures { IfOk result (λ out. out.items ≡ prior_mac mac.now ++ message.now) }
+{
+    let len = mac.len().saturating_add(message.len()).saturating_add(2);
+    let mut out = Vec::with_capacity(alloc, len.saturating_add(room))?;
+    put_prior_mac(&mut out, mac)?;
+    out.extend_from_slice(message)?;
+    Ok(out)
 }
 
 /// What a reply is signed over.
@@ -126,16 +158,14 @@ pub(crate) fn reply_digest(
     alloc: Global,
     mac: &[u8],
     key: &Name,
-    algorithm: &Name,
+    algorithm: Algorithm,
     t: &TSIG,
     message: &[u8],
 ) -> Result<Vec<u8>, AllocError>
-    ensures { IfOk result (λ out. out.items ≡ reply_digest mac.now key.now algorithm.now t.now message.now) }
+    ensures { IfOk result (λ out. out.items ≡ reply_digest mac.now key.now (algorithm_name algorithm) t.now message.now) }
 {
-    let mut out = Vec::new(alloc);
-    put_prior_mac(&mut out, mac)?;
-    out.extend_from_slice(message)?;
-    put_variables(alloc, &mut out, key, algorithm, t)?;
+    let mut out = digest_begun(alloc, mac, message, variables_room(key, t))?;
+    put_variables(&mut out, key, algorithm, t)?;
     Ok(out)
 }
 
@@ -148,9 +178,7 @@ pub(crate) fn next_digest(
 ) -> Result<Vec<u8>, AllocError>
     ensures { IfOk result (λ out. out.items ≡ next_digest mac.now t.now message.now) }
 {
-    let mut out = Vec::new(alloc);
-    put_prior_mac(&mut out, mac)?;
-    out.extend_from_slice(message)?;
+    let mut out = digest_begun(alloc, mac, message, TIMERS_LEN)?;
     put_timers(&mut out, t)?;
     Ok(out)
 }

@@ -9,10 +9,10 @@ ghost use Rattle.tsig.specs.declared.judgement.Judgement.{Judgement as Answer};
 ghost use Rattle.tsig.specs.declared.keys.Key.{Key as AnyKey};
 
 use crate::algorithm::Algorithm;
-use crate::digest::{front, request_digest, unsigned_message};
+use crate::digest::{front, request_digest, unsigned_message, variables_room};
 use crate::judgement::{Judgement, Verdict};
 use crate::keys::{Key, Keys};
-use crate::macs::{is_same_mac, mac};
+use crate::macs::is_same_mac;
 use crate::reading::{PlacedSignature, signature_of};
 use std::alloc::{AllocError, Global};
 use wire_messages::rr::dns_class::DNSClass;
@@ -52,7 +52,7 @@ pub(crate) fn is_mac_of(
 ) -> Result<bool, AllocError>
     ensures { IfOk result (λ answer. answer ≡ is_mac_of key.now text.now told.now) }
 {
-    let right = mac(alloc, key.algorithm, key.secret.as_slice(), text)?;
+    let right = key.mac(alloc, text)?;
     Ok(is_same_mac(front(&right, told.len()), told))
 }
 
@@ -74,9 +74,9 @@ pub(crate) fn signed_text(
     ensures { IfOk result (λ text. text.items ≡ signed_text key.now bytes.now p.now.additionals p.now.place p.now.signature) }
 {
     let t = &p.signature.rdata;
-    let message = unsigned_message(alloc, bytes, t.oid, p.additionals, p.place)?;
-    let algorithm = key.algorithm.name(alloc)?;
-    request_digest(alloc, &key.name, &algorithm, t, message)
+    let room = variables_room(&key.name, t);
+    let message = unsigned_message(alloc, bytes, t.oid, p.additionals, p.place, room)?;
+    request_digest(&key.name, key.algorithm, t, message)
 }
 
 /// Time, and what local policy demands, of a MAC that is right.

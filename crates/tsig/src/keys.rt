@@ -1,10 +1,13 @@
 //! Keys by their names.
 
-ghost use Rattle.std.specs.Prelude.{◌≡◌, ◌++◌, ◌∷◌, [], ◌↔◌, IsTrue, IfOk, OnOk, OnErr};
+ghost use Rattle.std.specs.Prelude.{◌≡◌, ◌++◌, ◌∷◌, [], ◌↔◌, IsTrue, IfOk, OnOk, OnErr, length};
 ghost use Rattle.std.specs.Option.{option_copied};
+ghost use Rattle.tsig.specs.Hmac.{hash_len, hmac, mac_len, mac_of};
 ghost use Rattle.tsig.specs.Keys.{key_of};
 
-use crate::algorithm::Algorithm;
+use crate::algorithm::{Algorithm, HashFunction};
+use crate::macs::{hmac, hmac_behind, pads_of};
+use crate::pads::Pads;
 use std::alloc::{AllocError, Global};
 use std::marker::Model;
 use wire_names::rr::domain::name::Name;
@@ -13,14 +16,19 @@ use wire_names::rr::domain::name::Name;
 #[derive(Drop)]
 pub struct Secret {
     bytes: Vec<u8>,
+    // Its pads, hashed, where it is the secret of a key that was added to others.
+    pads: Option<Pads>,
 }
 
 impl Model for Secret {
-    ghost use Rattle.std.specs.Prelude.{List, ℕ};
+    ghost use Rattle.std.specs.Prelude.{List, ℕ, IfSome};
+    ghost use Rattle.tsig.specs.Pads.{ArePads};
 
     ghost Value = { List ℕ };
 
     ghost view = { λ secret. secret.bytes.items };
+
+    ghost invariant = { λ secret. IfSome secret.pads (ArePads secret.bytes.items) };
 }
 
 impl Secret {
@@ -28,14 +36,7 @@ impl Secret {
     pub fn new(bytes: Vec<u8>) -> Secret
         ensures { result ≡ bytes.items }
     {
-        Secret { bytes }
-    }
-
-    /// Its bytes.
-    pub(crate) fn as_slice(&self) -> &[u8]
-        ensures { result.now ≡ self.now }
-    {
-        self.bytes.as_slice()
+        Secret { bytes, pads: None }
     }
 
     /// Whether it has no byte.
@@ -50,7 +51,33 @@ impl Secret {
         ensures { IfOk result (λ secret. secret ≡ self.now) }
     {
         let bytes = Vec::from_slice(alloc, self.bytes.as_slice())?;
-        Ok(Secret { bytes })
+        Ok(Secret { bytes, pads: None })
+    }
+
+    /// Hashes its pads, so that HMACs by this function need not.
+    fn prepare(&mut self, alloc: Global, function: HashFunction) -> Result<(), AllocError>
+        ensures { self.new ≡ self.old }
+    {
+        self.pads = Some(pads_of(alloc, function, self.bytes.as_slice())?);
+        Ok(())
+    }
+
+    /// The HMAC of a text by it (RFC 2104 section 2).
+    fn hmac(
+        &self,
+        alloc: Global,
+        function: HashFunction,
+        text: &[u8],
+    ) -> Result<Vec<u8>, AllocError>
+        ensures value { IfOk result (λ digest. digest.items ≡ hmac function self.now text.now) }
+        ensures len { IfOk result (λ digest. length digest.items ≡ hash_len function) }
+    {
+        if let Some(pads) = &self.pads {
+            if pads.function() == function {
+                return hmac_behind(alloc, pads, text);
+            }
+        }
+        hmac(alloc, function, self.bytes.as_slice(), text)
     }
 }
 
@@ -79,6 +106,18 @@ impl Key {
             secret,
             shortest: 0,
         }
+    }
+
+    /// The whole MAC of a text by it: its HMAC, truncated where the algorithm is (RFC 2104 section 5).
+    pub(crate) fn mac(&self, alloc: Global, text: &[u8]) -> Result<Vec<u8>, AllocError>
+        ensures value { IfOk result (λ mac. mac.items ≡ mac_of self.now.algorithm self.now.secret text.now) }
+        ensures len { IfOk result (λ mac. length mac.items ≡ mac_len self.now.algorithm) }
+    {
+        let mut mac = self
+            .secret
+            .hmac(alloc, self.algorithm.hash_function(), text)?;
+        mac.truncate(self.algorithm.mac_len());
+        Ok(mac)
     }
 
     /// A copy.
@@ -126,11 +165,14 @@ impl Keys {
         self.keys.is_empty()
     }
 
-    /// Adds a key. Where there is one of its name, that one stays the one that is found.
-    pub fn add(&mut self, key: Key) -> Result<(), AllocError>
+    /// Adds a key. Where there is one of its name, that one stays the one that is found. It hashes the pads of the secret, so that
+    /// MACs by it hash two blocks less each.
+    pub fn add(&mut self, mut key: Key) -> Result<(), AllocError>
         ensures ok { OnOk result (self.new ≡ self.old ++ key ∷ []) }
         ensures err { OnErr result (self.new ≡ self.old) }
     {
+        let function = key.algorithm.hash_function();
+        key.secret.prepare(*self.keys.allocator(), function)?;
         self.keys.push(key)?;
         Ok(())
     }

@@ -10,6 +10,7 @@ mod key_text;
 mod keys;
 mod laws;
 mod macs;
+mod pads;
 mod reading;
 mod signer;
 mod signing;

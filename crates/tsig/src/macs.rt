@@ -1,44 +1,22 @@
 //! HMAC (RFC 2104), and comparing MACs.
 
-ghost use Rattle.std.specs.Prelude.{◌≡◌, ◌++◌, IfOk, bit_xor, bytes_eq, length, map};
+ghost use Rattle.std.specs.Prelude.{◌≡◌, IfOk, List, ℕ, bit_xor, bytes_eq, length, map};
 ghost use Rattle.tsig.specs.Hmac.{block_key, hash_len, hash_of, hmac, mac_len, mac_of, short_key};
+ghost use Rattle.tsig.specs.Pads.{ArePads, function_of};
 
 use crate::algorithm::{Algorithm, HashFunction};
+use crate::pads::Pads;
 use sha2::{Digest, Sha256, Sha384, Sha512};
 use std::alloc::{AllocError, Global};
 
-/// The hash of two pieces, taken as one text.
-fn hash(
-    alloc: Global,
-    function: HashFunction,
-    first: &[u8],
-    second: &[u8],
-) -> Result<Vec<u8>, AllocError>
-    ensures value { IfOk result (λ digest. digest.items ≡ hash_of function (first.now ++ second.now)) }
-    ensures len { IfOk result (λ digest. length digest.items ≡ hash_len function) }
+/// The hash of a text.
+fn hash(alloc: Global, function: HashFunction, text: &[u8]) -> Result<Vec<u8>, AllocError>
+    ensures { IfOk result (λ digest. digest.items ≡ hash_of function text.now) }
 {
     match function {
-        HashFunction::Sha256 => {
-            let mut hasher = Sha256::new();
-            hasher.update(first);
-            hasher.update(second);
-            let digest = hasher.finalize();
-            Vec::from_slice(alloc, &digest)
-        }
-        HashFunction::Sha384 => {
-            let mut hasher = Sha384::new();
-            hasher.update(first);
-            hasher.update(second);
-            let digest = hasher.finalize();
-            Vec::from_slice(alloc, &digest)
-        }
-        HashFunction::Sha512 => {
-            let mut hasher = Sha512::new();
-            hasher.update(first);
-            hasher.update(second);
-            let digest = hasher.finalize();
-            Vec::from_slice(alloc, &digest)
-        }
+        HashFunction::Sha256 => Vec::from_slice(alloc, &Sha256::digest(text)),
+        HashFunction::Sha384 => Vec::from_slice(alloc, &Sha384::digest(text)),
+        HashFunction::Sha512 => Vec::from_slice(alloc, &Sha512::digest(text)),
     }
 }
 
@@ -47,7 +25,7 @@ fn short_key(alloc: Global, function: HashFunction, secret: &[u8]) -> Result<Vec
     ensures { IfOk result (λ key. key.items ≡ short_key function secret.now) }
 {
     if function.block_len() < secret.len() {
-        return hash(alloc, function, secret, b"");
+        return hash(alloc, function, secret);
     }
     Vec::from_slice(alloc, secret)
 }
@@ -70,8 +48,32 @@ fn flip(bytes: &mut [u8], pad: u8)
     }
 }
 
-/// The HMAC of a text (RFC 2104 section 2). It hashes the text once, and takes memory for two blocks and two hashes.
+/// Hashers behind the pads of a secret. They have hashed two blocks, and the secret where it is longer than one.
+pub(crate) fn pads_of(
+    alloc: Global,
+    function: HashFunction,
+    secret: &[u8],
+) -> Result<Pads, AllocError>
+    ensures function { IfOk result (λ pads. function_of pads ≡ function) }
+    ensures pads { IfOk result (ArePads secret.now) }
+{
+    let mut inner = block_key(alloc, function, secret)?;
+    let mut outer = Vec::from_slice(alloc, &inner)?;
+    flip(&mut inner, 0x36);
+    flip(&mut outer, 0x5c);
+    Ok(Pads::behind(function, &inner, &outer))
+}
+
+/// The HMAC of a text behind pads.
 #[tactic(auto, unfolding(crate::specs::Hmac::hmac))]
+pub(crate) fn hmac_behind(alloc: Global, pads: &Pads, text: &[u8]) -> Result<Vec<u8>, AllocError>
+    ensures value { (key : List ℕ) → ArePads key pads.now → IfOk result (λ digest. digest.items ≡ hmac (function_of pads.now) key text.now) }
+    ensures len { IfOk result (λ digest. length digest.items ≡ hash_len (function_of pads.now)) }
+{
+    pads.finished(alloc, text)
+}
+
+/// The HMAC of a text (RFC 2104 section 2). It hashes the text once, and takes memory for two blocks and the hash.
 pub fn hmac(
     alloc: Global,
     function: HashFunction,
@@ -81,12 +83,8 @@ pub fn hmac(
     ensures value { IfOk result (λ digest. digest.items ≡ hmac function secret.now text.now) }
     ensures len { IfOk result (λ digest. length digest.items ≡ hash_len function) }
 {
-    let mut inner = block_key(alloc, function, secret)?;
-    let mut outer = Vec::from_slice(alloc, &inner)?;
-    flip(&mut inner, 0x36);
-    let digest = hash(alloc, function, &inner, text)?;
-    flip(&mut outer, 0x5c);
-    hash(alloc, function, &outer, &digest)
+    let pads = pads_of(alloc, function, secret)?;
+    hmac_behind(alloc, &pads, text)
 }
 
 /// The whole MAC of a text by an algorithm: its HMAC, truncated where the algorithm is (RFC 2104 section 5).

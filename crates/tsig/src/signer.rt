@@ -8,7 +8,6 @@ ghost use Rattle.tsig.specs.Signing.{record_of};
 use crate::algorithm::Algorithm;
 use crate::digest::{put_time, reply_digest};
 use crate::keys::{Key, Keys};
-use crate::macs::mac;
 use crate::signing::{FUDGE, record_of, time_of};
 use hickory_catalog::signer::{ReplySigner, SignError};
 use std::alloc::{AllocError, Global};
@@ -106,9 +105,8 @@ fn signed_record(
 ) -> Result<Record<TSIG>, AllocError>
     ensures { IfOk result (λ made. made ≡ signed_record key.now context.entry.now prior.now bytes.now t) }
 {
-    let algorithm = key.algorithm.name(alloc)?;
-    let text = reply_digest(alloc, prior, &key.name, &algorithm, &t, bytes)?;
-    t.mac = Octets::from_vec(mac(alloc, key.algorithm, key.secret.as_slice(), &text)?);
+    let text = reply_digest(alloc, prior, &key.name, key.algorithm, &t, bytes)?;
+    t.mac = Octets::from_vec(key.mac(alloc, &text)?);
     record_of(&context.key_name, t)
 }
 

@@ -10,7 +10,6 @@ ghost use Rattle.tsig.specs.declared.signing.SigningError.TheVariants as signing
 use crate::digest::{next_digest, put_time, reply_digest};
 use crate::judgement::{Judgement, Verdict};
 use crate::keys::{Key, Keys};
-use crate::macs::mac;
 use crate::writing::{has_room, id_of, write_appended};
 use std::alloc::{AllocError, AllocFailed, Global};
 use thiserror::Error;
@@ -139,19 +138,7 @@ pub(crate) fn record_of(name: &Name, t: TSIG) -> Result<Record<TSIG>, AllocError
     })
 }
 
-/// Puts a message behind the bytes, with the record of these data.
-fn put_record(out: &mut Vec<u8>, message: &[u8], name: &Name, t: TSIG) -> Result<(), AllocError>
-    requires room { HasRoom message.now }
-    requires time { t.time < 2 ^ 48 }
-    requires mac { length t.mac ≤ 64 }
-    requires other { length t.other ≤ 6 }
-    ensures { OnOk result (out.new.items ≡ out.old.items ++ appended message.now (record_of name.now t)) }
-{
-    let made = record_of(name, t)?;
-    write_appended(out, message, &made)
-}
-
-/// The same with this MAC, of which it returns a copy.
+/// Puts a message behind the bytes, with the record of these data and this MAC, which it returns.
 fn put_with_mac(
     out: &mut Vec<u8>,
     message: &[u8],
@@ -163,13 +150,14 @@ fn put_with_mac(
     requires time { t.time < 2 ^ 48 }
     requires short { length mac.items ≤ 64 }
     requires other { length t.other ≤ 6 }
-    ensures mac { IfOk result (λ copy. copy ≡ mac.items) }
+    ensures mac { IfOk result (λ put. put ≡ mac.items) }
     ensures bytes { OnOk result (out.new.items ≡ out.old.items ++ appended message.now (record_of name.now (with_mac t mac.items))) }
 {
     let mac = Octets::from_vec(mac);
-    let copy = mac.clone()?;
-    put_record(out, message, name, TSIG { mac, ..t })?;
-    Ok(copy)
+    let t = TSIG { mac, ..t };
+    write_appended(out, message, name, &t)?;
+    let TSIG { mac, .. } = t;
+    Ok(mac)
 }
 
 /// The MAC of a reply, over the MAC of the request.
@@ -183,10 +171,9 @@ fn reply_mac(
     ensures value { IfOk result (λ mac. mac.items ≡ reply_mac key.now s.now t.now message.now) }
     ensures len { IfOk result (λ mac. length mac.items ≤ 64) }
 {
-    let algorithm = key.algorithm.name(alloc)?;
     let prior = s.rdata.mac.as_slice();
-    let text = reply_digest(alloc, prior, &key.name, &algorithm, t, message)?;
-    mac(alloc, key.algorithm, key.secret.as_slice(), &text)
+    let text = reply_digest(alloc, prior, &key.name, key.algorithm, t, message)?;
+    key.mac(alloc, &text)
 }
 
 /// The MAC of a further message, over the MAC of the one before.
@@ -201,7 +188,7 @@ fn next_mac(
     ensures len { IfOk result (λ mac. length mac.items ≤ 64) }
 {
     let text = next_digest(alloc, prior, t, message)?;
-    mac(alloc, key.algorithm, key.secret.as_slice(), &text)
+    key.mac(alloc, &text)
 }
 
 /// Puts a reply with its MAC behind the bytes.
@@ -264,7 +251,7 @@ fn put_without_mac(
     ensures puts { Puts (Some (without_mac s.now t message.now)) out.old.items out.new.items result }
     ensures room { IfErr result (λ e. e ≢ SigningError.Message) }
 {
-    put_record(out, message, &s.name, t)?;
+    write_appended(out, message, &s.name, &t)?;
     Ok(Octets::from_vec(Vec::new(alloc)))
 }
 

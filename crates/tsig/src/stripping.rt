@@ -19,7 +19,7 @@ fn without_last(
 ) -> Result<Vec<u8>, AllocError>
     ensures { IfOk result (λ out. out.items ≡ without_last bytes.now additionals place) }
 {
-    let mut out = Vec::new(alloc);
+    let mut out = Vec::with_capacity(alloc, bytes.len().min(place))?;
     out.extend_from_slice(front(bytes, 10))?;
     write_u16(&mut out, additionals.saturating_sub(1))?;
     out.extend_from_slice(part(bytes, 12, place))?;

@@ -6,12 +6,12 @@ ghost use Rattle.wire_names.specs.rr.domain.DomainName.{name_len};
 ghost use Rattle.wire_messages.specs.rr.RecordData.{tsig_fields};
 ghost use Rattle.wire_messages.specs.serialize.layout.MessageLayout.{tsig_record};
 ghost use Rattle.wire_messages.specs.serialize.writing.FullForm.{record_octets};
-ghost use Rattle.tsig.specs.Signing.{HasRoom, additionals_of, appended, id_of};
+ghost use Rattle.tsig.specs.Signing.{HasRoom, additionals_of, appended, id_of, record_of};
 
 use std::alloc::AllocError;
-use wire_messages::rr::record::Record;
 use wire_messages::rr::tsig::TSIG;
 use wire_messages::serialize::writing::full_form::{full_name_len, write_name, write_u16};
+use wire_names::rr::domain::name::Name;
 
 /// The number in two bytes at a place.
 fn number_at(bytes: &[u8], place: usize) -> u16
@@ -70,36 +70,39 @@ fn write_fields(out: &mut Vec<u8>, t: &TSIG) -> Result<(), AllocError>
     out.extend_from_slice(t.other.as_slice())
 }
 
-/// Puts a TSIG record behind the bytes, in full.
-fn write_record(out: &mut Vec<u8>, r: &Record<TSIG>) -> Result<(), AllocError>
-    requires time { r.now.rdata.time < 2 ^ 48 }
-    requires mac { length r.now.rdata.mac ≤ 64 }
-    requires other { length r.now.rdata.other ≤ 6 }
-    ensures { OnOk result (out.new.items ≡ out.old.items ++ record_octets (tsig_record r.now)) }
+/// Puts the TSIG record of these data behind the bytes, in full.
+fn write_record(out: &mut Vec<u8>, name: &Name, t: &TSIG) -> Result<(), AllocError>
+    requires time { t.now.time < 2 ^ 48 }
+    requires mac { length t.now.mac ≤ 64 }
+    requires other { length t.now.other ≤ 6 }
+    ensures { OnOk result (out.new.items ≡ out.old.items ++ record_octets (tsig_record (record_of name.now t.now))) }
 {
-    write_name(out, &r.name)?;
+    write_name(out, name)?;
     write_u16(out, 250)?;
-    write_u16(out, r.dns_class.value())?;
-    write_u32(out, r.ttl)?;
-    write_u16(out, data_len(&r.rdata))?;
-    write_name(out, &r.rdata.algorithm)?;
-    write_fields(out, &r.rdata)
+    write_u16(out, 255)?;
+    write_u32(out, 0)?;
+    write_u16(out, data_len(t))?;
+    write_name(out, &t.algorithm)?;
+    write_fields(out, t)
 }
 
-/// Puts a message behind the bytes, with one more additional record, which is counted.
+/// Puts a message behind the bytes, with the TSIG record of these data, which is counted. It takes memory once.
 pub(crate) fn write_appended(
     out: &mut Vec<u8>,
     message: &[u8],
-    r: &Record<TSIG>,
+    name: &Name,
+    t: &TSIG,
 ) -> Result<(), AllocError>
     requires room { HasRoom message.now }
-    requires time { r.now.rdata.time < 2 ^ 48 }
-    requires mac { length r.now.rdata.mac ≤ 64 }
-    requires other { length r.now.rdata.other ≤ 6 }
-    ensures { OnOk result (out.new.items ≡ out.old.items ++ appended message.now r.now) }
+    requires time { t.now.time < 2 ^ 48 }
+    requires mac { length t.now.mac ≤ 64 }
+    requires other { length t.now.other ≤ 6 }
+    ensures { OnOk result (out.new.items ≡ out.old.items ++ appended message.now (record_of name.now t.now)) }
 {
+    let record = usize::from(full_name_len(name)) + 10 + usize::from(data_len(t));
+    out.reserve(record.saturating_add(message.len()))?;
     out.extend_from_slice(&message[..10])?;
     write_u16(out, number_at(message, 10) + 1)?;
     out.extend_from_slice(&message[12..])?;
-    write_record(out, r)
+    write_record(out, name, t)
 }
