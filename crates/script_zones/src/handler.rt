@@ -142,7 +142,10 @@ fn update_part(part: &Part, alloc: Global, request: &Request) -> Result<bool, Up
     };
     match note(part, alloc, &asked) {
         Ok(()) => part.updated(),
-        Err(_e) => Err(UpdateFault::Memory),
+        Err(e) => {
+            drop(e);
+            Err(UpdateFault::Memory)
+        }
     }
 }
 

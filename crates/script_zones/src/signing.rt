@@ -31,9 +31,13 @@ fn identifier(alloc: Global, server: &Server) -> Result<Option<NSIDPayload>, Fau
 
 /// Serves a chain at a name where there is none.
 fn serve(server: &mut Server, apex: LowerName, chain: Vec<Handler>) -> Result<(), Fault> {
-    match server.upsert(apex, chain) {
-        Ok(_) => Ok(()),
-        Err(_) => Err(Fault::Memory),
+    let served = server.upsert(apex, chain);
+    let is_served = served.is_ok();
+    drop(served);
+    if is_served {
+        Ok(())
+    } else {
+        Err(Fault::Memory)
     }
 }
 

@@ -2,6 +2,7 @@
 
 use crate::asking::print_calls;
 use crate::handler::{Handler, Source};
+use crate::held::{push, put_in};
 use crate::state::Zones;
 use crate::verifier::ScriptedVerifier;
 use crate::zones::axfr_policy;
@@ -89,8 +90,8 @@ fn updatable(
 fn begin(zones: &mut Zones, alloc: Global, words: &[&str]) -> Result<(), Fault> {
     let (policy, allow_update) = updatable_words(words)?;
     let handler = updatable(zones, alloc, policy, allow_update)?;
-    zones.chain.push(handler)?;
-    zones.zone = None;
+    push(&mut zones.chain, handler)?;
+    put_in(&mut zones.zone, None);
     zones.messages.place = Place::Nothing;
     Ok(())
 }
@@ -156,7 +157,7 @@ fn empty(zones: &mut Zones, alloc: Global) -> Result<(), Fault> {
 fn names(alloc: Global, words: &[&str]) -> Result<Vec<Name>, Fault> {
     let mut names = Vec::new(alloc);
     for word in words {
-        names.push(text::name(alloc, word)?)?;
+        push(&mut names, text::name(alloc, word)?)?;
     }
     Ok(names)
 }
