@@ -10,6 +10,7 @@ pub mod calls;
 pub mod chains;
 pub mod handler;
 pub mod held;
+pub mod keyed;
 pub mod lists;
 pub mod open_zone;
 pub mod part;
