@@ -3,7 +3,8 @@
 
     cases/signed_messages.py write              writes tests_signed/*.in anew
     cases/signed_messages.py verify [FILE..]    reads what tests_signed printed, or is to print (tests_signed/*.out), and verifies every signature in it;
-                                                with no file, those of tests_tsig (tests_tsig/replies.out) too
+                                                with no file, those of zone_script (updates_keys.out) and of tests_tsig
+                                                (tests_tsig/replies.out) too
 
 The requests are made and signed here (RFC 8945 sections 4.3 and 5.1). `verify` looks up the request of every reply in the .in beside the file,
 and says of each reply whether it carries a MAC, and whether that is the one of the bytes (sections 5.3 and 5.3.1). A comment above a message
@@ -17,6 +18,7 @@ import glob
 import hashlib
 import hmac
 import os
+import re
 import struct
 import sys
 
@@ -335,6 +337,26 @@ def verify(path):
     return passed, failed
 
 
+def verify_script():
+    """The replies of zone_script to the requests of cases/updates_keys.in, each of which has one."""
+    folder, wanted, asked, passed, failed = os.path.dirname(FOLDER), "", [], 0, 0
+    with open(f"{folder}/updates_keys.in", encoding="ascii") as file:
+        for line in file:
+            if line.startswith("# "):
+                wanted = line[2:].strip()
+            elif line.startswith("ask "):
+                asked.append((wanted, bytes.fromhex(line[4:])))
+    with open(f"{folder}/updates_keys.out", encoding="ascii") as file:
+        replies = [bytes.fromhex(line) for line in file if re.fullmatch("[0-9a-f]{24,}\n", line)]
+    for (wanted, request), reply in zip(asked, replies):
+        found = standing(request, [reply])
+        is_well = is_wanted(wanted.split(":")[0], found, request, [reply])
+        passed, failed = passed + is_well, failed + (not is_well)
+        if not is_well:
+            print(f"FAILED updates_keys: {wanted}: {found}")
+    return passed, failed + abs(len(asked) - len(replies))
+
+
 def verify_single():
     """The replies, and the further messages of transfers, that tests_tsig signed one by one (tests_tsig/replies.out)."""
     folder, request, passed, failed = os.path.join(os.path.dirname(FOLDER), "tests_tsig"), None, 0, 0
@@ -359,7 +381,7 @@ def main(words):
     if words[:1] == ["write"]:
         write()
         return 0
-    told = [verify(path) for path in words[1:] or sorted(glob.glob(os.path.join(FOLDER, "*.out")))] + ([] if words[1:] else [verify_single()])
+    told = [verify(path) for path in words[1:] or sorted(glob.glob(os.path.join(FOLDER, "*.out")))] + ([] if words[1:] else [verify_script(), verify_single()])
     passed, failed = sum(it[0] for it in told), sum(it[1] for it in told)
     print(f"{passed} passed, {failed} failed")
     return 1 if failed or not passed else 0

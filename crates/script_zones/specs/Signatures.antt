@@ -6,6 +6,9 @@ use Rattle.wire_messages.specs.declared.rr.tsig.TSIG.{TSIG}
 use Rattle.wire_messages.specs.declared.rr.tsig.TSigResponseContext.{TSigResponseContext}
 use Rattle.wire_messages.specs.declared.rr.tsig.TSigResponseKind.{TSigResponseKind}
 use Rattle.wire_messages.specs.declared.rr.tsig.TSigResponseKind.TheVariants.{UnknownKey, BadSignature, Known}
+use Rattle.tsig.specs.ContextSigning.{context_signature}
+use Rattle.script_zones.specs.declared.keyed.ServerSigner.{ServerSigner}
+use Rattle.script_zones.specs.declared.keyed.ServerSigner.TheVariants.{Scripted, ByKeys}
 use Rattle.script_zones.specs.declared.signer.Signing.{Signing}
 use Rattle.script_zones.specs.declared.signer.Signing.TheVariants.{Fails, Echo, Fixed, Memory}
 
@@ -32,3 +35,8 @@ signature_of Echo context bytes = Some (record_with context bytes)
 signature_of Fixed context bytes = Some (record_with context (1 ∷ 2 ∷ 3 ∷ 4 ∷ []))
 signature_of Fails context bytes = None
 signature_of Memory context bytes = None
+
+-- what a server's signer gives for bytes: as the script tells, or by its keys (RFC 8945 section 5.3)
+abbrev pub signature_by : ServerSigner → TSigResponseContext → List ℕ → Option (Record TSIG)
+signature_by (Scripted signer) context bytes = signature_of signer.signing context bytes
+signature_by (ByKeys signer) context bytes = context_signature signer.keys context bytes

@@ -130,7 +130,9 @@ fn look_up_with_do(
     let mut edns = Edns::new(alloc);
     edns.set_dnssec_ok(true);
     let now = zones.messages.settings.now;
-    zones.catalog.lookup(alloc, request, Some(&edns), now, sink)
+    let told = zones.catalog.lookup(alloc, request, Some(&edns), now, sink);
+    drop(edns);
+    told
 }
 
 /// Hands a request to what it is for.

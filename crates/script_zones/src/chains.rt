@@ -1,6 +1,7 @@
 //! Chains of handlers, and scripted ones.
 
 use crate::handler::{Handler, Source};
+use crate::held::{both, kept, push};
 use crate::part::{Answer, Call, Flow, Outcome, Part};
 use crate::state::Zones;
 use crate::zones::{close, zone_type};
@@ -81,6 +82,18 @@ impl PartWords {
     }
 }
 
+/// What a scripted handler at the place behind those that are begun answers by.
+fn part(zones: &Zones, alloc: Global, signs: bool) -> Result<Part, Fault> {
+    let log = zones.log.share()?;
+    Ok(Part {
+        place: zones.chain.len(),
+        signs,
+        answers: Vec::new(alloc),
+        update: Err(UpdateFault::Code(ResponseCode::NOT_IMP)),
+        log,
+    })
+}
+
 /// A scripted handler at the place behind those that are begun.
 fn part_handler(
     zones: &Zones,
@@ -88,19 +101,14 @@ fn part_handler(
     origin: LowerName,
     words: PartWords,
 ) -> Result<Handler, Fault> {
-    let part = Part {
-        place: zones.chain.len(),
-        signs: words.signs,
-        answers: Vec::new(alloc),
-        update: Err(UpdateFault::Code(ResponseCode::NOT_IMP)),
-        log: zones.log.share()?,
-    };
+    let (origin, proof_kind) = both(origin, words.proof_kind(alloc))?;
+    let ((origin, proof_kind), part) = both((origin, proof_kind), part(zones, alloc, words.signs))?;
     Ok(Handler {
         zone_type: words.zone_type,
         axfr_policy: AxfrPolicy::Deny,
         origin,
         validates: words.validates,
-        proof_kind: words.proof_kind(alloc)?,
+        proof_kind,
         source: Source::Part(part),
     })
 }
@@ -109,9 +117,9 @@ fn part_handler(
 fn begin(zones: &mut Zones, alloc: Global, origin: &str, words: &[&str]) -> Result<(), Fault> {
     let words = PartWords::read(words)?;
     let origin = zone_name(alloc, origin)?;
-    close(zones, alloc)?;
-    let handler = part_handler(zones, alloc, origin, words)?;
-    zones.chain.push(handler)?;
+    let closed = close(zones, alloc);
+    let handler = part_handler(zones, alloc, kept(origin, closed)?, words)?;
+    push(&mut zones.chain, handler)?;
     zones.messages.place = Place::Nothing;
     Ok(())
 }
@@ -197,7 +205,7 @@ fn begin_answer(zones: &mut Zones, alloc: Global, words: &[&str]) -> Result<(), 
     let flow = flow(flow_word)?;
     let outcome = outcome(words)?;
     let part = last_part(zones)?;
-    part.answers.push(Answer::new(alloc, call, flow, outcome))?;
+    push(&mut part.answers, Answer::new(alloc, call, flow, outcome))?;
     zones.messages.place = Place::Answer(Section::Answers);
     Ok(())
 }
@@ -245,9 +253,13 @@ fn upsert(
             out.put("in place of a chain of ");
             out.put_value(&old.len());
             out.put("\n");
+            drop(old);
             Ok(())
         }
-        Err(_) => Err(Fault::Memory),
+        Err(both) => {
+            drop(both);
+            Err(Fault::Memory)
+        }
     }
 }
 
@@ -265,21 +277,23 @@ fn end_chain(zones: &mut Zones, alloc: Global, apex: &LowerName) -> Result<(), F
 /// Serves the handlers since the last such command as the chain of a name.
 fn serve(zones: &mut Zones, alloc: Global, apex: &str, out: &mut Output) -> Result<(), Fault> {
     let apex = lower_name(alloc, apex)?;
-    match end_chain(zones, alloc, &apex) {
-        Ok(()) => {
-            let chain = mem::replace(&mut zones.chain, Vec::new(alloc));
-            upsert(zones, apex, chain, out)
-        }
-        Err(e) => Err(e),
-    }
+    let ended = end_chain(zones, alloc, &apex);
+    let apex = kept(apex, ended)?;
+    let chain = mem::replace(&mut zones.chain, Vec::new(alloc));
+    upsert(zones, apex, chain, out)
 }
 
 /// Takes the chain of a name away.
 fn remove(zones: &mut Zones, alloc: Global, apex: &str) -> Result<(), Fault> {
     let apex = lower_name(alloc, apex)?;
-    match zones.catalog.remove(&apex) {
-        None => Err(Fault::NoChain),
-        Some(_) => Ok(()),
+    let removed = zones.catalog.remove(&apex);
+    let is_removed = removed.is_some();
+    drop(removed);
+    drop(apex);
+    if is_removed {
+        Ok(())
+    } else {
+        Err(Fault::NoChain)
     }
 }
 

@@ -1,8 +1,8 @@
 //! The handlers of a script's chains: zones in memory, scripted ones and lists of blocked names, as one type.
 
 use crate::asked::{Asked, note};
+use crate::keyed::ZoneVerifier;
 use crate::part::{Call, Part};
-use crate::verifier::ScriptedVerifier;
 use hickory_base::errors::{LookupError, UpdateFault};
 use hickory_base::server::{Request, RequestInfo};
 use hickory_base::zone_store::{
@@ -26,7 +26,7 @@ pub enum Source {
     /// A list of blocked names.
     Blocklist(BlocklistZoneHandler),
     /// A zone that takes dynamic updates.
-    Updatable(SqliteZoneHandler<ScriptedVerifier>),
+    Updatable(SqliteZoneHandler<ZoneVerifier>),
 }
 
 /// A handler: what it tells of itself, and what it answers by.
@@ -142,7 +142,10 @@ fn update_part(part: &Part, alloc: Global, request: &Request) -> Result<bool, Up
     };
     match note(part, alloc, &asked) {
         Ok(()) => part.updated(),
-        Err(_e) => Err(UpdateFault::Memory),
+        Err(e) => {
+            drop(e);
+            Err(UpdateFault::Memory)
+        }
     }
 }
 

@@ -9,6 +9,8 @@ pub mod calling;
 pub mod calls;
 pub mod chains;
 pub mod handler;
+pub mod held;
+pub mod keyed;
 pub mod lists;
 pub mod open_zone;
 pub mod part;

@@ -1,6 +1,7 @@
 //! Lists of blocked names.
 
 use crate::handler::{Handler, Source};
+use crate::held::{both, kept, push, put_in};
 use crate::pieces::Pieces;
 use crate::state::Zones;
 use crate::zones::close;
@@ -81,17 +82,27 @@ fn set_all(config: &mut BlocklistConfig, words: &str) -> Result<(), Fault> {
     Ok(())
 }
 
+/// Sets the fields that words name, and the message.
+fn set_with_message(
+    config: &mut BlocklistConfig,
+    alloc: Global,
+    words: &str,
+    message: &str,
+) -> Result<(), Fault> {
+    set_all(config, words)?;
+    let message = String::from_str(alloc, message)?;
+    put_in(&mut config.block_message, Some(message));
+    Ok(())
+}
+
 /// The settings that the text behind a list's origin spells.
 fn settings(alloc: Global, text: &str) -> Result<BlocklistConfig, Fault> {
     let mut config = BlocklistConfig::default();
-    match text.split_once("block_message=") {
-        None => set_all(&mut config, text)?,
-        Some((words, message)) => {
-            set_all(&mut config, words)?;
-            config.block_message = Some(String::from_str(alloc, message)?);
-        }
-    }
-    Ok(config)
+    let set = match text.split_once("block_message=") {
+        None => set_all(&mut config, text),
+        Some((words, message)) => set_with_message(&mut config, alloc, words, message),
+    };
+    kept(config, set)
 }
 
 /// What stands behind a word that a line begins with.
@@ -102,32 +113,33 @@ fn behind<'l>(line: &'l str, word: &str) -> &'l str {
 /// A list of blocked names without names.
 fn new_list(alloc: Global, origin: &str, text: &str) -> Result<BlocklistZoneHandler, Fault> {
     let config = settings(alloc, text)?;
-    require_final_dot(origin)?;
-    BlocklistZoneHandler::new(alloc, name(alloc, origin)?, config).map_err(Fault::from)
+    let config = kept(config, require_final_dot(origin))?;
+    let (config, origin) = both(config, name(alloc, origin))?;
+    Ok(BlocklistZoneHandler::new(alloc, origin, config)?)
 }
 
 /// The handler that a list is.
 fn handler_of(list: BlocklistZoneHandler) -> Result<Handler, AllocError> {
-    let origin = list.origin().clone()?;
-    Ok(Handler {
-        zone_type: list.zone_type(),
-        axfr_policy: list.axfr_policy(),
-        origin,
-        validates: list.can_validate_dnssec(),
-        proof_kind: None,
-        source: Source::Blocklist(list),
-    })
+    match list.origin().clone() {
+        Ok(origin) => Ok(Handler {
+            zone_type: list.zone_type(),
+            axfr_policy: list.axfr_policy(),
+            origin,
+            validates: list.can_validate_dnssec(),
+            proof_kind: None,
+            source: Source::Blocklist(list),
+        }),
+        Err(e) => {
+            drop(list);
+            Err(e)
+        }
+    }
 }
 
 /// Puts a handler last into the chain, behind the open zone.
 fn append(zones: &mut Zones, alloc: Global, handler: Handler) -> Result<(), Fault> {
-    match close(zones, alloc) {
-        Ok(()) => Ok(zones.chain.push(handler)?),
-        Err(e) => {
-            drop(handler);
-            Err(e)
-        }
-    }
+    let closed = close(zones, alloc);
+    push(&mut zones.chain, kept(handler, closed)?)
 }
 
 /// Begins a list of blocked names: a handler that comes last into the chain.

@@ -1,6 +1,7 @@
 //! A zone in memory while its records are given.
 
 use crate::handler::{Handler, Source};
+use crate::held::{kept, push};
 use hickory_base::zone_store::{AxfrPolicy, InMemoryZoneHandler, RecordSet, ZoneHandler, ZoneType};
 use hickory_wire::{LowerName, RData, Record, RecordType, RrKey};
 use script_values::fault::Fault;
@@ -35,7 +36,7 @@ fn is_soa(record: &Record) -> bool {
 fn set_of(alloc: Global, records: &[Record]) -> Result<RecordSet, Fault> {
     let mut copies = Vec::new(alloc);
     for record in records {
-        copies.push(record.clone()?)?;
+        push(&mut copies, record.clone()?)?;
     }
     if RecordSet::accepts(&copies) {
         Ok(RecordSet::new(copies))
@@ -52,7 +53,9 @@ fn put_set(
     records: &[Record],
 ) -> Result<(), Fault> {
     let set = Rc::new(alloc, set_of(alloc, records)?)?;
-    sets.insert(RrKey::new(key.name.clone()?, key.record_type), set)?;
+    let key = RrKey::new(key.name.clone()?, key.record_type);
+    let old = sets.insert(key, set)?;
+    drop(old);
     Ok(())
 }
 
@@ -110,10 +113,9 @@ impl OpenZone {
     /// Puts a copy of a record last into the set of its name and type.
     pub fn put(&mut self, alloc: Global, record: &Record) -> Result<(), Fault> {
         let key = key_of(alloc, record)?;
-        self.judge(record, &key)?;
-        let set = self.set_mut(alloc, key)?;
-        set.push(record.clone()?)?;
-        Ok(())
+        let judged = self.judge(record, &key);
+        let set = self.set_mut(alloc, kept(key, judged)?)?;
+        push(set, record.clone()?)
     }
 
     /// Puts a copy of a record of a zone file, whose number in the file is told. One that is there already is left out
@@ -176,13 +178,19 @@ impl OpenZone {
     /// The handler of the zone with copies of these records.
     pub fn handler(&self, alloc: Global) -> Result<Handler, Fault> {
         let zone = self.zone(alloc)?;
-        Ok(Handler {
-            zone_type: zone.zone_type(),
-            axfr_policy: zone.axfr_policy(),
-            origin: zone.origin().clone()?,
-            validates: zone.can_validate_dnssec(),
-            proof_kind: None,
-            source: Source::Zone(zone),
-        })
+        match zone.origin().clone() {
+            Ok(origin) => Ok(Handler {
+                zone_type: zone.zone_type(),
+                axfr_policy: zone.axfr_policy(),
+                origin,
+                validates: zone.can_validate_dnssec(),
+                proof_kind: None,
+                source: Source::Zone(zone),
+            }),
+            Err(_) => {
+                drop(zone);
+                Err(Fault::Memory)
+            }
+        }
     }
 }

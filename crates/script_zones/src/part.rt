@@ -148,23 +148,46 @@ fn whole<'z>(
     }))
 }
 
+/// The answers of what was resolved elsewhere, taken out of it.
+fn answers_resolved<'z>(found: Lookup) -> RecordList<'z> {
+    let Lookup {
+        query,
+        answers,
+        authorities,
+        additionals,
+    } = found;
+    drop(query);
+    drop(authorities);
+    drop(additionals);
+    RecordList::owned(answers)
+}
+
+/// The answers of a whole reply, taken out of it.
+fn answers_of_whole<'z>(reply: WholeReply<'z>) -> RecordList<'z> {
+    let WholeReply {
+        answers,
+        authorities,
+        additionals,
+        ..
+    } = reply;
+    drop(authorities);
+    drop(additionals);
+    answers
+}
+
 /// The answers of what was found, taken out of it.
 fn answers_of<'z>(found: AuthLookup<'z>) -> RecordList<'z> {
     match found {
         AuthLookup::Empty => RecordList::empty(),
-        AuthLookup::Resolved(
-            Lookup {
-                query: _query,
-                answers,
-                authorities: _authorities,
-                additionals: _additionals,
-            },
-        ) => RecordList::owned(answers),
+        AuthLookup::Resolved(found) => answers_resolved(found),
         AuthLookup::Records {
             answers,
-            additionals: _additionals,
-        } => answers,
-        AuthLookup::Whole(reply) => reply.answers,
+            additionals,
+        } => {
+            drop(additionals);
+            answers
+        }
+        AuthLookup::Whole(reply) => answers_of_whole(reply),
     }
 }
 
@@ -172,7 +195,10 @@ fn answers_of<'z>(found: AuthLookup<'z>) -> RecordList<'z> {
 fn so_far<'z>(last: LookupControlFlow<AuthLookup<'z>>) -> RecordList<'z> {
     match last.map_result() {
         Some(Ok(found)) => answers_of(found),
-        Some(Err(_e)) => RecordList::empty(),
+        Some(Err(e)) => {
+            drop(e);
+            RecordList::empty()
+        }
         None => RecordList::empty(),
     }
 }

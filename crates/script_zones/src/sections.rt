@@ -1,5 +1,6 @@
 //! The sections of a dynamic update, as `nsupdate` has them, and what a zone answers of them (RFC 2136 sections 2 and 3).
 
+use crate::held::push;
 use crate::state::Zones;
 use crate::updatable::{last_updatable, print_code};
 use hickory_base::errors::UpdateFault;
@@ -96,7 +97,7 @@ fn verify_with(
 ) -> Result<(), Fault> {
     last_updatable(zones)?;
     let record = text::record(alloc, text)?;
-    zones.updates.prerequisites.push(record)?;
+    push(&mut zones.updates.prerequisites, record)?;
     verify(zones, alloc, out)
 }
 
@@ -113,24 +114,20 @@ fn scan(zones: &mut Zones, alloc: Global, out: &mut Output) -> Result<(), Fault>
 fn scan_with(zones: &mut Zones, alloc: Global, text: &str, out: &mut Output) -> Result<(), Fault> {
     last_updatable(zones)?;
     let record = text::record(alloc, text)?;
-    zones.updates.changes.push(record)?;
+    push(&mut zones.updates.changes, record)?;
     scan(zones, alloc, out)
 }
 
 /// Adds a prerequisite to the update.
 fn require(zones: &mut Zones, alloc: Global, words: &[&str], text: &str) -> Result<(), Fault> {
     let record = prerequisite(alloc, words, text)?;
-    zones
-        .updates
-        .prerequisites
-        .push(record)
-        .map_err(Fault::from)
+    push(&mut zones.updates.prerequisites, record)
 }
 
 /// Adds a change to the update.
 fn add(zones: &mut Zones, alloc: Global, words: &[&str], text: &str) -> Result<(), Fault> {
     let record = change(alloc, words, text)?;
-    zones.updates.changes.push(record).map_err(Fault::from)
+    push(&mut zones.updates.changes, record)
 }
 
 /// Obeys a command on the sections of an update, if it is one.

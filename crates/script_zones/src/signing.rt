@@ -1,6 +1,7 @@
 //! Who signs the replies of the server.
 
 use crate::handler::Handler;
+use crate::keyed::{ServerSigner, keys_of};
 use crate::signer::{ScriptedSigner, Signing};
 use crate::state::{Server, Zones};
 use hickory_catalog::catalog::Catalog;
@@ -9,6 +10,7 @@ use script_values::fault::Fault;
 use std::alloc::Global;
 use std::collections::BTreeSet;
 use std::mem;
+use tsig::TsigSigner;
 
 /// How replies are signed, by a word.
 fn signing(word: &str) -> Option<Signing> {
@@ -31,9 +33,13 @@ fn identifier(alloc: Global, server: &Server) -> Result<Option<NSIDPayload>, Fau
 
 /// Serves a chain at a name where there is none.
 fn serve(server: &mut Server, apex: LowerName, chain: Vec<Handler>) -> Result<(), Fault> {
-    match server.upsert(apex, chain) {
-        Ok(_) => Ok(()),
-        Err(_) => Err(Fault::Memory),
+    let served = server.upsert(apex, chain);
+    let is_served = served.is_ok();
+    drop(served);
+    if is_served {
+        Ok(())
+    } else {
+        Err(Fault::Memory)
     }
 }
 
@@ -64,25 +70,46 @@ fn take_over(zones: &mut Zones, alloc: Global, from: &mut Server) -> Result<(), 
     move_chains(&zones.served, from, &mut zones.catalog)
 }
 
-/// Has replies signed so from now on.
-fn set_signing(zones: &mut Zones, alloc: Global, signing: Signing) -> Result<(), Fault> {
-    let signer = ScriptedSigner::new(signing, &zones.log)?;
+/// Has replies signed by this signer from now on.
+fn set_signer(zones: &mut Zones, alloc: Global, signer: ServerSigner) -> Result<(), Fault> {
     let mut old = mem::replace(&mut zones.catalog, Catalog::new(alloc, signer));
     let taken = take_over(zones, alloc, &mut old);
     drop(old);
     taken
 }
 
-/// Has replies signed from now on as words tell.
-pub fn sign_by(zones: &mut Zones, alloc: Global, words: &[&str]) -> Result<(), Fault> {
+/// A signer that signs so, whoever asks.
+fn scripted(zones: &Zones, signing: Signing) -> Result<ServerSigner, Fault> {
+    let signer = ScriptedSigner::new(signing, &zones.log)?;
+    Ok(ServerSigner::Scripted(signer))
+}
+
+/// A signer by the keys of words.
+fn by_keys(alloc: Global, words: &[&str]) -> Result<ServerSigner, Fault> {
+    let keys = keys_of(alloc, words)?;
+    Ok(ServerSigner::ByKeys(TsigSigner { keys }))
+}
+
+/// The signer that words tell of.
+fn signer(zones: &Zones, alloc: Global, words: &[&str]) -> Result<ServerSigner, Fault> {
+    if let ["keys", words @ ..] = words {
+        return by_keys(alloc, words);
+    }
     let [word] = words else {
         return Err(Fault::Usage(SIGNER_USAGE));
     };
     match signing(word) {
-        Some(signing) => set_signing(zones, alloc, signing),
+        Some(signing) => scripted(zones, signing),
         None => Err(Fault::Usage(SIGNER_USAGE)),
     }
 }
 
+/// Has replies signed from now on as words tell.
+pub fn sign_by(zones: &mut Zones, alloc: Global, words: &[&str]) -> Result<(), Fault> {
+    let signer = signer(zones, alloc, words)?;
+    set_signer(zones, alloc, signer)
+}
+
 /// How `signer` is written.
-pub const SIGNER_USAGE: &str = "signer fails|echo|fixed|memory";
+pub const SIGNER_USAGE: &str =
+    "signer fails|echo|fixed|memory, signer keys ALGORITHM:NAME:SECRET ..";

@@ -93,6 +93,7 @@ impl ResponseHandler for ScriptedSink {
         D::Item: RecordRef,
     {
         if self.sinking == Sinking::Fails {
+            drop(response);
             return Err(self.fail());
         }
         let Ok(info) = self.kept.send_response(alloc, response) else {

@@ -2,6 +2,7 @@
 
 use crate::calls::CallLog;
 use crate::handler::Handler;
+use crate::keyed::ServerSigner;
 use crate::open_zone::OpenZone;
 use crate::signer::{ScriptedSigner, Signing};
 use crate::sink::Sinking;
@@ -14,7 +15,7 @@ use std::alloc::{AllocError, Global};
 use std::collections::BTreeSet;
 
 /// A server whose handlers and signer are those of a script.
-pub type Server = Catalog<ScriptedSigner, Handler>;
+pub type Server = Catalog<ServerSigner, Handler>;
 
 /// What a script has said of zones and of the server so far, and of messages.
 #[derive(Drop)]
@@ -43,7 +44,7 @@ impl Zones {
     /// Nothing said.
     pub fn new(alloc: Global) -> Result<Zones, AllocError> {
         let log = CallLog::new(alloc)?;
-        let signer = ScriptedSigner::new(Signing::Fails, &log)?;
+        let signer = ServerSigner::Scripted(ScriptedSigner::new(Signing::Fails, &log)?);
         Ok(Zones {
             messages: Messages::new(alloc),
             catalog: Catalog::new(alloc, signer),

@@ -2,6 +2,8 @@
 
 use crate::asking::print_calls;
 use crate::handler::{Handler, Source};
+use crate::held::{push, put_in};
+use crate::keyed::{ZoneVerifier, keys_of};
 use crate::state::Zones;
 use crate::verifier::ScriptedVerifier;
 use crate::zones::axfr_policy;
@@ -15,9 +17,10 @@ use script_values::state::Place;
 use script_values::text;
 use std::alloc::{AllocError, Global};
 use std::ops::Range;
+use tsig::TsigVerifier;
 
 /// A zone that takes updates, with the verifier of a script.
-pub type UpdatableZone = SqliteZoneHandler<ScriptedVerifier>;
+pub type UpdatableZone = SqliteZoneHandler<ZoneVerifier>;
 
 /// How `transfers` is written.
 pub const TRANSFERS_USAGE: &str = "transfers deny|allow-all|allow-signed";
@@ -26,7 +29,8 @@ pub const TRANSFERS_USAGE: &str = "transfers deny|allow-all|allow-signed";
 pub const UPDATES_USAGE: &str = "updates deny|allow";
 
 /// How `verifier` is written.
-pub const VERIFIER_USAGE: &str = "verifier [good FROM UNTIL|bad|memory] [KEY ..]";
+pub const VERIFIER_USAGE: &str =
+    "verifier [good FROM UNTIL|bad|memory] [KEY ..], verifier keys ALGORITHM:NAME:SECRET ..";
 
 /// How `empty` is written.
 pub const EMPTY_USAGE: &str = "empty";
@@ -80,7 +84,7 @@ fn updatable(
     };
     let log = zones.log.share()?;
     let in_memory = zone.zone(alloc)?;
-    let verifier = ScriptedVerifier::without_keys(alloc, log);
+    let verifier = ZoneVerifier::Scripted(ScriptedVerifier::without_keys(alloc, log));
     let zone = SqliteZoneHandler::new(in_memory, policy, allow_update, verifier);
     handler_of(zone).map_err(Fault::from)
 }
@@ -89,8 +93,8 @@ fn updatable(
 fn begin(zones: &mut Zones, alloc: Global, words: &[&str]) -> Result<(), Fault> {
     let (policy, allow_update) = updatable_words(words)?;
     let handler = updatable(zones, alloc, policy, allow_update)?;
-    zones.chain.push(handler)?;
-    zones.zone = None;
+    push(&mut zones.chain, handler)?;
+    put_in(&mut zones.zone, None);
     zones.messages.place = Place::Nothing;
     Ok(())
 }
@@ -156,38 +160,53 @@ fn empty(zones: &mut Zones, alloc: Global) -> Result<(), Fault> {
 fn names(alloc: Global, words: &[&str]) -> Result<Vec<Name>, Fault> {
     let mut names = Vec::new(alloc);
     for word in words {
-        names.push(text::name(alloc, word)?)?;
+        push(&mut names, text::name(alloc, word)?)?;
     }
     Ok(names)
 }
 
-/// A verifier that knows these keys.
-fn verifier(
+/// A verifier that knows the keys of these names.
+fn scripted(
     zones: &Zones,
     alloc: Global,
     keys: &[&str],
     times: Option<Range<u64>>,
     wants_memory: bool,
-) -> Result<ScriptedVerifier, Fault> {
+) -> Result<ZoneVerifier, Fault> {
     let log = zones.log.share()?;
     let keys = names(alloc, keys)?;
-    Ok(ScriptedVerifier {
+    Ok(ZoneVerifier::Scripted(ScriptedVerifier {
         keys,
         times,
         wants_memory,
         log,
-    })
+    }))
 }
 
-/// Gives the updatable zone last begun a verifier that knows these keys.
-fn set_verifier(
-    zones: &mut Zones,
-    alloc: Global,
-    keys: &[&str],
-    times: Option<Range<u64>>,
-    wants_memory: bool,
-) -> Result<(), Fault> {
-    let verifier = verifier(zones, alloc, keys, times, wants_memory)?;
+/// A verifier by the keys of words.
+fn by_keys(alloc: Global, words: &[&str]) -> Result<ZoneVerifier, Fault> {
+    let keys = keys_of(alloc, words)?;
+    Ok(ZoneVerifier::ByKeys(TsigVerifier { keys }))
+}
+
+/// The verifier that words tell of.
+fn verifier(zones: &Zones, alloc: Global, words: &[&str]) -> Result<ZoneVerifier, Fault> {
+    match words {
+        [] => scripted(zones, alloc, &[], None, false),
+        ["good", from, until, keys @ ..] => {
+            let times = from.parse::<u64>()?..until.parse::<u64>()?;
+            scripted(zones, alloc, keys, Some(times), false)
+        }
+        ["bad", keys @ ..] => scripted(zones, alloc, keys, None, false),
+        ["memory", keys @ ..] => scripted(zones, alloc, keys, None, true),
+        ["keys", words @ ..] => by_keys(alloc, words),
+        _ => Err(Fault::Usage(VERIFIER_USAGE)),
+    }
+}
+
+/// Gives the updatable zone last begun the verifier that words tell of.
+fn verify_by(zones: &mut Zones, alloc: Global, words: &[&str]) -> Result<(), Fault> {
+    let verifier = verifier(zones, alloc, words)?;
     match last_updatable_mut(zones) {
         Ok(zone) => {
             zone.set_verifier(verifier);
@@ -197,20 +216,6 @@ fn set_verifier(
             drop(verifier);
             Err(fault)
         }
-    }
-}
-
-/// Gives the updatable zone last begun the verifier that words tell of.
-fn verify_by(zones: &mut Zones, alloc: Global, words: &[&str]) -> Result<(), Fault> {
-    match words {
-        [] => set_verifier(zones, alloc, &[], None, false),
-        ["good", from, until, keys @ ..] => {
-            let times = from.parse::<u64>()?..until.parse::<u64>()?;
-            set_verifier(zones, alloc, keys, Some(times), false)
-        }
-        ["bad", keys @ ..] => set_verifier(zones, alloc, keys, None, false),
-        ["memory", keys @ ..] => set_verifier(zones, alloc, keys, None, true),
-        _ => Err(Fault::Usage(VERIFIER_USAGE)),
     }
 }
 

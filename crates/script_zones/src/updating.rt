@@ -1,6 +1,7 @@
 //! Whole updates of the updatable zone last begun (RFC 2136 section 3).
 
 use crate::asking::print_calls;
+use crate::held::push;
 use crate::state::Zones;
 use crate::updatable::{
     UpdatableZone, last_updatable, last_updatable_mut, print_code, print_context,
@@ -192,7 +193,7 @@ fn push_request(
     now: u64,
 ) -> Result<(), Fault> {
     let request = received(settings, alloc, octets(alloc, &[digits])?)?;
-    requests.push((request, now)).map_err(Fault::from)
+    push(requests, (request, now))
 }
 
 /// Reads the requests of words in hex digits, one a word, each at the moment that a word `now=SECONDS` before it tells.

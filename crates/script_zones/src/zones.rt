@@ -2,6 +2,7 @@
 
 use crate::begun::{chain_of, last_begun};
 use crate::handler::{Handler, Source};
+use crate::held::{kept, push, put_in};
 use crate::open_zone::{OpenZone, accepted};
 use crate::state::Zones;
 use hickory_base::zone_store::{AxfrPolicy, InMemoryZoneHandler, ZoneHandler, ZoneType};
@@ -99,16 +100,17 @@ fn zone_words(words: &[&str]) -> Result<(ZoneType, AxfrPolicy), Fault> {
 pub fn close(zones: &mut Zones, alloc: Global) -> Result<(), Fault> {
     if let Some(zone) = &zones.zone {
         let handler = zone.handler(alloc)?;
-        zones.chain.push(handler)?;
-        zones.zone = None;
+        push(&mut zones.chain, handler)?;
+        put_in(&mut zones.zone, None);
     }
     Ok(())
 }
 
 /// Goes on with another zone, to which the records that follow belong.
 fn open(zones: &mut Zones, alloc: Global, zone: OpenZone) -> Result<(), Fault> {
-    close(zones, alloc)?;
-    zones.zone = Some(zone);
+    let closed = close(zones, alloc);
+    let zone = kept(zone, closed)?;
+    put_in(&mut zones.zone, Some(zone));
     zones.messages.place = Place::Zone;
     Ok(())
 }
@@ -132,6 +134,14 @@ pub fn put(zones: &mut Zones, alloc: Global, record: &Record) -> Result<(), Faul
     }
 }
 
+/// Puts records into a zone.
+fn put_all(zone: &mut OpenZone, alloc: Global, records: &[Record]) -> Result<(), Fault> {
+    for record in records {
+        zone.put(alloc, record)?;
+    }
+    Ok(())
+}
+
 /// The zone of these records but for an SOA at the end that repeats the first record, as transfers have it (RFC 5936
 /// section 2.2).
 fn zone_of(alloc: Global, origin: LowerName, records: &[Record]) -> Result<OpenZone, Fault> {
@@ -140,10 +150,8 @@ fn zone_of(alloc: Global, origin: LowerName, records: &[Record]) -> Result<OpenZ
         _ => records,
     };
     let mut zone = OpenZone::new(alloc, origin, ZoneType::Primary, AxfrPolicy::Deny);
-    for record in records {
-        zone.put(alloc, record)?;
-    }
-    Ok(zone)
+    let put = put_all(&mut zone, alloc, records);
+    kept(zone, put)
 }
 
 /// The zone whose records are the answers of a message.
@@ -182,8 +190,7 @@ fn zone_of_text(alloc: Global, origin: LowerName, text: &str) -> Result<OpenZone
     let mut zone = OpenZone::new(alloc, origin, ZoneType::Primary, AxfrPolicy::Deny);
     let put = zone.put_file(alloc, records.as_slice());
     drop(records);
-    put?;
-    Ok(zone)
+    kept(zone, put)
 }
 
 /// The zone that the bytes of a zone file have.

@@ -166,6 +166,15 @@ fn is_good(alloc: Global, keys: &Keys, message: &[u8], now: u64) -> Result<bool,
     }
 }
 
+/// The message with the last bit of a byte changed.
+fn changed(alloc: Global, message: &[u8], place: usize) -> Result<Vec<u8>, AllocError> {
+    let mut changed = Vec::from_slice(alloc, message)?;
+    if let Some(byte) = changed.get_mut(place) {
+        *byte ^= 1;
+    }
+    Ok(changed)
+}
+
 /// Prints the places where a changed byte leaves a message good.
 fn answer_flip(
     alloc: Global,
@@ -178,11 +187,48 @@ fn answer_flip(
     let message = bytes(alloc, digits)?;
     text.push_str("good at")?;
     for place in 0..message.len() {
-        let mut changed = Vec::from_slice(alloc, &message)?;
-        if let Some(byte) = changed.get_mut(place) {
-            *byte ^= 1;
-        }
+        let changed = changed(alloc, &message, place)?;
         if is_good(alloc, &state.keys, &changed, now)? {
+            text.push_str(&format!(in alloc; " {place}")?)?;
+        }
+    }
+    Ok(())
+}
+
+/// Whether the verifier of handlers finds the signature of a message good at a moment.
+fn is_valid(
+    alloc: Global,
+    verifier: &TsigVerifier,
+    name: &Name,
+    message: &[u8],
+    now: u64,
+) -> Result<bool, Fault> {
+    match verifier.verify(alloc, name, message) {
+        Ok(times) => Ok(times.start <= now && now < times.end),
+        Err(VerifyError::Bad) => Ok(false),
+        Err(VerifyError::Memory) => Err(Fault::Memory),
+    }
+}
+
+/// Prints the places where the verifier of handlers finds a message good that has another byte there.
+fn answer_flip_by(
+    alloc: Global,
+    state: &State,
+    name: &str,
+    now: &str,
+    digits: &str,
+    text: &mut String,
+) -> Result<(), Fault> {
+    let verifier = TsigVerifier {
+        keys: state.keys.copied(alloc)?,
+    };
+    let name = read_name(alloc, name)?;
+    let now = number(now)?;
+    let message = bytes(alloc, digits)?;
+    text.push_str("good at")?;
+    for place in 0..message.len() {
+        let changed = changed(alloc, &message, place)?;
+        if is_valid(alloc, &verifier, &name, &changed, now)? {
             text.push_str(&format!(in alloc; " {place}")?)?;
         }
     }
@@ -305,6 +351,7 @@ pub fn answer(
         ["hmac", function, key, message] => answer_hmac(alloc, function, key, message, text),
         ["judge", now, digits] => answer_judge(alloc, state, now, digits, text),
         ["flip", now, digits] => answer_flip(alloc, state, now, digits, text),
+        ["flip", name, now, digits] => answer_flip_by(alloc, state, name, now, digits, text),
         ["verify", name, digits] => answer_verify(alloc, state, name, digits, text),
         ["sign", now, digits] => answer_sign(alloc, state, false, now, digits, text),
         ["next", now, digits] => answer_sign(alloc, state, true, now, digits, text),
