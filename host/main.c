@@ -111,12 +111,12 @@ static void replace_ended(void)
                 workers[i] = 0;
             }
     }
+    /* (once in a second of the clock; the parent waits by SIGALRM, so that it hears of its end) */
     for (int i = 0; i < settings.workers; i++)
-        if (workers[i] <= 0) {
-            if (time(NULL) - begun[i] < 2)
-                sleep(1);
+        if (workers[i] <= 0 && time(NULL) == begun[i])
+            alarm(1);
+        else if (workers[i] <= 0)
             begin(i);
-        }
 }
 
 int main(int count __attribute__((unused)), char **argv)

@@ -647,7 +647,7 @@ def try_journal(folder, port):
     want("one without a signature is refused", code(udp(update("unsigned.dyn.example.com", 7), port=port)) == 5)
     with tcp(port) as s:
         s.sendall(frame(query("example.com", 251)[:8] + b"\0\1\0\0" + query("example.com", 251)[12:] + wire("example.com") + b"\0\6\0\1\0\0\0\0\0\x16" + b"\0\0" + (7).to_bytes(4, "big") + bytes(16)))
-        want("who asks for what changed (IXFR) has it over TCP", answers(read(s.makefile("rb"))) >= len(made))
+        want("who asks for what changed (IXFR) is given each change", answers(read(s.makefile("rb"))) == 2 + 3 * len(made))
     serial = kept.serial()
     want("the serial tells of each", serial == 7 + len(made))
     for what in ("zoned", "zone_serve", "all"):
@@ -658,7 +658,7 @@ def try_journal(folder, port):
     before = writes(kept.pid("zone_serve"))
     want("and it goes on", all(kept.update("later", last) == 0 for last in range(20)))
     count = writes(kept.pid("zone_serve")) - before
-    want(f"by a few writes for each update, however many were before ({count} for 20)", 20 <= count <= 100)
+    want(f"by a few writes for each update, however many were before ({count} for 20)", 20 <= count <= 60)
     want("all is there after a reload", kept.reload() and kept.has(made | {"later"}) == made | {"later"})
     open(kept.zone, "w").write((SOA_AND_NS + WWW % 99).replace(" 7 3600", " 999 3600"))
     want("the journal counts, and not a zone file that was changed", kept.reload() and udp(query("www.example.com"), port=port)[-4:] == bytes([192, 0, 2, 1]))
@@ -760,9 +760,9 @@ def try_one_writer(folder, port):
     want("a journal of another zone is told", status_is == 1 and f"zone_serve: {kept.journal}: entry 1 at 0 is no update of this zone\n" in said)
     want("and it is as it was", open(kept.journal, "rb").read() == text)
     os.remove(kept.journal)
-    for path, says in ((kept.folder + "/none/journal", kept.folder), (kept.folder, kept.folder), ("", "argument ")):
+    for what, path, says in (("in no folder", kept.folder + "/none/journal", "there is no such file"), ("a folder", kept.folder, "the file cannot be read"), ("without a name", "", "there is no such file")):
         status_is, said = told([*here, *kept.words[:-1], f"example.com={path}"])
-        want(f"a file that cannot be a journal is told: {path[len(kept.folder):] or 'none'}", status_is == 1 and f"zone_serve: {says}" in said)
+        want(f"a file that cannot be a journal is told: {what}", status_is == 1 and f"zone_serve: {path}: {says}\n" in said)
     status_is, said = told([*here, *kept.words[:2], *kept.words[-4:]])
     want("a journal of a zone without rules is told", status_is == 1 and "there is no --allow-update of this zone" in said)
     for option, value in (("--statistics", kept.folder + "/socket"), ("--query-log", kept.folder + "/queries"), ("--rate-limit", "5")):
