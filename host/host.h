@@ -66,11 +66,10 @@ struct source {
 struct source source_of(const struct sockaddr_storage *address);
 
 /* relay.c: where zones have journals, begin starts the process that answers, once the one before has ended, and waits until it does: 0, or -1 with a line on the
- * standard error. leave has nobody but the worker ask it, end ends it, and has_ended says whether it is what has ended. answer, answer_stream and take are those of
+ * standard error. leave has nobody but the worker ask it, and has_ended says whether it is what has ended. answer, answer_stream and take are those of
  * zone_service.h, by that process where there is one; with it, take may find that nothing waits any more. */
 int relay_begin(void);
 void relay_leave(void);
-void relay_end(void);
 bool relay_has_ended(pid_t ended);
 uint32_t answer(zone_service *service, const uint8_t *message, size_t len, const struct source *source, bool stream, uint64_t now, uint8_t *out, size_t room,
                 size_t *written, size_t *waiting);

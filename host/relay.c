@@ -51,11 +51,27 @@ static bool read_line(void)
     return true;
 }
 
+void relay_leave(void)
+{
+    if (served != NULL)
+        fclose(served);
+    served = NULL;
+}
+
+/* Ends the process, and waits until it has ended: its journals are free then. */
+static void end(void)
+{
+    if (serving > 0 && kill(serving, SIGKILL) == 0)
+        waitpid(serving, NULL, 0);
+    serving = 0;
+    relay_leave();
+}
+
 int relay_begin(void)
 {
     static const char first[] = "udp 127.0.0.1 000080000000000000000000\n"; /* a response, of which it tells one line */
     int ends[2];
-    relay_end();
+    end();
     if (given("journal") == NULL)
         return 0;
     if (socketpair(AF_UNIX, SOCK_STREAM | SOCK_CLOEXEC, 0, ends) != 0)
@@ -68,23 +84,8 @@ int relay_begin(void)
     close(ends[1]);
     if (serving > 0 && read_line())
         return 0;
-    relay_end();
+    end();
     return complain("zone_serve does not begin");
-}
-
-void relay_leave(void)
-{
-    if (served != NULL)
-        fclose(served);
-    served = NULL;
-}
-
-void relay_end(void)
-{
-    if (serving > 0 && kill(serving, SIGKILL) == 0)
-        waitpid(serving, NULL, 0);
-    serving = 0;
-    relay_leave();
 }
 
 bool relay_has_ended(pid_t ended)
