@@ -57,6 +57,26 @@ int statistics_begin(const char *path);
 void statistics_add(zone_service *service);
 void statistics_tell(int listener);
 
+/* The bytes of an address. */
+struct source {
+    const uint8_t *bytes;
+    size_t len;
+    uint16_t port;
+};
+struct source source_of(const struct sockaddr_storage *address);
+
+/* relay.c: where zones have journals, begin starts the process that answers, once the one before has ended, and waits until it does: 0, or -1 with a line on the
+ * standard error. leave has nobody but the worker ask it, and has_ended says whether it is what has ended. answer, answer_stream and take are those of
+ * zone_service.h, by that process where there is one; with it, take may find that nothing waits any more. */
+int relay_begin(void);
+void relay_leave(void);
+bool relay_has_ended(pid_t ended);
+uint32_t answer(zone_service *service, const uint8_t *message, size_t len, const struct source *source, bool stream, uint64_t now, uint8_t *out, size_t room,
+                size_t *written, size_t *waiting);
+uint32_t answer_stream(zone_service *service, const uint8_t *bytes, size_t len, const struct source *source, uint64_t now, uint8_t *out, size_t room, size_t *taken,
+                       size_t *written, size_t *waiting);
+size_t take(zone_service *service, uint8_t *out, size_t room, size_t *waiting);
+
 /* udp.c: answers what waits at a socket. */
 void udp_serve(int fd, zone_service *service, uint64_t now);
 
@@ -65,14 +85,6 @@ extern int tcp_epoll, tcp_count; /* where connections are waited for, and how ma
 void tcp_accept(int listener, uint64_t moment);
 void tcp_ready(void *connection, uint32_t events, zone_service *service, uint64_t now, uint64_t moment);
 int tcp_expire(uint64_t moment); /* milliseconds until the next connection is too old, or -1 */
-
-/* The bytes of an address. */
-struct source {
-    const uint8_t *bytes;
-    size_t len;
-    uint16_t port;
-};
-struct source source_of(const struct sockaddr_storage *address);
 
 /* Tells what is wrong in a line on the standard error; -1. */
 #define complain(...) (warnx(__VA_ARGS__), -1)

@@ -1,7 +1,7 @@
 /* zoned: sockets, processes and signals round the proved library zone_service. docs/ZONED.md says how it is started. The parent opens the sockets, lets
  * its privileges go, has the library read the files, and forks the workers, which share what was read. It serves nothing itself. SIGHUP reads the files
  * anew: where all are taken, new workers begin at the same sockets, and the old ones end with their connections; else the old ones go on. A worker that
- * ends by itself is begun again. SIGTERM ends all. */
+ * ends by itself is begun again. SIGTERM ends all. Before a worker comes the process that it asks, where zones have journals (relay.c). */
 #include "host.h"
 
 #include <grp.h>
@@ -44,49 +44,79 @@ static int let_privileges_go(void)
     return prctl(PR_SET_NO_NEW_PRIVS, 1, 0, 0, 0);
 }
 
-static void begin(int worker)
+/* Begins a worker: whether it could. Where it could not, SIGALRM has it tried again. */
+static bool begin(int worker)
 {
-    pid_t parent = getpid(), child = fork();
+    pid_t parent = getpid(), child = relay_begin() == 0 ? fork() : -1;
     if (child == 0) {
         prctl(PR_SET_PDEATHSIG, SIGTERM);
         _exit(getppid() == parent ? work(&sockets[worker], statistics, &service) : 0);
     }
-    if (child < 0)
-        warn("cannot begin a worker");
+    relay_leave();
+    if (child < 0) {
+        warnx("cannot begin a worker");
+        alarm(1);
+    }
     workers[worker] = child;
     begun[worker] = time(NULL);
+    return child > 0;
+}
+
+/* Has new workers take the place of all: whether each could begin. A zone that takes updates is in one process: no connection goes on with another. */
+static bool renew(void)
+{
+    bool could = true;
+    for (int i = 0; i < settings.workers; i++) {
+        if (workers[i] > 0)
+            kill(workers[i], given("allow-update") != NULL ? SIGKILL : SIGTERM);
+        could &= begin(i);
+    }
+    return could;
 }
 
 static void reload(void)
 {
-    zone_service fresh;
+    zone_service fresh, before = service;
     notify("RELOADING=1\n");
-    if (read_arguments(arguments, adopted > 0, running) == 0 && load(&fresh) == 0) {
-        zone_service_free(service);
+    bool is_read = read_arguments(arguments, adopted > 0, running) == 0 && load(&fresh) == 0, is_taken = false;
+    if (is_read) {
         service = fresh;
-        for (int i = 0; i < settings.workers; i++) {
-            /* A zone that takes updates is in one process: no connection goes on with another. */
-            if (workers[i] > 0)
-                kill(workers[i], given("allow-update") != NULL ? SIGKILL : SIGTERM);
-            begin(i);
-        }
-    } else {
+        is_taken = renew();
+    }
+    if (!is_taken) {
+        service = before;
         forget_arguments();
     }
+    if (is_read && !is_taken) {
+        warnx("the settings of before hold again");
+        renew();
+    }
+    if (is_read)
+        zone_service_free(is_taken ? before : fresh);
     notify("READY=1\n");
 }
 
 static void replace_ended(void)
 {
     pid_t ended;
-    while ((ended = waitpid(-1, NULL, WNOHANG)) > 0)
+    while ((ended = waitpid(-1, NULL, WNOHANG)) > 0) {
+        if (relay_has_ended(ended)) {
+            warnx("zone_serve ended");
+            if (workers[0] > 0)
+                kill(workers[0], SIGKILL);
+        }
         for (int i = 0; i < settings.workers; i++)
             if (workers[i] == ended) {
                 warnx("worker %d ended", i);
-                if (time(NULL) - begun[i] < 2)
-                    sleep(1);
-                begin(i);
+                workers[i] = 0;
             }
+    }
+    /* (once in a second of the clock; the parent waits by SIGALRM, so that it hears of its end) */
+    for (int i = 0; i < settings.workers; i++)
+        if (workers[i] <= 0 && time(NULL) == begun[i])
+            alarm(1);
+        else if (workers[i] <= 0)
+            begin(i);
 }
 
 int main(int count __attribute__((unused)), char **argv)
@@ -97,6 +127,7 @@ int main(int count __attribute__((unused)), char **argv)
     sigaddset(&signals, SIGTERM);
     sigaddset(&signals, SIGINT);
     sigaddset(&signals, SIGCHLD);
+    sigaddset(&signals, SIGALRM);
     sigprocmask(SIG_BLOCK, &signals, NULL);
     arguments = argv;
     program_invocation_short_name = "zoned";
@@ -117,13 +148,14 @@ int main(int count __attribute__((unused)), char **argv)
         return 1;
     running = settings.workers;
     for (int i = 0; i < running; i++)
-        begin(i);
+        if (!begin(i))
+            return 1;
     notify("READY=1\n");
     for (int came = 0; came != SIGTERM && came != SIGINT;) {
         came = sigwaitinfo(&signals, NULL);
         if (came == SIGHUP)
             reload();
-        else if (came == SIGCHLD)
+        else if (came == SIGCHLD || came == SIGALRM)
             replace_ended();
     }
     notify("STOPPING=1\n");

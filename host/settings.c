@@ -35,6 +35,8 @@ static const struct option {
     {.name = "allow-transfer-key", .says = "NAME of a key that may have zones transferred from anywhere", .set = zone_service_allow_transfer_key},
     {.name = "zone", .says = "NAME=FILE: the zone at NAME, from a zone file", .set_pair = zone_service_add_zone, .is_file = true},
     {.name = "allow-update", .says = "'ZONE=KEY [zone|subdomain NAME|name NAME|self] [TYPE..]': who may update what", .set_pair = zone_service_allow_update},
+    {.name = "journal", .says = "NAME=FILE: the updates of the zone at NAME are kept in FILE, by zone_serve"},
+    {.name = "zone-serve", .says = "PATH of that program; the one that PATH finds"},
     {.name = "statistics", .says = "PATH of a Unix socket where it tells what it has done"},
     {.name = "query-log", .says = "PATH of a file to which a line for each query is put"},
     {.name = "user", .says = "NAME of the user that it becomes once its sockets are open"},
@@ -145,7 +147,9 @@ int read_arguments(char **arguments, bool is_adopted, int running)
     if (!wrong && given("allow-update") != NULL && settings.workers > 1)
         wrong = complain("--allow-update wants one worker, since of several one alone would see an update");
     else if (!wrong && given("allow-update") != NULL)
-        warnx("updates are lost when it ends, and when files are read anew");
+        warnx("updates %sare lost when it ends, and when files are read anew", given("journal") != NULL ? "of zones without a journal " : "");
+    if (!wrong && given("journal") != NULL && (given("statistics") != NULL || given("query-log") != NULL || settings.rate_limit > 0))
+        wrong = complain("--journal has zone_serve answer, which has no --statistics, --query-log or --rate-limit");
     return wrong ? -1 : check;
 }
 

@@ -1,17 +1,23 @@
 #!/usr/bin/env python3
 """tries.py ZONED: tries what zoned does with sockets, clients and signals, and each rule of a server, on loopback. The last line is
-'N passed, M failed'. PORT is the first of four ports that it uses, and ZONE_SERVE the zone_serve that it is compared with."""
+'N passed, M failed'. PORT is the first of five ports that it uses, and ZONE_SERVE the zone_serve that has its journals and that
+it is compared with, unless COMPARED is empty."""
 import hmac
+import importlib.machinery
 import os
+import random
+import resource
 import signal
 import socket
 import subprocess
 import sys
 import tempfile
+import threading
 import time
 
 ZONED = os.path.abspath(sys.argv[1])
 PORT = int(os.environ.get("PORT", "16351"))
+ZONE_SERVE = os.environ.get("ZONE_SERVE", os.path.join(os.path.dirname(os.path.dirname(os.path.abspath(__file__))), "crates/zone_serve/out/zone_serve"))
 SOA_AND_NS = "$TTL 60\n@ IN SOA ns admin 7 3600 1800 604800 86400\n@ IN NS ns\n"
 WWW = "www IN A 192.0.2.%d\n"
 passed = failed = 0
@@ -406,8 +412,7 @@ def has_ipv6():
 
 def try_same(zone):
     """What zone_serve answers, byte for byte: it has the same rules and zones, and other code around them."""
-    program = os.environ.get("ZONE_SERVE", f"{os.path.dirname(os.path.dirname(os.path.abspath(__file__)))}/crates/zone_serve/out/zone_serve")
-    if not os.path.exists(program):
+    if os.environ.get("COMPARED") == "" or not os.path.exists(ZONE_SERVE):
         print("note: nothing is compared with crates/zone_serve, which is not built or not to be used")
         return
     names = ["www.example.com", "WWW.example.COM", "example.com", "no.example.com", "h1.example.com", "large.example.com", "other.org", "a.b.c.example.com"]
@@ -416,7 +421,7 @@ def try_same(zone):
     messages += [query("www.example.com") + b"\0", query("www.example.com")[:-3], b"\x12\x34" + bytes(10), query("example.com", 41)]
 
     def serve(word, data):
-        return subprocess.run([program, "--zone", f"example.com={zone}", word], input=data, stdout=subprocess.PIPE, stderr=subprocess.DEVNULL).stdout
+        return subprocess.run([ZONE_SERVE, "--zone", f"example.com={zone}", word], input=data, stdout=subprocess.PIPE, stderr=subprocess.DEVNULL).stdout
 
     want(f"{len(messages)} datagrams are answered as by zone_serve", all((udp(m, 0.3) or b"") == serve("udp", m) for m in messages))
     answered = [m for m in messages if udp(m, 0.3) is not None]
@@ -532,6 +537,397 @@ def try_keys(folder, zone, port):
     want("a wrong key of a rule is told with its line", told(["--config", config, "--check"])[1].startswith(f'zoned: {config}: line {lines}: "zone" wants'))
 
 
+class Kept:
+    """A server of example.com that keeps updates in a journal, in a new folder."""
+
+    def __init__(self, folder, port, limit=None, stops=None):
+        """limit is of its files, in bytes; stops is called with the journal where all are killed."""
+        self.folder, self.port, self.limit, self.stops = tempfile.mkdtemp(dir=folder), port, limit, stops
+        self.zone, self.keys, self.journal = (os.path.join(self.folder, name) for name in ("zone", "keys", "journal"))
+        self.log = os.path.join(self.folder, "log")
+        open(self.zone, "w").write(SOA_AND_NS + WWW % 1)
+        open(self.keys, "w").write(KEYS)
+        self.words = ["--zone", f"example.com={self.zone}", "--keys", self.keys, "--allow-update", "example.com=one.example subdomain dyn.example.com A"]
+        self.words += ["--zone-serve", stops.program if stops else ZONE_SERVE, "--journal", f"example.com={self.journal}"]
+        self.host = None
+
+    def start(self, waits=True):
+        """Starts it, and waits until it answers."""
+        limits = None if self.limit is None else lambda: resource.setrlimit(resource.RLIMIT_FSIZE, (self.limit, self.limit))
+        with open(self.log, "a") as log:
+            self.host = start(self.words, self.port, stderr=log, preexec_fn=limits)
+        return not waits or wait_for(self.port)
+
+    def pid(self, name):
+        """The number of its child that runs this program."""
+        return next(it for it in children(self.host.pid) if name in open(f"/proc/{it}/comm").read())
+
+    def kill(self, what, stop=None):
+        """Has the worker, zone_serve, or all with their parent be gone at once; waits until there are others that answer. Clients stop by the event, behind the kill."""
+        pids = children(self.host.pid)
+        if what == "all":
+            self.host.kill()
+        for it in pids if what == "all" else [self.pid(what)]:
+            try:
+                os.kill(it, signal.SIGKILL)
+            except ProcessLookupError:
+                pass
+        if stop:
+            stop.set()
+        if what == "all":
+            self.host.wait()
+        while any(os.path.exists(f"/proc/{it}") for it in pids):
+            time.sleep(0.01)
+        if what != "all":
+            return wait_for(self.port)
+        if self.stops:
+            self.stops(self.journal)
+        return self.start()
+
+    def reload(self):
+        """Has it read its files anew, and waits until it answers."""
+        before = children(self.host.pid)
+        self.host.send_signal(signal.SIGHUP)
+        for _ in range(500):
+            if not set(before) & set(children(self.host.pid)):
+                break
+            time.sleep(0.01)
+        return wait_for(self.port)
+
+    def end(self):
+        """Whether it ends, and all of its children with it."""
+        pids = children(self.host.pid)
+        self.host.terminate()
+        return self.host.wait(15) == 0 and not any(os.path.exists(f"/proc/{it}") for it in pids)
+
+    def said(self):
+        return open(self.log).read()
+
+    def update(self, label, last=7):
+        """The code of the reply to a signed update over UDP, or None."""
+        reply = udp(signed(update(f"{label}.dyn.example.com", last)), port=self.port)
+        return reply and code(reply)
+
+    def has(self, labels):
+        """Of names below dyn.example.com, those that are there."""
+        labels = sorted(labels)
+        with tcp(self.port) as s:
+            sender = threading.Thread(target=s.sendall, args=(b"".join(frame(query(f"{it}.dyn.example.com")) for it in labels),))
+            sender.start()
+            f = s.makefile("rb")
+            found = {it for it in labels if answers(read(f)) > 0}
+            sender.join()
+        return found
+
+    def serial(self):
+        reply = udp(query("example.com", 6), port=self.port)
+        return int.from_bytes(reply[-20:-16], "big")
+
+
+def writes(pid):
+    """How often a process has written."""
+    return int([l for l in open(f"/proc/{pid}/io") if l.startswith("syscw")][0].split()[1])
+
+
+def try_journal(folder, port):
+    """Updates that were acknowledged are there, whatever ended the worker, zone_serve, or all."""
+    kept = Kept(folder, port)
+    want("a server with a journal is ready, and made its files", kept.start() and all(os.path.exists(kept.journal + it) for it in ("", "-wal")))
+    want("by two processes below it, of which one runs zone_serve", len(children(kept.host.pid)) == 2 and kept.pid("zone_serve") != kept.pid("zoned"))
+    held = [os.readlink(f"/proc/{kept.pid('zone_serve')}/fd/{it}") for it in os.listdir(f"/proc/{kept.pid('zone_serve')}/fd")]
+    want("which has its two ends, its files and the standard error, and no socket of a client", sum(it.startswith("socket:") for it in held) == 2 and sum(kept.journal in it for it in held) == 2 and len(held) == 5)
+    want("an update over UDP is acknowledged", kept.update("udp") == 0)
+    with tcp(port) as s:
+        s.sendall(b"".join(frame(signed(update(f"p{i}.dyn.example.com", i))) for i in range(50)))
+        f = s.makefile("rb")
+        codes = [code(read(f)) for _ in range(50)]
+        s.sendall(frame(query("p49.dyn.example.com")))
+        want("so are fifty in one segment over TCP, and the connection sees them", codes == [0] * 50 and read(f)[-4:] == bytes([192, 0, 2, 49]))
+    made = {"udp", *(f"p{i}" for i in range(50))}
+    want("one without a signature is refused", code(udp(update("unsigned.dyn.example.com", 7), port=port)) == 5)
+    with tcp(port) as s:
+        s.sendall(frame(query("example.com", 251)[:8] + b"\0\1\0\0" + query("example.com", 251)[12:] + wire("example.com") + b"\0\6\0\1\0\0\0\0\0\x16" + b"\0\0" + (7).to_bytes(4, "big") + bytes(16)))
+        want("who asks for what changed (IXFR) is given each change", answers(read(s.makefile("rb"))) == 2 + 3 * len(made))
+    serial = kept.serial()
+    want("the serial tells of each", serial == 7 + len(made))
+    for what in ("zoned", "zone_serve", "all"):
+        is_there = kept.kill(what)
+        want(f"what was acknowledged is there after a kill of {what}, and nothing else", is_there and kept.has(made | {"unsigned"}) == made and kept.serial() == serial)
+        want("and one process has the place of each", len(children(kept.host.pid)) == 2)
+    want("what ended is told", kept.said().count("zoned: worker 0 ended\n") == 2 and kept.said().count("zoned: zone_serve ended\n") >= 1)
+    before = writes(kept.pid("zone_serve"))
+    want("and it goes on", all(kept.update("later", last) == 0 for last in range(20)))
+    count = writes(kept.pid("zone_serve")) - before
+    want(f"by a few writes for each update, however many were before ({count} for 20)", 20 <= count <= 60)
+    want("all is there after a reload", kept.reload() and kept.has(made | {"later"}) == made | {"later"})
+    open(kept.zone, "w").write((SOA_AND_NS + WWW % 99).replace(" 7 3600", " 999 3600"))
+    want("the journal counts, and not a zone file that was changed", kept.reload() and udp(query("www.example.com"), port=port)[-4:] == bytes([192, 0, 2, 1]))
+    want("which is told with both serials", f"zone_serve: {kept.journal}: the journal counts, with serial {serial + 20}, and not the zone file, with serial 999\n" in kept.said())
+    want("and updates go on", kept.update("reloaded") == 0)
+    with tcp(port) as old:
+        old.sendall(frame(query("p1.dyn.example.com")))
+        read(old.makefile("rb"))
+        kept.host.send_signal(signal.SIGHUP)
+        want("a reload ends connections to the process before it", closes(old, 3) and wait_for(port))
+    before = children(kept.host.pid)
+    open(kept.zone, "w").write("nonsense")
+    kept.host.send_signal(signal.SIGHUP)
+    time.sleep(0.5)
+    want("a bad zone file is not taken, and both processes go on", children(kept.host.pid) == before and kept.has({"reloaded"}) == {"reloaded"})
+    open(kept.zone, "w").write(SOA_AND_NS)
+    with tcp(port) as s:
+        s.sendall(frame(query("p2.dyn.example.com")))
+        f = s.makefile("rb")
+        read(f)
+        for it in (kept.pid("zone_serve"), kept.host.pid):
+            os.kill(it, signal.SIGTERM)
+        time.sleep(0.3)
+        s.sendall(frame(query("p3.dyn.example.com")))
+        reply = read(f)
+        want("a connection goes on while it is to end, and zone_serve too", reply is not None and reply[-4:] == bytes([192, 0, 2, 3]))
+    want("and it ends then", kept.end())
+    want("all is there at the next start", kept.start() and kept.has(made | {"later", "reloaded"}) == made | {"later", "reloaded"} and kept.serial() == serial + 21)
+    want("it ends again, and none of its processes found the lock of another", kept.end() and "in use" not in kept.said())
+
+
+def try_relayed(folder, port):
+    """What a client sees is what it sees of zoned alone: long messages, large transfers, messages without a reply."""
+    kept = Kept(folder, port)
+    records = "".join(f'h{i} IN TXT "{"x" * 200}"\n' for i in range(20000))
+    large = "".join(f'large IN TXT "{i:03}{"x" * 250}"\n' for i in range(240))
+    open(kept.zone, "w").write(SOA_AND_NS + WWW % 1 + records + large)
+    kept.words += ["--deny", "127.0.0.9", "--deny-transfer", "127.0.0.8", "--max-udp", "700", "--nsid", "here"]
+    want("a large zone with a journal is ready", kept.start())
+    with tcp(port) as s:
+        f = s.makefile("rb")
+        for number in range(2):
+            s.sendall(frame(query("example.com", 252)) + frame(query("www.example.com")))
+            count = 0
+            while count < 20244:
+                count += answers(read(f))
+            want("a transfer of 20,244 records in several replies, and the next message behind it", count == 20244 and read(f)[-4:] == bytes([192, 0, 2, 1]))
+        s.sendall(frame(query("large.example.com", 16)))
+        reply = read(f)
+        want("a reply of 60,000 bytes and more", len(reply) > 60000 and answers(reply) == 240)
+        long = query("www.example.com")[:10] + b"\0\1" + query("www.example.com")[12:] + b"\0\0\x29\x10\0\0\0\0\0"
+        rest = 65535 - len(long) - 2
+        long += rest.to_bytes(2, "big") + b"\xfd\xe9" + (rest - 4).to_bytes(2, "big") + bytes(rest - 4)
+        s.sendall(frame(long) + frame(query("www.example.com", i=0x4321)))
+        first, second = read(f), read(f)
+        want("a message of 65,535 bytes, and one behind it", len(long) == 65535 and code(first) == 0 and answers(first) == 1 and second[:2] == b"\x43\x21")
+        s.sendall(b"".join(frame(query("www.example.com", 1, i)) for i in range(1000)))
+        want("a thousand messages one behind the other", [int.from_bytes(read(f)[:2], "big") for _ in range(1000)] == list(range(1000)))
+    with tcp(port) as s:
+        s.sendall(frame(query("example.com", 252)) * 3)
+        s.recv(1000)
+    want("a client that goes away in the middle of a transfer", answers(udp(query("www.example.com"), port=port)) == 1)
+    for what, message, source in (("a denied address", query("www.example.com"), "127.0.0.9"), ("a response", query("www.example.com", flags=b"\x81\x00"), "127.0.0.1"),
+                                  ("a message shorter than a header", bytes(11), "127.0.0.1"), ("an empty datagram", b"", "127.0.0.1"), ("no message", bytes(2) + b"\1\0\0\1" + b"\xff" * 20, "127.0.0.1")):
+        want(f"{what} has no reply", udp(message, 0.3, port, source) is None)
+        with tcp(port, source) as s:
+            s.sendall(frame(message))
+            want("over TCP neither", closes(s, 2))
+    reply = udp(query("large.example.com", 16, payload=4096), port=port)
+    want("a reply over UDP has at most what --max-udp says", 12 < len(reply) <= 700 and is_truncated(reply))
+    with tcp(port, "127.0.0.8") as s:
+        s.sendall(frame(query("example.com", 252)))
+        want("a transfer to an address that may have none is refused", code(read(s.makefile("rb"))) == 5)
+    with socket.socket(socket.AF_INET, socket.SOCK_DGRAM) as s:
+        s.connect(("127.0.0.1", port))
+        s.settimeout(5)
+        for i in range(60):
+            s.send(query("www.example.com", 1, i))
+        want("sixty datagrams are answered", sorted(int.from_bytes(s.recv(512)[:2], "big") for _ in range(60)) == list(range(60)))
+    want("it did all that by the processes that it began with, and ends", "ended" not in kept.said() and kept.end())
+
+
+def try_one_writer(folder, port):
+    """Another process at the journal, files that are none, and what is refused beside one."""
+    kept = Kept(folder, port)
+    want("--check makes no journal", status(["--check", *kept.words]) == 0 and not os.path.exists(kept.journal))
+    kept.start()
+    kept.update("first")
+    second = told(["--listen", f"127.0.0.1@{port - 1}", *kept.words])
+    want("a second server at a journal is told, and ends", second[0] == 1 and f"zone_serve: {kept.journal}: the journal is in use\n" in second[1] and "zoned: zone_serve does not begin\n" in second[1])
+    want("--check says nothing of the journal of a server that runs", told(["--check", *kept.words])[0] == 0)
+    want("and the first goes on", kept.update("second") == 0 and kept.has({"first", "second"}) == {"first", "second"})
+    kept.end()
+    here = ["--listen", f"127.0.0.1@{port}"]
+    entry = update("a.dyn.example.com", 1).replace(b"com", b"net")
+    os.remove(kept.journal + "-wal")
+    text = b"\1" + len(entry).to_bytes(4, "big") + entry + b"\0"
+    open(kept.journal, "wb").write(text)
+    status_is, said = told([*here, *kept.words])
+    want("a journal of another zone is told", status_is == 1 and f"zone_serve: {kept.journal}: entry 1 at 0 is no update of this zone\n" in said)
+    want("and it is as it was", open(kept.journal, "rb").read() == text)
+    os.remove(kept.journal)
+    for what, path, says in (("in no folder", kept.folder + "/none/journal", "there is no such file"), ("a folder", kept.folder, "the file cannot be read"), ("without a name", "", "there is no such file")):
+        status_is, said = told([*here, *kept.words[:-1], f"example.com={path}"])
+        want(f"a file that cannot be a journal is told: {what}", status_is == 1 and f"zone_serve: {path}: {says}\n" in said)
+    status_is, said = told([*here, *kept.words[:2], *kept.words[-4:]])
+    want("a journal of a zone without rules is told", status_is == 1 and "there is no --allow-update of this zone" in said)
+    for option, value in (("--statistics", kept.folder + "/socket"), ("--query-log", kept.folder + "/queries"), ("--rate-limit", "5")):
+        status_is, said = told([*here, *kept.words, option, value])
+        want(f"{option} beside a journal is refused, and told", status_is == 2 and "--journal has zone_serve answer, which has no" in said)
+    for path, says in ((kept.folder + "/none", "No such file"), ("/bin/true", "zone_serve does not begin"), ("/bin/false", "zone_serve does not begin")):
+        status_is, said = told([*here, *kept.words, "--zone-serve", path])
+        want(f"a program that is not there, or ends at once, is told: {os.path.basename(path)}", status_is == 1 and says in said)
+
+
+def try_journal_configuration(folder, port):
+    """A journal by a file in TOML, and a reload whose journal is not opened."""
+    kept = Kept(folder, port)
+    config = os.path.join(kept.folder, "toml")
+    zone = f'listen = "127.0.0.1@{port}"\nkeys = "{kept.keys}"\nzone-serve = "{ZONE_SERVE}"\njournal = ["example.com={kept.journal}"]\n[[zone]]\nname = "example.com"\nfile = "{kept.zone}"\n'
+    rule = '[[zone.update]]\nkey = "one.example"\n'
+    open(config, "w").write(zone + rule)
+    with open(kept.log, "a") as log:
+        kept.host = subprocess.Popen([ZONED, "--config", config], stderr=log)
+    want("a journal may be said in a configuration", wait_for(port) and kept.update("first") == 0 and os.path.exists(kept.journal))
+    open(config, "w").write(zone)
+    want("a reload whose journal is not opened is told", kept.reload() and "there is no --allow-update of this zone" in kept.said() and "zoned: the settings of before hold again\n" in kept.said())
+    want("and what was before goes on", kept.update("second") == 0 and kept.has({"first", "second"}) == {"first", "second"})
+    open(config, "w").write(zone.replace(f"{kept.journal}", f"{kept.journal}.new") + rule)
+    want("another journal may be said at a reload", kept.reload() and kept.has({"first"}) == set() and kept.update("third") == 0)
+    open(config, "w").write(zone + rule)
+    want("and the one before again", kept.reload() and kept.has({"first", "second", "third"}) == {"first", "second"})
+    open(config, "w").write(zone.replace("journal = ", "nsid = ").replace(f'["example.com={kept.journal}"]', '"here"') + rule)
+    want("and none, which the library answers then", kept.reload() and len(children(kept.host.pid)) == 1 and kept.has({"first"}) == set() and kept.update("fourth") == 0)
+    open(config, "w").write(zone + rule)
+    want("and one again", kept.reload() and len(children(kept.host.pid)) == 2 and kept.has({"first", "second", "fourth"}) == {"first", "second"})
+    want("it ends", kept.end())
+
+
+def try_journal_limit(folder, port):
+    """A file that may not grow: updates are refused, and queries go on; and a program that cannot begin any more."""
+    kept = Kept(folder, port, limit=32768)
+    kept.start()
+    made, number, code_is = set(), 0, 0
+    while number < 1000 and code_is != 2:
+        code_is = kept.update(f"n{number}")
+        if code_is == 0:
+            made.add(f"n{number}")
+        number += 1
+    shut = f"zone_serve: {kept.journal}: the journal is not written: each update is SERVFAIL until the next start\n"
+    want("a write that fails is SERVFAIL, and told", code_is == 2 and kept.said().count(shut) == 1 and len(made) >= 100)
+    want("so is each update behind it, and queries go on", [kept.update("more") for _ in range(3)] == [2] * 3 and kept.has(made) == made and kept.said().count(shut) == 1)
+    want(f"behind a reload all {len(made)} updates that were acknowledged are there, and updates go on", kept.reload() and kept.has(made) == made and kept.update("later") == 0)
+    want("and it ends", kept.end())
+    kept.limit = 4096
+    want("a start that cannot write the zone is told, and serves it", kept.start() and kept.said().count(shut) == 2 and kept.has(made | {"later"}) == made | {"later"} and kept.update("refused") == 2)
+    want("and it ends", kept.end())
+    kept.limit = None
+    want("and without the limit all is there", kept.start() and kept.has(made | {"later", "refused"}) == made | {"later"} and kept.update("last") == 0 and kept.end())
+    program = os.path.join(kept.folder, "program")
+    os.symlink(ZONE_SERVE, program)
+    kept.words += ["--zone-serve", program]
+    kept.start()
+    os.remove(program)
+    before, began = kept.said().count("zoned: zone_serve does not begin\n"), time.time()
+    os.kill(kept.pid("program"), signal.SIGKILL)
+    time.sleep(5)
+    count, seconds = kept.said().count("zoned: zone_serve does not begin\n") - before, time.time() - began
+    want(f"a program that cannot begin is begun once a second ({count} in {seconds:.1f} seconds)", 2 <= count <= seconds + 1)
+    os.symlink(ZONE_SERVE, program)
+    want("and once it can all is there", wait_for(port) and kept.has(made | {"last"}) == made | {"last"})
+    os.remove(program)
+    os.kill(kept.pid("zoned"), signal.SIGKILL)
+    time.sleep(1)
+    want("while it cannot, the parent ends when it is told", kept.end())
+
+
+def try_journal_full(folder, port):
+    """A file system that is full: updates are refused, and queries go on."""
+    disk = tempfile.mkdtemp(dir=folder)
+    if subprocess.run(["mount", "-t", "tmpfs", "-o", "size=256k", "tmpfs", disk], stderr=subprocess.DEVNULL).returncode != 0:
+        print("note: nothing can be mounted here, so no full file system is tried")
+        return
+    try:
+        kept, made, number = Kept(folder, port), set(), 0
+        kept.words[-1] = f"example.com={disk}/journal"
+        kept.start()
+        while number < 5000 and "the journal is not written" not in kept.said():
+            labels = [f"n{it}" for it in range(number, number + 50)]
+            number += 50
+            with tcp(port) as s:
+                s.sendall(b"".join(frame(signed(update(f"{it}.dyn.example.com", 7))) for it in labels))
+                f = s.makefile("rb")
+                made.update(it for it in labels if (reply := read(f)) and code(reply) == 0)
+        want(f"a full file system is told, behind {len(made)} updates", f"zone_serve: {disk}/journal: the journal is not written" in kept.said() and len(made) > 300)
+        want("updates are refused, and queries go on", kept.update("refused") == 2 and kept.has(made) == made)
+        want("and all is there behind a reload", kept.reload() and kept.has(made) == made)
+        subprocess.run(["mount", "-o", "remount,size=4m", disk], check=True)
+        want("and with room, once files are read anew, updates go on", kept.reload() and kept.has(made) == made and kept.update("later") == 0)
+        want("and it ends", kept.end())
+    finally:
+        subprocess.run(["umount", "-l", disk])
+
+
+def send_updates(kept, name, over_tcp_too, stop, told_of):
+    """A client that sends one update after the other, each fifth of which is refused, until it is to stop; notes the code of each reply."""
+    number = 0
+    while not stop.is_set():
+        label = f"{name}n{number}"
+        message = signed(update(f"{label}.example.com" if number % 5 == 4 else f"{label}.dyn.example.com", 7))
+        try:
+            if over_tcp_too and number % 2:
+                with tcp(kept.port) as s:
+                    s.settimeout(0.3)
+                    s.sendall(frame(message))
+                    reply = read(s.makefile("rb"))
+            else:
+                reply = udp(message, 0.3, kept.port)
+        except OSError:
+            reply = None
+        told_of[label] = code(reply) if reply else None
+        number += 1
+
+
+class Stops:
+    """Machines that stop: what zone_serve wrote and did not sync is lost, torn or kept, as clients/crashes has it."""
+
+    def __init__(self, folder, chance):
+        clients = os.path.join(os.path.dirname(os.path.dirname(os.path.abspath(__file__))), "clients")
+        self.crashes = importlib.machinery.SourceFileLoader("crashes", f"{clients}/crashes").load_module()
+        self.notes, self.chance, self.taken = os.path.join(folder, "notes"), chance, 0
+        shim, self.program = os.path.join(folder, "keep_unsynced.so"), os.path.join(folder, "zone_serve_noted")
+        subprocess.run(["gcc", "-O2", "-shared", "-fPIC", "-o", shim, f"{clients}/keep_unsynced.c"], check=True)
+        with open(self.program, "w") as it:
+            it.write(f'#!/bin/sh\nLD_PRELOAD={shim} UNSYNCED={self.notes} exec {ZONE_SERVE} "$@"\n')
+        os.chmod(self.program, 0o755)
+
+    def __call__(self, journal):
+        self.taken += self.crashes.stop_machine(journal, self.notes, self.chance)
+
+
+def try_journal_kills(folder, port):
+    """Kills at random moments with updates in flight; where all are killed, the machine stops too."""
+    chance, made, refused, lost = random.Random(7), set(), set(), set()
+    stops = Stops(folder, chance)
+    kept = Kept(folder, port, stops=stops)
+    kept.start()
+    for number in range(30):
+        stop, notes = threading.Event(), [{} for _ in range(4)]
+        clients = [threading.Thread(target=send_updates, args=(kept, f"r{number}c{i}", i % 2, stop, notes[i]), daemon=True) for i in range(4)]
+        for it in clients:
+            it.start()
+        time.sleep(chance.uniform(0.02, 0.3))
+        is_there = kept.kill(("all", "zone_serve", "zoned")[number % 3], stop)
+        for it in clients:
+            it.join()
+        seen = {label: code_is for note in notes for label, code_is in note.items()}
+        made |= {label for label, code_is in seen.items() if code_is == 0}
+        refused |= {label for label, code_is in seen.items() if code_is == 5}
+        lost |= made - kept.has(made) if is_there else made
+        if lost:
+            break
+    want(f"30 kills with updates in flight: all {len(made)} that were acknowledged are there after each", len(made) > 20 and not lost)
+    codes = [udp(query(f"{label}.example.com"), port=port) for label in sorted(refused)]
+    want(f"and none of {len(refused)} that were refused", len(refused) > 5 and all(reply and code(reply) == 3 for reply in codes) and not kept.has(refused))
+    want(f"and {stops.taken} writes were not synced", stops.taken > 0)
+    want("it ends", kept.end())
+
+
 def try_activation(zone, port):
     """That it serves sockets that it is started with, as systemd starts it, in any order."""
     with socket.create_server(("127.0.0.1", port)) as stream, socket.socket(socket.AF_INET, socket.SOCK_DGRAM) as datagrams:
@@ -621,9 +1017,14 @@ def try_arguments(zone, bad):
 
 
 def told(words):
-    """The status of a call that ends, and what it says on its standard error."""
-    ran = subprocess.run([ZONED, *words], stdout=subprocess.DEVNULL, stderr=subprocess.PIPE, text=True)
-    return ran.returncode, ran.stderr
+    """The status of a call that ends, or none where it does not, and what it says on its standard error."""
+    with subprocess.Popen([ZONED, *words], stdout=subprocess.DEVNULL, stderr=subprocess.PIPE, text=True) as ran:
+        try:
+            said = ran.communicate(timeout=20)[1]
+        except subprocess.TimeoutExpired:
+            ran.terminate()
+            return None, ran.communicate()[1]
+        return ran.returncode, said
 
 
 def try_configuration(folder, zone, port):
@@ -711,6 +1112,11 @@ def main():
     try_joined(folder, PORT + 2)
     try_configuration(folder, zone, PORT + 2)
     try_keys(folder, zone, PORT + 2)
+    if os.path.exists(ZONE_SERVE):
+        for it in (try_journal, try_relayed, try_one_writer, try_journal_configuration, try_journal_limit, try_journal_full, try_journal_kills):
+            it(folder, PORT + 4)
+    else:
+        print("note: no journal is tried, since crates/zone_serve is not built")
     try_activation(zone, PORT + 2)
     try_log(folder, zone, PORT + 2)
     try_limits(zone, PORT + 2, path)
