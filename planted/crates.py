@@ -6,6 +6,8 @@ import subprocess
 
 ROOT = os.path.dirname(os.path.dirname(os.path.abspath(__file__)))
 PARTS = ("src", "specs", "proofs")
+# The files of a library that prove the contract of a function, and its table of what was made for that.
+PROOFS = ("Answers.antt", "Invariants.antt", "Proof.antt", "made.json")
 
 
 def output_of(*words):
@@ -64,12 +66,27 @@ def strays():
     return [it for it in sorted(os.listdir(f"{ROOT}/planted")) if it not in table and edits_of(it)]
 
 
+def logic():
+    """Returns which logic of programs the toolchain has: two toolchains with the same one prove the same."""
+    return output_of("rt", "version").partition("logic")[2].strip()
+
+
+def statements_of(name):
+    """Returns the paths of the files that say what a built library states: its types, contracts, definitions and lemmas, without the bodies of functions and
+    the proofs of their contracts."""
+    folder = f"{library(name)}/{name}.rlib"
+    found = [it for part in ("interface/lang", "lang") for it in files_in(f"{folder}/{part}")]
+    return [it for it in found if os.path.basename(it) not in PROOFS]
+
+
 def state_of(name):
-    """Returns a sum of all that decides how a crate's edits are answered: its text and its row, those of the crates below, its edits, this driver, and the
-    toolchain."""
-    table, whole = rows(), hashlib.sha256(output_of("rt", "version").encode())
-    folders = [f"crates/{it}/{part}" for it in [*below(name, table), name] for part in PARTS]
-    paths = [it for folder in folders for it in files_in(f"{ROOT}/{folder}")]
+    """Returns a sum of all that decides how a crate's edits are answered: its text and its row, the rows of the crates below and what these state, its edits,
+    this driver, and the logic; or None where a library below is not built."""
+    if not_built(name):
+        return None
+    table, whole = rows(), hashlib.sha256(logic().encode())
+    paths = [it for part in PARTS for it in files_in(f"{ROOT}/crates/{name}/{part}")]
+    paths += [path for it in below(name, table) for path in statements_of(it)]
     paths += edits_of(name)
     paths += [f"{ROOT}/planted/{it}" for it in sorted(os.listdir(f"{ROOT}/planted")) if it.endswith(".py") or it == "run"]
     for it in [*below(name, table), name]:
