@@ -10,7 +10,7 @@ use Rattle.wire_names.specs.rr.domain.DomainName.{DomainName, name_len}
 use Rattle.record_text.specs.declared.data.field.Field.TheVariants as field
 use Rattle.record_text.specs.declared.data.field.Names.{Names}
 use Rattle.record_text.specs.declared.data.hex_groups.Group.TheVariants as group
-use Rattle.record_text.specs.Groups.{SpellsGroups, SpellsHexGroups, SpellsNsap}
+use Rattle.record_text.specs.Groups.{SpellsBase32, SpellsHexGroups, SpellsNsap}
 use Rattle.record_text.specs.Moments.{SpellsMoment}
 use Rattle.record_text.specs.RecordText.{HasNone, IsField, IsNamed, SpellsType}
 use Rattle.record_text.specs.RecordText.IsField.{number8, number16, number32, named8, unnamed8, named16, unnamed16, time, name, string, text, ipv4, ipv6, type, moment, no_salt, salt, hash, eui48, eui64, locator64, no_gateway, nsap}
@@ -74,7 +74,7 @@ pub plain_salt : (w : Word) (origin : Option DomainName) (octets : List ℕ) →
 plain_salt w origin octets (no_salt plain is) = plain
 plain_salt w origin octets (salt plain differs is short) = plain
 
-pub no_hash : (w : Word) → HasNone (λ octets. (w.quoted ≡ false) × SpellsGroups w.bytes.now octets × (length octets < 256)) → (origin : Option DomainName) → HasNone (IsField origin field.Hash w)
+pub no_hash : (w : Word) → HasNone (λ octets. (w.quoted ≡ false) × SpellsBase32 w.bytes.now octets × (length octets < 256)) → (origin : Option DomainName) → HasNone (IsField origin field.Hash w)
 no_hash w none origin octets (hash {octets = own} plain is short) = none own (plain, is, short)
 
 pub no_eui48 : (w : Word) → HasNone (λ octets. (w.quoted ≡ false) × SpellsHexGroups 45 group.Octet 6 w.bytes.now octets) → (origin : Option DomainName) → HasNone (IsField origin field.Eui48 w)

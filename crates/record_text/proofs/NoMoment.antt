@@ -77,7 +77,7 @@ no_date text d len spelled none n (date {date = e} is other) =
     let minutes : d.minute ≡ e.minute = same_number (take 2 (drop 10 text)) d.minute e.minute one.minutes two.minutes in
     let seconds_are : d.second ≡ e.second = same_number (drop 12 text) d.second e.second one.seconds two.seconds in
     none (record {
-      from_1970 = omega (arith, years, is.from_1970);
+      from_year_1 = omega (arith, years, is.from_year_1);
       year = omega (arith, years, is.year);
       from_january = omega (arith, months, is.from_january);
       month = omega (arith, months, is.month);

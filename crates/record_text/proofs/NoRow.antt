@@ -13,7 +13,7 @@ use Rattle.location_text.specs.LocationText.{IsLocation}
 use Rattle.service_text.specs.ServiceText.{AreServiceParameters}
 use Rattle.text_words.specs.declared.words.Word.{Word}
 use Rattle.text_words.specs.Spelling.{IsString}
-use Rattle.record_text.specs.RecordText.{AreFields, AreFieldsBefore, AreLowTypes, AreNames, ArePlain, ArePortBits, ArePorts, AreStrings, AreTypes, HasNone, IsBase64, IsData, IsField, IsGateway, IsLowTypeSet, IsRest, IsRow, IsTypeSet, SpellsPort, SpellsType, bytes_of}
+use Rattle.record_text.specs.RecordText.{AreFields, AreFieldsBefore, AreLowTypes, AreNames, ArePlain, ArePortBits, ArePorts, AreStrings, AreTypes, HasNone, IsBase64, IsData, IsField, IsGateway, IsLowTypeSet, IsRest, IsRow, IsTypeSet, SpellsLowType, SpellsPort, SpellsType, bytes_of}
 use Rattle.record_text.specs.RecordText.AreNames.{none as no_servers, more as one_server}
 use Rattle.record_text.specs.RecordText.ArePorts.{none as no_ports_here, more as one_port}
 use Rattle.record_text.specs.RecordText.AreLowTypes.{none as no_low_here, more as one_low}
@@ -143,7 +143,7 @@ no_location origin words none octets (location is) = none octets is
 
 -- a type from 1 to 127
 abbrev pub IsLow : Word → ℕ → Type 0
-IsLow word number = (word.quoted ≡ false) × SpellsType word.bytes.now number × (0 < number) × (number < 128)
+IsLow word number = (word.quoted ≡ false) × SpellsLowType word.bytes.now number × (0 < number) × (number < 128)
 
 pub low_at : {words : List Word} {numbers : List ℕ} → AreLowTypes words numbers → (i : ℕ) (d : Word) → i < length words → (number : ℕ) × IsLow (get_or words i d) number
 low_at no_low_here i d below = absurd (omega arith)

@@ -20,9 +20,10 @@ use Rattle.record_text.specs.declared.data.hex_groups.Group.TheVariants as group
 use Rattle.record_text.specs.Groups.{IsGroup, SpellsHexGroups, SpellsNsap, without_dots}
 use Rattle.record_text.specs.Groups.IsGroup.{octet, bits16}
 use Rattle.record_text.specs.Groups.SpellsHexGroups.{first, more as one_group}
-use Rattle.record_text.specs.RecordText.{AreFields, AreLowTypes, AreNames, ArePorts, AreStrings, AreTypes, IsBase64, IsData, IsField, IsGateway, IsIdentity, IsRelay, IsRest, IsRow, SpellsPort, SpellsType, bytes_of}
+use Rattle.record_text.specs.RecordText.{AreFields, AreLowTypes, AreNames, ArePorts, AreStrings, AreTypes, IsBase64, IsData, IsField, IsGateway, IsIdentity, IsRelay, IsRest, IsRow, SpellsLowType, SpellsPort, SpellsType, bytes_of}
 use Rattle.record_text.specs.RecordText.AreNames.{none as no_servers, more as one_server}
 use Rattle.record_text.specs.RecordText.AreLowTypes.{none as no_low_types, more as one_low}
+use Rattle.record_text.specs.RecordText.SpellsLowType.{named as low_named, numbered as low_numbered}
 use Rattle.record_text.specs.RecordText.ArePorts.{none as no_ports, more as one_port}
 use Rattle.record_text.proofs.PortsOnce.{port_once}
 use Rattle.record_text.proofs.PrefixesOnce.{prefix_once}
@@ -36,7 +37,7 @@ use Rattle.record_text.specs.Prefixes.{ArePrefixes, SpellsPrefix}
 use Rattle.record_text.specs.Prefixes.ArePrefixes.{none as no_prefixes, more as one_prefix}
 use Rattle.record_text.specs.TypeBitmaps.{bitmap, bitmap_len, windows}
 use Rattle.record_text.specs.TypeTable.{TypeRow}
-use Rattle.record_text.proofs.Digits.{group_octets}
+use Rattle.record_text.proofs.Digits.{base32_len}
 use Rattle.record_text.proofs.Relays.{relay_told}
 use Rattle.record_text.proofs.Gateways.{before_key, behind_fields, told_of}
 use Rattle.record_text.proofs.NoRow.{fields_len}
@@ -73,6 +74,13 @@ nsap_once t a b one two = decoded_once (decode_of (without_dots (drop 2 t))) a b
 abbrev pub TypesOnce : Type 0
 TypesOnce = (word : List ℕ) (n m : ℕ) → SpellsType word n → SpellsType word m → n ≡ m
 
+-- so are those from 1 to 127
+pub low_type_once : TypesOnce → (word : List ℕ) (n m : ℕ) → SpellsLowType word n → SpellsLowType word m → n ≡ m
+low_type_once types_once word n m (low_named a) (low_named b) = types_once word n m a b
+low_type_once types_once word n m (low_named a) (low_numbered none b) = absurd (none n a)
+low_type_once types_once word n m (low_numbered none a) (low_named b) = absurd (none m b)
+low_type_once types_once word n m (low_numbered none a) (low_numbered none' b) = sym a.value ∙ b.value
+
 -- octets are encoded in one way
 abbrev pub Base64Once : Type 0
 Base64Once = (a b : List ℕ) → IsBytes a → IsBytes b → encode_of standard a ≡ encode_of standard b → a ≡ b
@@ -107,7 +115,7 @@ module _ (bytes_once : BytesSpelledOnce) (strings_once : StringsSpelledOnce) (na
   field_len origin field w a b (no_salt p i) (salt q other j short) = absurd (other i)
   field_len origin field w a b (salt p other i short) (no_salt q j) = absurd (other j)
   field_len origin field w a b (salt {octets = x} p other i short) (salt {octets = y} q another j small) = ap (λ (o : List ℕ). length (character_string o)) (decoded_once (decode_of w.bytes.now) x y i j)
-  field_len origin field w a b (hash {octets = x} p i short) (hash {octets = y} q j small) = omega (arith, group_octets i, group_octets j)
+  field_len origin field w a b (hash {octets = x} p i short) (hash {octets = y} q j small) = omega (arith, base32_len i, base32_len j)
   field_len origin field w a b (eui48 p i) (eui48 q j) = groups_len 45 group.Octet 6 w.bytes.now a i ∙ sym (groups_len 45 group.Octet 6 w.bytes.now b j)
   field_len origin field w a b (eui64 p i) (eui64 q j) = groups_len 45 group.Octet 8 w.bytes.now a i ∙ sym (groups_len 45 group.Octet 8 w.bytes.now b j)
   field_len origin field w a b (locator64 p i) (locator64 q j) = groups_len 58 group.Bits16 4 w.bytes.now a i ∙ sym (groups_len 58 group.Bits16 4 w.bytes.now b j)
@@ -177,7 +185,7 @@ module _ (bytes_once : BytesSpelledOnce) (strings_once : StringsSpelledOnce) (na
   low_one (one_low {words = ws} {numbers = a} {number = n} w before plain is some small) (one_low {words = ws'} {numbers = b} {number = m} w' before' plain' is' some' small') e =
       let same = same_from_push ws ws' w w' e in
       let front : a ≡ b = low_one before before' same.0 in
-      let last : n ≡ m = types_once w.bytes.now n m is (subst (λ (v : Word). SpellsType v.bytes.now m) (sym same.1) is') in
+      let last : n ≡ m = low_type_once types_once w.bytes.now n m is (subst (λ (v : Word). SpellsLowType v.bytes.now m) (sym same.1) is') in
       rw (front, last) refl
 
   prefixes_one : {words ws : List Word} {a b : List ℕ} → ArePrefixes words a → ArePrefixes ws b → words ≡ ws → a ≡ b

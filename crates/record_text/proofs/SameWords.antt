@@ -11,9 +11,9 @@ use Rattle.record_text.specs.declared.data.field.Field.TheVariants as field
 use Rattle.record_text.specs.declared.data.field.Rest.{Rest}
 use Rattle.record_text.specs.declared.data.field.Rest.TheVariants as kind
 use Rattle.record_text.specs.declared.data.hex_groups.Group.TheVariants as group
-use Rattle.record_text.specs.Groups.{SpellsGroups, SpellsHexGroups, SpellsNsap}
+use Rattle.record_text.specs.Groups.{SpellsBase32, SpellsHexGroups, SpellsNsap}
 use Rattle.record_text.specs.Moments.{SpellsMoment}
-use Rattle.record_text.specs.RecordText.{AreFields, AreLowTypes, AreNames, ArePlain, ArePorts, AreStrings, AreTypes, BeginGeneric, IsBase64, IsData, IsField, IsGateway, IsGenericData, IsIdentity, IsKey, IsNamed, IsRelay, IsRest, IsRow, IsTag, SpellsData, SpellsPort, SpellsType, bytes_of}
+use Rattle.record_text.specs.RecordText.{AreFields, AreLowTypes, AreNames, ArePlain, ArePorts, AreStrings, AreTypes, BeginGeneric, IsBase64, IsData, IsField, IsGateway, IsGenericData, IsIdentity, IsKey, IsNamed, IsRelay, IsRest, IsRow, IsTag, SpellsData, SpellsLowType, SpellsPort, SpellsType, bytes_of}
 use Rattle.record_text.specs.RecordText.AreNames.{none as no_servers, more as one_server}
 use Rattle.record_text.specs.RecordText.AreLowTypes.{none as no_low_types, more as one_low}
 use Rattle.record_text.specs.RecordText.ArePorts.{none as no_ports, more as one_port}
@@ -59,7 +59,7 @@ same_field origin field a b octets s (type {number = number} plain is) = type (s
 same_field origin field a b octets s (moment {n = n} plain is) = moment (sym s.quoted ∙ plain) (subst (λ (t : List ℕ). SpellsMoment t n) s.bytes is)
 same_field origin field a b octets s (no_salt plain is) = no_salt (sym s.quoted ∙ plain) (sym s.bytes ∙ is)
 same_field origin field a b octets s (salt {octets = own} plain other is short) = salt (sym s.quoted ∙ plain) (λ e. other (s.bytes ∙ e)) (subst (λ (t : List ℕ). decode_of t ≡ Ok own) s.bytes is) short
-same_field origin field a b octets s (hash {octets = own} plain is short) = hash (sym s.quoted ∙ plain) (subst (λ (t : List ℕ). SpellsGroups t own) s.bytes is) short
+same_field origin field a b octets s (hash {octets = own} plain is short) = hash (sym s.quoted ∙ plain) (subst (λ (t : List ℕ). SpellsBase32 t own) s.bytes is) short
 same_field origin field a b octets s (eui48 plain is) = eui48 (sym s.quoted ∙ plain) (subst (λ (t : List ℕ). SpellsHexGroups 45 group.Octet 6 t octets) s.bytes is)
 same_field origin field a b octets s (eui64 plain is) = eui64 (sym s.quoted ∙ plain) (subst (λ (t : List ℕ). SpellsHexGroups 45 group.Octet 8 t octets) s.bytes is)
 same_field origin field a b octets s (locator64 plain is) = locator64 (sym s.quoted ∙ plain) (subst (λ (t : List ℕ). SpellsHexGroups 58 group.Bits16 4 t octets) s.bytes is)
@@ -159,7 +159,7 @@ same_low no_low_types others h = subst (λ (ws : List Word). AreLowTypes ws []) 
 same_low (one_low {words = ws} {numbers = numbers} {number = number} w before plain is some small) others h =
     let parts : CutLast ws w others = cut_last ws w others h in
     subst (λ (os : List Word). AreLowTypes os (numbers ++ number ∷ [])) (sym parts.whole)
-    (one_low parts.last (same_low before parts.first parts.firsts) (sym parts.lasts.quoted ∙ plain) (subst (λ (t : List ℕ). SpellsType t number) parts.lasts.bytes is) some small)
+    (one_low parts.last (same_low before parts.first parts.firsts) (sym parts.lasts.quoted ∙ plain) (subst (λ (t : List ℕ). SpellsLowType t number) parts.lasts.bytes is) some small)
 
 same_prefixes : {words : List Word} {octets : List ℕ} → ArePrefixes words octets → (others : List Word) → AreSameWords words others → ArePrefixes others octets
 same_prefixes no_prefixes others h = subst (λ (ws : List Word). ArePrefixes ws []) (none_left others h) no_prefixes

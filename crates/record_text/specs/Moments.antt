@@ -16,9 +16,9 @@ abbrev pub days_before_month : Bool → ℕ → ℕ
 days_before_month leap month =
     slice_index (0 ∷ 0 ∷ 31 ∷ 59 ∷ 90 ∷ 120 ∷ 151 ∷ 181 ∷ 212 ∷ 243 ∷ 273 ∷ 304 ∷ 334 ∷ []) month + (if leap && nat_lt 2 month then 1 else 0)
 
--- a date from 1970 on, with its time of day
+-- a date from year 1 on, with its time of day
 pub record IsDate (date : Date) : Type 0 where
-  pub from_1970 : 1970 ≤ date.year
+  pub from_year_1 : 1 ≤ date.year
   pub year : date.year < 10000
   pub from_january : 1 ≤ date.month
   pub month : date.month ≤ 12
@@ -28,10 +28,10 @@ pub record IsDate (date : Date) : Type 0 where
   pub minute : date.minute < 60
   pub second : date.second < 61
 
--- seconds from the beginning of 1970, before which are 719162 days
+-- seconds from the beginning of year 1
 abbrev pub date_seconds : Date → ℕ
 date_seconds date =
-    let days = days_before_year date.year - 719162 + days_before_month (is_leap date.year) date.month + date.day - 1 in
+    let days = days_before_year date.year + days_before_month (is_leap date.year) date.month + date.day - 1 in
     60 * (60 * (24 * days + date.hour) + date.minute) + date.second
 
 -- fourteen digits: four of the year, and two each of the month, day, hour, minute and second
@@ -52,7 +52,12 @@ pub record SpellsDate (text : List ℕ) (date : Date) : Type 0 where
   pub minutes : IsNumber minute date.minute
   pub seconds : IsNumber second date.second
 
--- A moment: fourteen digits are a date, of whose seconds since 1970 is left out what goes beyond 32 bits, and otherwise digits are the seconds, of 32 bits.
+-- A date in 32 bits: its seconds since 1970, before which are 719162 days, without what goes beyond these; those before 1970 are counted back from 0, and so
+-- from a multiple of 2^32 (section 3.1.5).
+abbrev pub date_bits : Date → ℕ
+date_bits date = (date_seconds date + 15 * 2 ^ 32 - 86400 * 719162) % 2 ^ 32
+
+-- A moment: fourteen digits are a date, and otherwise digits are the seconds since 1970, of 32 bits.
 pub data SpellsMoment : List ℕ → ℕ → Type 0 where
-  date : {text : List ℕ} {date : Date} → IsDate date → SpellsDate text date → SpellsMoment text (date_seconds date % 2 ^ 32)
+  date : {text : List ℕ} {date : Date} → IsDate date → SpellsDate text date → SpellsMoment text (date_bits date)
   seconds : {text : List ℕ} {n : ℕ} → length text ≢ 14 → IsNumber text n → n < 2 ^ 32 → SpellsMoment text n

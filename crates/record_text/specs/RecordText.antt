@@ -32,7 +32,7 @@ use Rattle.text_words.specs.declared.words.TextKind.{TextKind}
 use Rattle.text_words.specs.declared.words.Word.{Word}
 use Rattle.record_text.specs.Moments.{SpellsMoment}
 use Rattle.record_text.specs.declared.data.hex_groups.Group.TheVariants as group
-use Rattle.record_text.specs.Groups.{SpellsGroups, SpellsHexGroups, SpellsNsap}
+use Rattle.record_text.specs.Groups.{SpellsBase32, SpellsHexGroups, SpellsNsap}
 use Rattle.text_words.specs.Spelling.{IsNumber, IsString, Spells, any_byte, SpellsName, SpellsTime}
 use Rattle.record_text.specs.Prefixes.{ArePrefixes}
 use Rattle.record_text.specs.TypeBitmaps.{bitmap, bitmap_len, windows}
@@ -96,7 +96,7 @@ pub data IsField (origin : Option DomainName) : Field → Word → List ℕ → 
   moment : {w : Word} {n : ℕ} → w.quoted ≡ false → SpellsMoment w.bytes.now n → IsField origin field.Moment w (to_be_bytes w32 n)
   no_salt : {w : Word} → w.quoted ≡ false → w.bytes.now ≡ 45 ∷ [] → IsField origin field.Salt w (0 ∷ [])
   salt : {w : Word} {octets : List ℕ} → w.quoted ≡ false → w.bytes.now ≢ 45 ∷ [] → decode_of w.bytes.now ≡ Ok octets → length octets < 256 → IsField origin field.Salt w (character_string octets)
-  hash : {w : Word} {octets : List ℕ} → w.quoted ≡ false → SpellsGroups w.bytes.now octets → length octets < 256 → IsField origin field.Hash w (character_string octets)
+  hash : {w : Word} {octets : List ℕ} → w.quoted ≡ false → SpellsBase32 w.bytes.now octets → length octets < 256 → IsField origin field.Hash w (character_string octets)
   eui48 : {w : Word} {octets : List ℕ} → w.quoted ≡ false → SpellsHexGroups 45 group.Octet 6 w.bytes.now octets → IsField origin field.Eui48 w octets
   eui64 : {w : Word} {octets : List ℕ} → w.quoted ≡ false → SpellsHexGroups 45 group.Octet 8 w.bytes.now octets → IsField origin field.Eui64 w octets
   locator64 : {w : Word} {octets : List ℕ} → w.quoted ≡ false → SpellsHexGroups 58 group.Bits16 4 w.bytes.now octets → IsField origin field.Locator64 w octets
@@ -128,10 +128,15 @@ pub record IsTypeSet (words : List Word) (octets : List ℕ) : Type 0 where
   pub spelled : AreTypes words types
   pub written : octets ≡ windows types 256
 
+-- A type of such a set: as a type is spelled, or else its number alone.
+pub data SpellsLowType : List ℕ → ℕ → Type 0 where
+  named : {text : List ℕ} {number : ℕ} → SpellsType text number → SpellsLowType text number
+  numbered : {text : List ℕ} {number : ℕ} → HasNone (SpellsType text) → IsNumber text number → SpellsLowType text number
+
 -- types from 1 to 127, one a word
 pub data AreLowTypes : List Word → List ℕ → Type 0 where
   none : AreLowTypes [] []
-  more : {words : List Word} {numbers : List ℕ} {number : ℕ} (word : Word) → AreLowTypes words numbers → word.quoted ≡ false → SpellsType word.bytes.now number → 0 < number → number < 128 → AreLowTypes (words ++ word ∷ []) (numbers ++ number ∷ [])
+  more : {words : List Word} {numbers : List ℕ} {number : ℕ} (word : Word) → AreLowTypes words numbers → word.quoted ≡ false → SpellsLowType word.bytes.now number → 0 < number → number < 128 → AreLowTypes (words ++ word ∷ []) (numbers ++ number ∷ [])
 
 -- a set of such types as octets: a bitmap, in which the first bit is type 0, up to the octet of the greatest (RFC 2535 section 5.2)
 pub record IsLowTypeSet (words : List Word) (octets : List ℕ) : Type 0 where

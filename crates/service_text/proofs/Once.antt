@@ -1,10 +1,10 @@
 -- Words are service parameters in one way.
-use Rattle.std.proofs.Common.{◌≡◌, ◌∙◌, ℕ, false, List, [], ◌∷◌, ◌++◌, Option, Some, None, Ok, get_or, drop, sym, ap, subst, refl, rules}
+use Rattle.std.proofs.Common.{◌≡◌, ◌∙◌, ℕ, Bool, false, List, [], ◌∷◌, ◌++◌, Option, Some, None, Ok, drop, sym, ap, subst, refl, rules}
 use Rattle.std.proofs.NetLemmas.Theorems.{IsIpv4Text_unique, IsIpv6Text_unique}
-use Rattle.std.proofs.lemmas.List.{drop_at, same_from_push}
+use Rattle.std.proofs.lemmas.List.{drop_at}
 use Rattle.std.specs.Int.{w16, to_be_bytes}
 use Rattle.std.specs.Net.Addr.{ipv4_octets, ipv6_octets}
-use Rattle.std.specs.Prelude.{codes}
+use Rattle.std.specs.Prelude.{codes, if◌then◌else◌}
 use Rattle.base64.proofs.EngineFacts.{decode_of-encode_of}
 use Rattle.base64.specs.Engines.{standard}
 use Rattle.base64.specs.GeneralPurpose.{IsBytes, IsConsistent, decode_of, encode_of}
@@ -12,11 +12,10 @@ use Rattle.wire_messages.specs.rr.RecordData.{character_string}
 use Rattle.service_text.specs.declared.kinds.ItemKind.{ItemKind}
 use Rattle.service_text.specs.declared.kinds.ItemKind.TheVariants as item
 use Rattle.service_text.specs.declared.kinds.ValueKind.{ValueKind}
-use Rattle.service_text.specs.ServiceText.{AreItems, AreKeys, AreParameters, AreServiceParameters, IsInQuotes, IsItem, IsKeyNumber, IsParameter, IsValue, SpellsKey, ascending, before_sign, behind_sign, item_bytes, kind_of, list_items, listed_key, parameter_octets, with_key}
+use Rattle.service_text.specs.ServiceText.{AreItems, AreKeys, AreParameters, AreServiceParameters, IsItem, IsKeyNumber, IsParameter, IsValue, ParameterText, SpellsKey, ascending, is_value, item_bytes, kind_of, list_items, listed_key, parameter_octets, parameter_texts, text_of_both, text_of_word, with_key}
 use Rattle.service_text.specs.ServiceText.AreItems.{none as no_items, more as one_item}
 use Rattle.service_text.specs.ServiceText.AreKeys.{none as no_keys, more as one_key}
-use Rattle.service_text.specs.ServiceText.AreParameters.{none as no_words, more as one_word}
-use Rattle.service_text.specs.ServiceText.IsInQuotes.{bare, quoted}
+use Rattle.service_text.specs.ServiceText.AreParameters.{none as no_texts, more as one_text}
 use Rattle.service_text.specs.ServiceText.IsItem.{protocol, ipv4 as ipv4_item, ipv6 as ipv6_item}
 use Rattle.service_text.specs.ServiceText.IsValue.{listed_keys, protocols, nothing, number16, ipv4, base64, ipv6, some_bytes, any_bytes}
 use Rattle.service_text.specs.ServiceText.SpellsKey.{named, numbered}
@@ -72,12 +71,6 @@ base64_once a b one two same =
     let moved : decode_of standard (encode_of standard a) ≡ Ok b = ap (decode_of standard) same ∙ right in
     cc
 
-pub quotes_once : (whole a b : List ℕ) → IsInQuotes whole a → IsInQuotes whole b → a ≡ b
-quotes_once whole a b (bare other) (bare other') = refl
-quotes_once whole a b (bare other) (quoted is) = absurd (other (ap (λ (t : List ℕ). get_or t 0 0) is))
-quotes_once whole a b (quoted is) (bare other) = absurd (other (ap (λ (t : List ℕ). get_or t 0 0) is))
-quotes_once whole a b (quoted is) (quoted is') = (same_from_push a b 34 34 (ap (λ (t : List ℕ). drop 1 t) (sym is ∙ is'))).0
-
 module _ (bytes_once : BytesSpelledOnce) where
   pub value_once : (kind : ValueKind) (text l m a b : List ℕ) → IsValue kind text l a → IsValue kind text m b → (l ≡ m) × (a ≡ b)
   value_once kind text l m a b (listed_keys is apart) (listed_keys is' apart') =
@@ -94,45 +87,61 @@ module _ (bytes_once : BytesSpelledOnce) where
   value_once kind text l m a b (some_bytes is some) (some_bytes is' some') = (refl, bytes_once text a b is is')
   value_once kind text l m a b (any_bytes is) (any_bytes is') = (refl, bytes_once text a b is is')
 
-  parameter_once : (word : Word) (key other : ℕ) (l m a b : List ℕ) → IsParameter word key l a → IsParameter word other m b → (key ≡ other) × (l ≡ m) × (a ≡ b)
-  parameter_once word key other l m a b one two =
-      let keys : key ≡ other = key_once (before_sign word.bytes.now) key other one.named two.named in
-      let texts : one.inner ≡ two.inner = quotes_once (behind_sign word.bytes.now) one.inner two.inner one.bared two.bared in
-      let moved : IsValue (kind_of key) one.inner m two.octets = subst (λ (k : ℕ). IsValue (kind_of k) one.inner m two.octets) (sym keys) (subst (λ (t : List ℕ). IsValue (kind_of other) t m two.octets) (sym texts) two.valued) in
-      let both = value_once (kind_of key) one.inner l m one.octets two.octets one.valued moved in
+  parameter_once : (text : ParameterText) (key other : ℕ) (l m a b : List ℕ) → IsParameter text key l a → IsParameter text other m b → (key ≡ other) × (l ≡ m) × (a ≡ b)
+  parameter_once text key other l m a b one two =
+      let keys : key ≡ other = key_once text.key key other one.named two.named in
+      let moved : IsValue (kind_of key) text.value m two.octets = subst (λ (k : ℕ). IsValue (kind_of k) text.value m two.octets) (sym keys) two.valued in
+      let both = value_once (kind_of key) text.value l m one.octets two.octets one.valued moved in
       (keys, both.0, one.written ∙ ap (λ (k : ℕ). parameter_octets k one.octets) keys ∙ ap (parameter_octets other) both.1 ∙ sym two.written)
 
-  pub all_once : (before : List ℕ) (words : List Word) (keys others l m : List ℕ) (a b : List (List ℕ)) → AreParameters before words keys l a → AreParameters before words others m b → (keys ≡ others) × (l ≡ m) × (a ≡ b)
-  all_once before words keys others l m a b no_words no_words = (refl, refl, refl)
-  all_once before words keys others l m a b (one_word {own = own} {wire = wire} {ks = ks} {ls = ls} {word = word} {words = rest} {key = key} {wires = wires} is fresh are)
-      (one_word {own = own'} {wire = wire'} {ks = ks'} {ls = ls'} {key = key'} {wires = wires'} is' fresh' are') =
-      let first = parameter_once word key key' own own' wire wire' is is' in
+  pub all_once : (before : List ℕ) (texts : List ParameterText) (keys others l m : List ℕ) (a b : List (List ℕ)) → AreParameters before texts keys l a → AreParameters before texts others m b → (keys ≡ others) × (l ≡ m) × (a ≡ b)
+  all_once before texts keys others l m a b no_texts no_texts = (refl, refl, refl)
+  all_once before texts keys others l m a b (one_text {own = own} {wire = wire} {ks = ks} {ls = ls} {text = text} {texts = rest} {key = key} {wires = wires} is fresh are)
+      (one_text {own = own'} {wire = wire'} {ks = ks'} {ls = ls'} {key = key'} {wires = wires'} is' fresh' are') =
+      let first = parameter_once text key key' own own' wire wire' is is' in
       let moved : AreParameters (before ++ key ∷ []) rest ks' ls' wires' = subst (λ (k : ℕ). AreParameters (before ++ k ∷ []) rest ks' ls' wires') (sym first.0) are' in
       let behind = all_once (before ++ key ∷ []) rest ks ks' ls ls' wires wires' are moved in
       (rw (first.0, behind.0) refl, rw (first.1, behind.1) refl, rw (first.2, behind.2) refl)
 
   pub parameters_once : (words : List Word) (a b : List ℕ) → AreServiceParameters words a → AreServiceParameters words b → a ≡ b
   parameters_once words a b one two =
-      let same = all_once [] words one.present two.present one.listed two.listed one.wires two.wires one.spelled two.spelled in
+      let same = all_once [] (parameter_texts words) one.present two.present one.listed two.listed one.wires two.wires one.spelled two.spelled in
       one.written ∙ ap (λ (ks : List ℕ). ascending (with_key ks one.wires) 65536) same.0 ∙ ap (λ (ws : List (List ℕ)). ascending (with_key two.present ws) 65536) same.2 ∙ sym two.written
 
-same_parameter : (a b : Word) (key : ℕ) (own wire : List ℕ) → SameWord a b → IsParameter a key own wire → IsParameter b key own wire
-same_parameter a b key own wire s is = record {
-  inner = is.inner;
-  octets = is.octets;
-  plain = sym s.quoted ∙ is.plain;
-  named = subst (λ (t : List ℕ). SpellsKey (before_sign t) key) s.bytes is.named;
-  bared = subst (λ (t : List ℕ). IsInQuotes (behind_sign t) is.inner) s.bytes is.bared;
-  valued = is.valued;
-  short = is.short;
-  written = is.written;
-}
+-- the same words have the same texts
+same_word : (a b : Word) → SameWord a b → text_of_word a ≡ text_of_word b
+same_word a b s = rw (s.bytes, s.quoted) refl
 
-same_all : {before keys listed : List ℕ} {words : List Word} {wires : List (List ℕ)} → AreParameters before words keys listed wires → (others : List Word) → AreSameWords words others → AreParameters before others keys listed wires
-same_all no_words [] h = no_words
-same_all no_words (o ∷ others) h = absurd h
-same_all (one_word is fresh are) [] h = absurd h
-same_all (one_word {own = own} {wire = wire} {word = word} {key = key} is fresh are) (o ∷ others) h = one_word (same_parameter word o key own wire h.0 is) fresh (same_all are others h.1)
+same_both : (a b c d : Word) → SameWord a b → SameWord c d → text_of_both a c ≡ text_of_both b d
+same_both a b c d s t = rw (s.bytes, s.quoted, t.bytes) refl
+
+same_value : (a b c d : Word) → SameWord a b → SameWord c d → is_value a c ≡ is_value b d
+same_value a b c d s t = rw (s.bytes, s.start, t.quoted, t.start) refl
+
+same_choice : (b c : Bool) (x y z w : List ParameterText) → b ≡ c → x ≡ y → z ≡ w → (if b then x else z) ≡ (if c then y else w)
+same_choice b c x y z w e f g = rw (e, f, g) refl
+
+same_cons : (a b : ParameterText) (xs ys : List ParameterText) → a ≡ b → xs ≡ ys → a ∷ xs ≡ b ∷ ys
+same_cons a b xs ys e f = rw (e, f) refl
+
+same_texts : (words others : List Word) → AreSameWords words others → parameter_texts words ≡ parameter_texts others
+same_texts [] [] h = refl
+same_texts [] (o ∷ others) h = absurd h
+same_texts (w ∷ words) [] h = absurd h
+same_texts (w ∷ []) (o ∷ []) h = ap (λ (t : ParameterText). t ∷ []) (same_word w o h.0)
+same_texts (w ∷ []) (o ∷ p ∷ others) h = absurd h.1
+same_texts (w ∷ v ∷ words) (o ∷ []) h = absurd h.1
+same_texts (w ∷ v ∷ words) (o ∷ p ∷ others) h =
+    same_choice (is_value w v) (is_value o p) (text_of_both w v ∷ parameter_texts words) (text_of_both o p ∷ parameter_texts others) (text_of_word w ∷ parameter_texts (v ∷ words)) (text_of_word o ∷ parameter_texts (p ∷ others)) (same_value w o v p h.0 h.1.0)
+    (same_cons (text_of_both w v) (text_of_both o p) (parameter_texts words) (parameter_texts others) (same_both w o v p h.0 h.1.0) (same_texts words others h.1.1))
+    (same_cons (text_of_word w) (text_of_word o) (parameter_texts (v ∷ words)) (parameter_texts (p ∷ others)) (same_word w o h.0) (same_texts (v ∷ words) (p ∷ others) h.1))
 
 pub parameters_same : (words others : List Word) (octets : List ℕ) → AreServiceParameters words octets → AreSameWords words others → AreServiceParameters others octets
-parameters_same words others octets is h = record { present = is.present; listed = is.listed; wires = is.wires; spelled = same_all is.spelled others h; there = is.there; written = is.written }
+parameters_same words others octets is h = record {
+  present = is.present;
+  listed = is.listed;
+  wires = is.wires;
+  spelled = subst (λ (ts : List ParameterText). AreParameters [] ts is.present is.listed is.wires) (same_texts words others h) is.spelled;
+  there = is.there;
+  written = is.written;
+}

@@ -6,6 +6,7 @@ mod keys;
 mod kinds;
 mod parameters;
 pub mod service_laws;
+mod texts;
 mod values;
 
 pub use parameters::put_parameters;

@@ -238,10 +238,15 @@ no_end_at_word ZoneFile text start word next (inl plain) last =
     cc
 no_end_at_word ZoneFile text start word next (inr quoted) last = omega (arith, quoted.opened.is, last quoted.opened.within)
 
+-- a word in no quotes begins with none
+pub no_quote : (kind : TextKind) (byte : ℕ) → ends_word kind byte ≡ false → byte ≡ 34 → ⊥
+no_quote Line byte begins quote = let ends : ends_word Line 34 ≡ false = subst (λ (b : ℕ). ends_word Line b ≡ false) quote begins in cc
+no_quote ZoneFile byte begins quote = let ends : ends_word ZoneFile 34 ≡ false = subst (λ (b : ℕ). ends_word ZoneFile b ≡ false) quote begins in cc
+
 same_word_end : (kind : TextKind) (text : List ℕ) (start : ℕ) (a b : Word) (next other : ℕ) → IsPlainWord kind text start a next ⊎ IsQuotedWord text start a next → IsPlainWord kind text start b other ⊎ IsQuotedWord text start b other → next ≡ other
 same_word_end kind text start a b next other (inl one) (inl two) = same_run (ends_word kind) text start next other (backslash_stays kind) one.run two.run
-same_word_end kind text start a b next other (inl one) (inr two) = absurd (one.no_quote two.opened.is)
-same_word_end kind text start a b next other (inr one) (inl two) = absurd (two.no_quote one.opened.is)
+same_word_end kind text start a b next other (inl one) (inr two) = absurd (no_quote kind (get_or text start 0) one.begins two.opened.is)
+same_word_end kind text start a b next other (inr one) (inl two) = absurd (no_quote kind (get_or text start 0) two.begins one.opened.is)
 same_word_end kind text start a b next other (inr one) (inr two) =
     one.behind ∙ ap (λ (e : ℕ). e + 1) (same_run ends_quoted text (start + 1) one.end two.end refl one.run two.run) ∙ sym two.behind
 
@@ -338,7 +343,7 @@ module _ (kind : TextKind) (text : List ℕ) (place depth : ℕ) (there : WordsL
   pub no_next_quote : there.place < length there.text → get_or there.text there.place 0 ≡ 34 → ((word : Word) (next : ℕ) → IsQuotedWord there.text there.place word next → ⊥) → HasNoNext kind text place depth
   no_next_quote within quote not_quoted (Some word) next next_depth h = by_word (here (Some word) next next_depth h).0 where
     by_word : IsPlainWord kind text there.place word next ⊎ IsQuotedWord text there.place word next → ⊥
-    by_word (inl plain) = plain.no_quote (subst (λ (t : List ℕ). get_or t there.place 0 ≡ 34) at.same_text quote)
+    by_word (inl plain) = no_quote kind (get_or text there.place 0) plain.begins (subst (λ (t : List ℕ). get_or t there.place 0 ≡ 34) at.same_text quote)
     by_word (inr quoted) = not_quoted word next (subst (λ (t : List ℕ). IsQuotedWord t there.place word next) (sym at.same_text) quoted)
   no_next_quote within quote not_quoted None next next_depth h =
       no_end kind text there.place (subst (λ (t : List ℕ). there.place < length t) at.same_text within) (subst (λ (t : List ℕ). get_or t there.place 0 ≡ 34) at.same_text quote) (here None next next_depth h).4 where

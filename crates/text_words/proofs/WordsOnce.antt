@@ -1,15 +1,15 @@
 -- Words stand in a text in one way.
-use Rattle.std.proofs.Common.{◌≡◌, ◌∙◌, ℕ, ◌+◌, ◌⊎◌, inl, inr, List, [], ◌∷◌, ◌++◌, Some, None, sym, ap, subst, refl}
+use Rattle.std.proofs.Common.{◌≡◌, ◌∙◌, ℕ, ◌+◌, ◌⊎◌, inl, inr, List, [], ◌∷◌, ◌++◌, Some, None, get_or, sym, ap, subst, refl}
 use Rattle.text_words.specs.declared.words.TextKind.{TextKind}
 use Rattle.text_words.specs.declared.words.Word.{Word}
 use Rattle.text_words.specs.Words.{AreSameWords, AreWords, AreWordsTo, IsEndFrom, IsPlainWord, IsQuotedWord, IsWordFrom, SameWord, cut_of, ends_quoted}
 use Rattle.text_words.specs.Words.AreWords.{none, more}
-use Rattle.text_words.proofs.OneReading.{SameShape, same_gap, same_next, same_run, word_stuck}
+use Rattle.text_words.proofs.OneReading.{SameShape, no_quote, same_gap, same_next, same_run, word_stuck}
 
 same_here : (kind : TextKind) (text : List ℕ) (first : ℕ) (a b : Word) (next : ℕ) → IsPlainWord kind text first a next ⊎ IsQuotedWord text first a next → IsPlainWord kind text first b next ⊎ IsQuotedWord text first b next → SameWord a b
 same_here kind text first a b next (inl one) (inl two) = record { bytes = one.bytes ∙ sym two.bytes; start = one.start ∙ sym two.start; quoted = one.unquoted ∙ sym two.unquoted }
-same_here kind text first a b next (inl one) (inr two) = absurd (one.no_quote two.opened.is)
-same_here kind text first a b next (inr one) (inl two) = absurd (two.no_quote one.opened.is)
+same_here kind text first a b next (inl one) (inr two) = absurd (no_quote kind (get_or text first 0) one.begins two.opened.is)
+same_here kind text first a b next (inr one) (inl two) = absurd (no_quote kind (get_or text first 0) two.begins one.opened.is)
 same_here kind text first a b next (inr one) (inr two) =
     let same : one.end ≡ two.end = same_run ends_quoted text (first + 1) one.end two.end refl one.run two.run in
     record { bytes = one.bytes ∙ ap (λ (e : ℕ). cut_of text (first + 1) e) same ∙ sym two.bytes; start = one.start ∙ sym two.start; quoted = one.quoted ∙ sym two.quoted }

@@ -15,10 +15,10 @@ pub record WordsLeft : Type 0 where
 abbrev pub is_blank : ℕ → Bool
 is_blank byte = if byte == 32 then true else if byte == 9 then true else if byte == 13 then true else byte == 10
 
--- A word in no quotes ends before a blank, before a comment, and in a zone file before a parenthesis.
+-- A word in no quotes ends before a blank, before a comment, before a quote, which begins the next word, and in a zone file before a parenthesis.
 abbrev pub ends_word : TextKind → ℕ → Bool
-ends_word Line byte = if is_blank byte then true else byte == 59
-ends_word ZoneFile byte = if is_blank byte then true else if byte == 59 then true else if byte == 40 then true else byte == 41
+ends_word Line byte = if is_blank byte then true else if byte == 59 then true else byte == 34
+ends_word ZoneFile byte = if is_blank byte then true else if byte == 59 then true else if byte == 34 then true else if byte == 40 then true else byte == 41
 
 -- A quote ends a word in quotes.
 abbrev pub ends_quoted : ℕ → Bool
@@ -82,7 +82,6 @@ cut_of text start end = take (end - start) (drop start text)
 -- A word in no quotes, which begins at a place of a text, and the place behind it.
 pub record IsPlainWord (kind : TextKind) (text : List ℕ) (place : ℕ) (word : Word) (next : ℕ) : Type 0 where
   pub within : place < length text
-  pub no_quote : get_or text place 0 ≢ 34
   pub begins : ends_word kind (get_or text place 0) ≡ false
   pub run : IsRunTo (ends_word kind) text place next
   pub unquoted : word.quoted ≡ false

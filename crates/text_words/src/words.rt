@@ -143,8 +143,8 @@ fn ends_field(kind: TextKind, byte: u8) -> bool
     ensures { result ≡ ends_word kind byte }
 {
     match kind {
-        TextKind::Line => is_blank(byte) || byte == b';',
-        TextKind::ZoneFile => is_blank(byte) || matches!(byte, b';' | b'(' | b')'),
+        TextKind::Line => is_blank(byte) || matches!(byte, b';' | b'"'),
+        TextKind::ZoneFile => is_blank(byte) || matches!(byte, b';' | b'"' | b'(' | b')'),
     }
 }
 
@@ -325,7 +325,6 @@ fn gap_end(kind: TextKind, text: &[u8], start: usize, depth: usize, opened: usiz
 fn plain_word<'a>(kind: TextKind, text: &'a [u8], start: usize) -> (Word<'a>, usize)
     requires within { start < length text.now }
     requires begins { ends_word kind (get_or text.now start 0) ≡ false }
-    requires no_quote { get_or text.now start 0 ≡ 34 → ⊥ }
     ensures on { start < result.1 }
     ensures within { result.1 ≤ length text.now }
     ensures word { IsPlainWord kind text.now start result.0 result.1 }
@@ -358,8 +357,8 @@ fn quoted_word<'a>(text: &'a [u8], start: usize) -> Result<(Word<'a>, usize), Te
     Ok((word, end + 1))
 }
 
-/// Where the field ends of which the byte stands at this place of a zone file: a parenthesis is a field of one byte, and at a blank or the end of the
-/// text there is none.
+/// Where the field ends of which the byte stands at this place of a zone file: a parenthesis is a field of one byte, a quote that does not end has what
+/// stands behind it up to a blank, and at a blank or the end of the text there is none.
 pub fn field_end(text: &[u8], place: usize) -> usize
     requires { place ≤ length text.now }
     ensures on { place ≤ result }
@@ -373,10 +372,15 @@ pub fn field_end(text: &[u8], place: usize) -> usize
             return end;
         }
     }
-    if ends_field(TextKind::ZoneFile, text[place]) {
+    let first = if text[place] == b'"' {
+        place + 1
+    } else {
+        place
+    };
+    if first == text.len() || ends_field(TextKind::ZoneFile, text[first]) {
         return place + 1;
     }
-    plain_end(TextKind::ZoneFile, text, place)
+    plain_end(TextKind::ZoneFile, text, first)
 }
 
 impl<'a> Words<'a> {

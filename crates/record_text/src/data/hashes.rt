@@ -7,7 +7,7 @@ ghost use Rattle.record_text.specs.declared.data.field.Field.TheVariants as fiel
 ghost use Rattle.text_words.specs.declared.error.TextError.TheVariants.{Memory};
 ghost use Rattle.text_words.specs.Spelling.{Puts};
 ghost use Rattle.record_text.specs.RecordText.{HasNone, IsField};
-ghost use Rattle.record_text.specs.Groups.{IsBase32, SpellsGroups};
+ghost use Rattle.record_text.specs.Groups.{IsBase32, IsLastGroup, SpellsBase32, last_group};
 
 use hex::FromHexError;
 use std::alloc::Global;
@@ -64,23 +64,53 @@ fn number_of_group(digits: &[u8]) -> Option<u64>
     Some(number)
 }
 
-/// The bytes of a word in base 32, without padding and in whole groups of eight digits.
-fn groups(alloc: Global, word: &Word<'_>) -> Result<Vec<u8>, TextError>
-    ensures spelled { IfOk result (λ bytes. SpellsGroups word.now.bytes.now bytes.items) }
-    ensures refused { IfErr result (λ e. e ≢ Memory → HasNone (SpellsGroups word.now.bytes.now)) }
+/// How many bytes a last group of so many digits makes, and by how much its number is greater than the one that these make.
+fn last_group(count: usize) -> Option<(usize, u64)>
+    ensures value { result ≡ last_group count }
+    ensures few { IfSome result (λ last. last.0 ≤ 8) }
+    ensures some { IfSome result (λ last. 0 < last.1) }
+{
+    match count {
+        2 => Some((1, 4)),
+        4 => Some((2, 16)),
+        5 => Some((3, 2)),
+        7 => Some((4, 8)),
+        _ => None,
+    }
+}
+
+/// Puts the bytes behind others that the digits behind whole groups are, if there are some.
+fn put_last(digits: &[u8], bad: TextError, bytes: &mut Vec<u8>) -> Result<(), TextError>
+    ensures put { OnOk result (Puts (IsLastGroup digits.now) bytes.old.items bytes.new.items) }
+    ensures refused { IfErr result (λ e. e ≢ Memory → HasNone (IsLastGroup digits.now)) }
+{
+    if digits.is_empty() {
+        return Ok(());
+    }
+    let (count, greater) = last_group(digits.len()).ok_or(bad)?;
+    let number = number_of_group(digits).ok_or(bad)?;
+    if number % greater != 0 {
+        return Err(bad);
+    }
+    bytes.extend_from_slice(&(number / greater).to_be_bytes()[8 - count..])?;
+    Ok(())
+}
+
+/// The bytes of a word in base 32, without padding: digits in groups of eight, and a last one of 2, 4, 5 or 7.
+fn base32(alloc: Global, word: &Word<'_>) -> Result<Vec<u8>, TextError>
+    ensures spelled { IfOk result (λ bytes. SpellsBase32 word.now.bytes.now bytes.items) }
+    ensures refused { IfErr result (λ e. e ≢ Memory → HasNone (SpellsBase32 word.now.bytes.now)) }
 {
     let bad = word.fault(TextFault::BadBase32);
     let text = word.bytes;
     let mut bytes = Vec::new(alloc);
     let mut place = 0;
-    'groups: while place < text.len() {
-        if text.len() - place < 8 {
-            return Err(bad);
-        }
+    'groups: while text.len() - place >= 8 {
         let number = number_of_group(&text[place..place + 8]).ok_or(bad)?;
         bytes.extend_from_slice(&number.to_be_bytes()[3..])?;
         place += 8;
     }
+    put_last(&text[place..], bad, &mut bytes)?;
     Ok(bytes)
 }
 
@@ -92,7 +122,7 @@ pub(crate) fn put_hash(alloc: Global, word: &Word<'_>, data: &mut Vec<u8>) -> Re
     if word.quoted {
         return Err(word.fault(TextFault::BadBase32));
     }
-    let hash = groups(alloc, word)?;
+    let hash = base32(alloc, word)?;
     if hash.len() > 255 {
         return Err(word.fault(TextFault::StringTooLong));
     }

@@ -2,9 +2,15 @@
 
 ghost use Rattle.std.specs.Prelude.{◌≡◌, ◌↔◌, ◌<◌, false, length, IfNone, IfOk, IfSome, IsTrue, OnErr};
 ghost use Rattle.record_text.specs.RecordText.{HasNone};
-ghost use Rattle.record_text.specs.Moments.{IsDate, SpellsDate, SpellsMoment, date_seconds, days_before_month, days_before_year, is_leap};
+ghost use Rattle.record_text.specs.Moments.{IsDate, SpellsDate, SpellsMoment, date_bits, date_seconds, days_before_month, days_before_year, is_leap};
 
 use text_words::{TextError, TextFault, Word, number_of_digits};
+
+/// The seconds from the beginning of year 1 to that of 1970: 719,162 days.
+const SECONDS_BEFORE_1970: u64 = 86_400 * 719_162;
+
+/// A number of seconds that is more than those, and none in 32 bits.
+const MULTIPLE_OF_32_BITS: u64 = 15 * 0x1_0000_0000;
 
 /// A date with a time of day.
 #[derive(Clone, Copy)]
@@ -58,12 +64,13 @@ fn is_leap(year: u32) -> bool
     year % 4 == 0 && (year % 100 != 0 || year % 400 == 0)
 }
 
-/// The seconds from the beginning of 1970 to a date.
+/// The seconds from the beginning of year 1 to a date.
 fn date_seconds(date: Date) -> u64
     requires { IsDate date }
-    ensures { result ≡ date_seconds date }
+    ensures seconds { result ≡ date_seconds date }
+    ensures small { result < 400000000000 }
 {
-    let first = days_before_year(u64::from(date.year)) - 719_162;
+    let first = days_before_year(u64::from(date.year));
     let month = days_before_month(is_leap(date.year), date.month);
     let days = first + month + u64::from(date.day) - 1;
     let hours = 24 * days + u64::from(date.hour);
@@ -71,13 +78,22 @@ fn date_seconds(date: Date) -> u64
     60 * minutes + u64::from(date.second)
 }
 
-/// Whether a date is one of a calendar from 1970 on, months of 31 days and minutes of 61 seconds allowed.
+/// The seconds of a date since the beginning of 1970, without what goes beyond 32 bits; those before it are counted back from 0.
+fn date_bits(date: Date) -> u32
+    requires { IsDate date }
+    ensures { result ≡ date_bits date }
+{
+    let seconds = date_seconds(date) + MULTIPLE_OF_32_BITS - SECONDS_BEFORE_1970;
+    (seconds % 0x1_0000_0000) as u32
+}
+
+/// Whether a date is one of a calendar from year 1 on, months of 31 days and minutes of 61 seconds allowed.
 fn is_date(date: Date) -> bool
     ensures { IsTrue result ↔ IsDate date }
 {
     let is_day = matches!(date.month, 1..=12) && matches!(date.day, 1..=31);
     let is_time = date.hour < 24 && date.minute < 60 && date.second < 61;
-    matches!(date.year, 1970..=9999) && is_day && is_time
+    matches!(date.year, 1..=9999) && is_day && is_time
 }
 
 /// The date of fourteen digits.
@@ -96,7 +112,7 @@ fn date_of_digits(digits: &[u8]) -> Option<Date>
     })
 }
 
-/// The seconds of a moment since the beginning of 1970, without what goes beyond 32 bits.
+/// The seconds of a moment since the beginning of 1970, in 32 bits.
 pub(crate) fn moment(word: &Word<'_>) -> Result<u32, TextError>
     ensures spelled { IfOk result (λ n. (word.now.quoted ≡ false) × SpellsMoment word.now.bytes.now n) }
     ensures refused { OnErr result (HasNone (λ n. (word.now.quoted ≡ false) × SpellsMoment word.now.bytes.now n)) }
@@ -115,7 +131,7 @@ pub(crate) fn moment(word: &Word<'_>) -> Result<u32, TextError>
         return Err(bad);
     };
     if is_date(date) {
-        return Ok((date_seconds(date) % 0x1_0000_0000) as u32);
+        return Ok(date_bits(date));
     }
     Err(bad)
 }

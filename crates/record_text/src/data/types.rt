@@ -1,12 +1,13 @@
 //! Sets of types as bytes (RFC 4034 section 4.1.2).
 
-ghost use Rattle.std.specs.Prelude.{◌≡◌, ◌==◌, ◌<◌, ◌≤◌, ◌+◌, ◌*◌, ◌++◌, ◌≢◌, false, IfErr, IfOk, OnErr, OnOk};
+ghost use Rattle.std.specs.Prelude.{◌≡◌, ◌==◌, ◌<◌, ◌≤◌, ◌+◌, ◌*◌, ◌^◌, ◌++◌, ◌≢◌, false, IfErr, IfOk, OnErr, OnOk};
 ghost use Rattle.std.specs.List.{list_any};
 ghost use Rattle.text_words.specs.declared.error.TextError.TheVariants.{Memory};
 ghost use Rattle.text_words.specs.Spelling.{Puts};
-ghost use Rattle.record_text.specs.RecordText.{AreLowTypes, AreTypes, HasNone, IsLowTypeSet, IsTypeSet, SpellsType};
+ghost use Rattle.record_text.specs.RecordText.{AreLowTypes, AreTypes, HasNone, IsLowTypeSet, IsTypeSet, SpellsLowType};
 ghost use Rattle.record_text.specs.TypeBitmaps.{bitmap, bitmap_len, bitmap_octet, type_bit, window_len, window_octets, windows};
 
+use crate::data::fields::number16;
 use crate::data::table::type_of;
 use std::alloc::{AllocError, Global};
 use text_words::{TextError, TextFault, Word};
@@ -135,12 +136,26 @@ pub(crate) fn bitmap_len(numbers: &[u16]) -> u16
     len
 }
 
+/// The number of the type that a word is, by its name or by the number alone.
+fn type_or_number(word: &Word<'_>) -> Result<u16, TextError>
+    ensures spelled { IfOk result (λ number. (word.now.quoted ≡ false) × SpellsLowType word.now.bytes.now number) }
+    ensures refused { OnErr result (HasNone (λ number. (word.now.quoted ≡ false) × SpellsLowType word.now.bytes.now number × (number < 2 ^ 16))) }
+{
+    match type_of(word) {
+        Ok(found) => Ok(found.value()),
+        Err(unknown) => match number16(word) {
+            Ok(number) => Ok(number),
+            Err(_) => Err(unknown),
+        },
+    }
+}
+
 /// The number of a type from 1 to 127 that a word is.
 fn low_type(word: &Word<'_>) -> Result<u16, TextError>
-    ensures spelled { IfOk result (λ number. (word.now.quoted ≡ false) × SpellsType word.now.bytes.now number × (0 < number) × (number < 128)) }
-    ensures refused { OnErr result (HasNone (λ number. (word.now.quoted ≡ false) × SpellsType word.now.bytes.now number × (0 < number) × (number < 128))) }
+    ensures spelled { IfOk result (λ number. (word.now.quoted ≡ false) × SpellsLowType word.now.bytes.now number × (0 < number) × (number < 128)) }
+    ensures refused { OnErr result (HasNone (λ number. (word.now.quoted ≡ false) × SpellsLowType word.now.bytes.now number × (0 < number) × (number < 128))) }
 {
-    let number = type_of(word)?.value();
+    let number = type_or_number(word)?;
     if number == 0 || number > 127 {
         return Err(word.fault(TextFault::NumberOutOfRange));
     }

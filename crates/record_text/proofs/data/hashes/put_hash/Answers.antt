@@ -1,12 +1,13 @@
 use Rattle.std.proofs.Common.{◌≡◌, ◌≤◌, Option, ℕ, List, [], ◌∷◌, ◌++◌, length, append_assoc, arith}
+use Rattle.std.proofs.lemmas.Result.{err_from_is_err_and}
 use Rattle.wire_messages.specs.rr.RecordData.{character_string}
 use Rattle.record_text.specs.RecordText.IsField.{hash}
 use Rattle.wire_names.specs.rr.domain.DomainName.{DomainName}
 use Rattle.text_words.specs.declared.words.Word.{Word}
 use Rattle.record_text.specs.declared.data.field.Field.TheVariants as field
-use Rattle.record_text.specs.Groups.{SpellsGroups}
+use Rattle.record_text.specs.Groups.{SpellsBase32}
 use Rattle.record_text.specs.RecordText.{HasNone, IsField}
-use Rattle.record_text.proofs.Digits.{group_octets}
+use Rattle.record_text.proofs.Digits.{base32_len}
 use Rattle.record_text.proofs.NoField.{no_hash}
 use Rattle.record_text.proofs.data.hashes.put_hash.Goals as goal
 
@@ -21,9 +22,14 @@ returns-clause-put c = λ origin. (
   hash c.if-word.false c.in_ok-hash.ensures.spelled (omega (arith, c.if-len-gt255.false, c.len.ensures, c.in_ok-hash.hash.ok.0)),
 )
 
+pub returns-in_err-hash-clause-refused : goal.returns-in_err-hash-clause-refused
+returns-in_err-hash-clause-refused c =
+    let p = err_from_is_err_and c.from_residual.result c.from_residual.ensures.1 in
+    rw (p.1, p.2) (λ other. no_hash c.args.word.now (λ own is. c.in_err-hash.ensures.refused other own is.1))
+
 -- octets that are too many for their length
-too_long : (word : Word) (octets : List ℕ) → SpellsGroups word.bytes.now octets → 256 ≤ length octets → (origin : Option DomainName) → HasNone (IsField origin field.Hash word)
-too_long word octets is long = no_hash word (λ others other. absurd (omega (arith, group_octets is, group_octets other.1, long, other.2)))
+too_long : (word : Word) (octets : List ℕ) → SpellsBase32 word.bytes.now octets → 256 ≤ length octets → (origin : Option DomainName) → HasNone (IsField origin field.Hash word)
+too_long word octets is long = no_hash word (λ others other. absurd (omega (arith, base32_len is, base32_len other.1, long, other.2)))
 
 pub returns-then-len-gt255-clause-refused : goal.returns-then-len-gt255-clause-refused
 returns-then-len-gt255-clause-refused c = λ other. too_long c.args.word.now c.in_ok-hash.hash.items c.in_ok-hash.ensures.spelled (omega (arith, c.if-len-gt255.true, c.len.ensures, c.in_ok-hash.hash.ok.0))

@@ -13,7 +13,7 @@ pub returns-in_default-date_of_digits-clause-refused : goal.returns-in_default-d
 returns-in_default-date_of_digits-clause-refused c = λ n is. no_digits c.args.word.now.bytes.now c.if-word-ne14.false c.in_default-date_of_digits.ensures.none n is.1
 
 pub returns-then-is_date-clause-spelled : goal.returns-then-is_date-clause-spelled
-returns-then-is_date-clause-spelled c = (c.if-word.false, rw c.date_seconds.ensures (date (c.if-is_date.ensures.0 refl) c.in-Some-date_of_digits.ensures.spelled))
+returns-then-is_date-clause-spelled c = (c.if-word.false, rw c.date_bits.ensures (date (c.if-is_date.ensures.0 refl) c.in-Some-date_of_digits.ensures.spelled))
 
 no_day : (text : List ℕ) (d : Date) → length text ≡ 14 → SpellsDate text d → (IsDate d → false ≡ true) → HasNone (SpellsMoment text)
 no_day text d len spelled told = no_date text d len spelled (λ is. let t : false ≡ true = told is in cc)

@@ -1,6 +1,6 @@
 use Rattle.std.proofs.Common.{◌≤◌, ◌-◌, length, take}
 use Rattle.record_text.specs.Groups.{SpellsGroups}
-use Rattle.record_text.proofs.data.hashes.groups.Given as goal
+use Rattle.record_text.proofs.data.hashes.base32.Given as goal
 
 abbrev pub invariant-groups : goal.invariant-groups
 invariant-groups l = record {
