@@ -1,5 +1,5 @@
 -- What is printed for a field stands for its octets, and for no others.
-use Rattle.std.proofs.Common.{◌≡◌, ◌≢◌, ◌∙◌, ℕ, zero, suc, ◌+◌, ◌-◌, ◌*◌, ◌^◌, ◌<◌, ◌≤◌, ◌||◌, ◌&&◌, Bool, true, false, nat_le, List, [], ◌∷◌, ◌++◌, length, get_or, take, drop, All, Option, Some, None, Result, Ok, Err, decimal, sym, ap, subst, refl, arith, append_assoc, append-nil}
+use Rattle.std.proofs.Common.{◌≡◌, ◌≢◌, ◌∙◌, ℕ, zero, suc, ◌+◌, ◌-◌, ◌*◌, ◌^◌, ◌<◌, ◌≤◌, ◌||◌, ◌&&◌, Bool, true, false, nat_le, List, [], ◌∷◌, ◌++◌, length, get_or, take, drop, All, Option, Some, None, Result, Ok, Err, decimal, sym, ap, subst, refl, arith, append_assoc, append-nil, length-append}
 use Rattle.std.specs.Prelude.{IfOk, IfSome, OnOk, map}
 use Rattle.std.specs.declared.alloc.AllocError.{AllocError}
 use Rattle.std.specs.Char.{digit_value, to_ascii_lowercase}
@@ -12,7 +12,7 @@ use Rattle.std.proofs.lemmas.Bool.Decides.{nat_tests}
 use Rattle.std.proofs.Math.Seq.{take-add, take-length}
 use Rattle.std.proofs.lemmas.List.{length-drop, length-take-le, take_more, take_rest}
 use Rattle.std.proofs.lemmas.List.Concat.{flat_map-append}
-use Rattle.std.proofs.lemmas.Fmt.{decimal_is_IsNumeral}
+use Rattle.std.proofs.lemmas.Fmt.{decimal_is_IsNumeral, length-decimal-le}
 use Rattle.std.proofs.lemmas.Str.Parse.{digit_from_value}
 use Rattle.std.proofs.NetLemmas.Theorems.{IsIpv4Text_unique, IsIpv6Text_unique}
 use Rattle.wire_names.specs.rr.domain.DomainName.{DomainName, name_len}
@@ -29,8 +29,10 @@ use Rattle.record_text.specs.declared.data.field.Field.TheVariants as field
 use Rattle.record_text.specs.declared.data.field.Names.{Names}
 use Rattle.record_text.specs.declared.data.field.Names.TheVariants as names
 use Rattle.record_text.specs.Mnemonics.{NamedNumber, mnemonics}
+use Rattle.record_text.specs.Moments.{SpellsMoment}
+use Rattle.record_text.specs.Moments.SpellsMoment.{date as moment_date, seconds as moment_seconds}
 use Rattle.record_text.specs.RecordText.{IsField, IsNamed}
-use Rattle.record_text.specs.RecordText.IsField.{number8, number16, number32, named8, unnamed8, named16, unnamed16, time, name, string, text as text_is}
+use Rattle.record_text.specs.RecordText.IsField.{number8, number16, number32, named8, unnamed8, named16, unnamed16, time, name, string, moment, text as text_is}
 use Rattle.record_printing.specs.Printed.{IsPlain, IsPrinted, IsSound, Printed, line_of, text_of}
 use Rattle.record_printing.specs.Printed.Printed.{plain, quoted}
 use Rattle.record_printing.specs.PrintedData.{ArePrintedFields, IsFormWord, IsPrintedField, PutsField, PutsNumber, PutsWords}
@@ -282,3 +284,26 @@ fields_step fields i d all place len before middle after below within (printed, 
 
 pub fields_init : (before after : List ℕ) → after ≡ before → PutsWords (λ printed. ArePrintedFields [] printed []) before after
 fields_init before after e = ([], e ∙ sym (append-nil before), none)
+
+-- a moment is printed as its seconds, which have ten digits at most
+few_digits : (k : ℕ) → k < 2 ^ 32 → length (decimal k) ≢ 14
+few_digits k small e = let short = length-decimal-le 10 k (omega (arith, small)) in omega (arith, e, short)
+
+moment_here : (written : List ℕ) (k : ℕ) → written ≡ decimal k → k < 2 ^ 32 → SpellsMoment written k
+moment_here written k e small = moment_seconds (λ long. few_digits k small (sym (ap (λ (t : List ℕ). length t) e) ∙ long)) (number_here written k e small) small
+
+same_moment : (written : List ℕ) (k n : ℕ) → written ≡ decimal k → k < 2 ^ 32 → SpellsMoment written n → n ≡ k
+same_moment written k n e small (moment_date {date = d} good is) =
+    let long : length written ≡ 14 = omega (arith, ap length is.in_order, is.four, is.two.0, is.two.1, is.two.2, is.two.3, is.two.4, length-append (is.year ++ is.month ++ is.day ++ is.hour ++ is.minute) is.second, length-append (is.year ++ is.month ++ is.day ++ is.hour) is.minute,
+    length-append (is.year ++ is.month ++ is.day) is.hour, length-append (is.year ++ is.month) is.day, length-append is.year is.month) in
+    absurd (few_digits k small (sym (ap (λ (t : List ℕ). length t) e) ∙ long))
+same_moment written k n e small (moment_seconds other is few) = same_number written k n e small is
+
+only_moment : (origin : Option DomainName) (w : Word) (others : List ℕ) (k : ℕ) → w.bytes.now ≡ decimal k → k < 2 ^ 32 → IsField origin field.Moment w others → others ≡ to_be_bytes w32 k
+only_moment origin w others k e small (moment {n = n} p i) = ap (λ (m : ℕ). to_be_bytes w32 m) (same_moment w.bytes.now k n e small i)
+
+moment_field : (k : ℕ) → k < 2 ^ 32 → IsPrintedField field.Moment (plain (decimal k)) (to_be_bytes w32 k)
+moment_field k small = record { is = λ origin w p. moment p.0 (moment_here w.bytes.now k p.1 small); only = λ origin w others p f. only_moment origin w others k p.1 small f }
+
+pub as_moment : (octets before after : List ℕ) (r : Result (Option ℕ) AllocError) → IfOk r (λ len. IfSome len (PutsNumber (to_be_bytes w32) 4 (2 ^ 32) octets before after)) → Puts field.Moment octets before after r
+as_moment octets before after r h = map_put r (λ n. put_as octets before after n (to_be_bytes w32) 4 (2 ^ 32) field.Moment (omega arith) moment_field) h

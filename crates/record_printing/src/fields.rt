@@ -145,6 +145,7 @@ fn put_field(field: Field, data: &[u8], out: &mut String) -> Result<Option<usize
         Field::Named16(_) => put_number16(data, out),
         Field::Number32 => put_number32(data, out),
         Field::Time => put_number32(data, out),
+        Field::Moment => put_number32(data, out),
         Field::Name => put_name(data, out),
         Field::String => put_string(data, out),
         Field::Text => put_text(data, out),

@@ -1,6 +1,6 @@
 use Rattle.std.proofs.Common.{sym, subst, string_bytes}
 use Rattle.record_text.specs.declared.data.field.Field.{Field}
-use Rattle.record_printing.proofs.PrintedFields.{Puts, as_named16, as_named8, as_number16, as_number32, as_number8, as_time}
+use Rattle.record_printing.proofs.PrintedFields.{Puts, as_moment, as_named16, as_named8, as_number16, as_number32, as_number8, as_time}
 use Rattle.record_printing.proofs.fields.put_field.Goals as goal
 
 pub returns-in-Number8 : goal.returns-in-Number8
@@ -20,3 +20,8 @@ returns-in-Number32 c = subst (λ (f : Field). Puts f c.args.data.now (string_by
 
 pub returns-in-Time : goal.returns-in-Time
 returns-in-Time c = subst (λ (f : Field). Puts f c.args.data.now (string_bytes c.args.out.now) (string_bytes c.put_number32-in-Time.new.out) c.put_number32-in-Time.result) (sym c.in-Time.is) (as_time c.args.data.now (string_bytes c.args.out.now) (string_bytes c.put_number32-in-Time.new.out) c.put_number32-in-Time.result c.put_number32-in-Time.ensures)
+
+pub returns-in-Moment : goal.returns-in-Moment
+returns-in-Moment c =
+    subst (λ (f : Field). Puts f c.args.data.now (string_bytes c.args.out.now) (string_bytes c.put_number32-in-Moment.new.out) c.put_number32-in-Moment.result) (sym c.in-Moment.is)
+    (as_moment c.args.data.now (string_bytes c.args.out.now) (string_bytes c.put_number32-in-Moment.new.out) c.put_number32-in-Moment.result c.put_number32-in-Moment.ensures)
