@@ -1,6 +1,6 @@
 //! The data of records in text.
 
-mod field;
+pub(crate) mod field;
 mod fields;
 mod forms;
 mod gateway;

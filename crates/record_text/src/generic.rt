@@ -104,8 +104,8 @@ fn put_signature(signature: &TSIG, bytes: &mut Vec<u8>) -> Result<(), AllocError
     put_counted(&signature.other, bytes)
 }
 
-/// Puts data behind bytes, each name in full.
-fn put_data(rdata: &RData, bytes: &mut Vec<u8>) -> Result<(), AllocError>
+/// Puts data behind bytes as they stand on the wire, each name in full (RFC 1035 section 3.3).
+pub fn put_data(rdata: &RData, bytes: &mut Vec<u8>) -> Result<(), AllocError>
     requires { IsFormed rdata.now }
     ensures { OnOk result (bytes.new.items ≡ bytes.old.items ++ data_octets rdata.now) }
 {

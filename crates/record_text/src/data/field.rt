@@ -2,7 +2,7 @@
 
 /// Numbers that have mnemonics.
 #[derive(Clone, Copy, Debug, PartialEq, Eq)]
-pub(crate) enum Names {
+pub enum Names {
     /// Algorithms of DNSSEC (RFC 4034 appendix A.1).
     Algorithms,
     /// Types of certificates (RFC 4398 section 2.1).
@@ -19,7 +19,7 @@ pub(crate) enum Names {
 
 /// A field that one word of the text stands for.
 #[derive(Clone, Copy, Debug, PartialEq, Eq)]
-pub(crate) enum Field {
+pub enum Field {
     /// A number of 8 bits.
     Number8,
     /// A number of 16 bits.
@@ -64,7 +64,7 @@ pub(crate) enum Field {
 
 /// What the words stand for that are left behind the fields.
 #[derive(Clone, Copy, Debug, PartialEq, Eq)]
-pub(crate) enum Rest {
+pub enum Rest {
     /// None is left.
     Nothing,
     /// Character strings, at least one.
@@ -97,13 +97,13 @@ pub(crate) enum Rest {
 
 /// A row of the table of types.
 #[derive(Clone, Copy, Debug)]
-pub(crate) struct Row {
+pub struct Row {
     /// The number of the type.
-    pub(crate) number: u16,
+    pub number: u16,
     /// Its mnemonic.
-    pub(crate) mnemonic: &'static str,
+    pub mnemonic: &'static str,
     /// The fields that its data begin with.
-    pub(crate) fields: &'static [Field],
+    pub fields: &'static [Field],
     /// What stands behind them.
-    pub(crate) rest: Rest,
+    pub rest: Rest,
 }

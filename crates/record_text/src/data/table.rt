@@ -654,7 +654,7 @@ fn row_in(table: &'static [Row], number: u16) -> Option<&'static Row>
 }
 
 /// The row of a type, if it has one.
-pub(crate) fn row_of(number: u16) -> Option<&'static Row>
+pub fn row_of(number: u16) -> Option<&'static Row>
     ensures { option_map row_view (option_copied result) ≡ row_of number }
 {
     row_in(&ROWS, number)

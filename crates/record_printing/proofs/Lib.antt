@@ -1,0 +1,10 @@
+mod Addresses
+mod Behind
+mod Names
+mod PrintedFields
+mod Reading
+mod Simple
+mod Spelled
+mod Standing
+mod Types
+mod Wholes
