@@ -1,13 +1,14 @@
 //! Chains of handlers, and scripted ones.
 
-use crate::handler::{Handler, Source};
-use crate::held::{both, kept, push};
-use crate::part::{Answer, Call, Flow, Outcome, Part};
-use crate::state::Zones;
-use crate::zones::{close, zone_type};
+use crate::zones::close;
 use hickory_base::errors::UpdateFault;
 use hickory_base::zone_store::{AxfrPolicy, NxProofKind, ZoneType};
 use hickory_wire::{CodeTextError, LowerName, Octets, Proof, Record, ResponseCode};
+use script_handlers::handler::{Handler, Source};
+use script_handlers::held::{both, kept, push};
+use script_handlers::kinds::zone_type;
+use script_handlers::part::{Answer, Call, Flow, Outcome, Part};
+use script_handlers::state::Zones;
 use script_values::fault::Fault;
 use script_values::output::Output;
 use script_values::sections::Section;

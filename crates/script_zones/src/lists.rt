@@ -1,9 +1,5 @@
 //! Lists of blocked names.
 
-use crate::handler::{Handler, Source};
-use crate::held::{both, kept, push, put_in};
-use crate::pieces::Pieces;
-use crate::state::Zones;
 use crate::zones::close;
 use hickory_base::zone_store::{LookupControlFlow, LookupOptions, ZoneHandler};
 use hickory_store::blocklist::{
@@ -11,6 +7,10 @@ use hickory_store::blocklist::{
     ListReader, ListReport,
 };
 use hickory_wire::{Items, LowerName, Octets, RData, RecordType};
+use script_handlers::handler::{Handler, Source};
+use script_handlers::held::{both, kept, push, put_in};
+use script_handlers::pieces::Pieces;
+use script_handlers::state::Zones;
 use script_values::fault::Fault;
 use script_values::output::Output;
 use script_values::state::Place;

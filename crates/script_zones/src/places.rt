@@ -1,6 +1,6 @@
 //! The sections that the records that follow are part of.
 
-use crate::state::Zones;
+use script_handlers::state::Zones;
 use script_values::fault::Fault;
 use script_values::sections::Section;
 use script_values::state::Place;

@@ -1,9 +1,9 @@
 //! What holds for the messages that follow.
 
 use crate::signing::sign_by;
-use crate::sink::Sinking;
-use crate::state::Zones;
 use hickory_wire::{NSIDPayload, Protocol};
+use script_handlers::sink::Sinking;
+use script_handlers::state::Zones;
 use script_values::fault::Fault;
 use script_values::output::Output;
 use script_values::printing::{Printed, print_hex};

@@ -1,11 +1,11 @@
 //! Who signs the replies of the server.
 
-use crate::handler::Handler;
-use crate::keyed::{ServerSigner, keys_of};
-use crate::signer::{ScriptedSigner, Signing};
-use crate::state::{Server, Zones};
 use hickory_catalog::catalog::Catalog;
 use hickory_wire::{LowerName, NSIDPayload};
+use script_handlers::handler::Handler;
+use script_handlers::keyed::{ServerSigner, keys_of};
+use script_handlers::signer::{ScriptedSigner, Signing};
+use script_handlers::state::{Server, Zones};
 use script_values::fault::Fault;
 use std::alloc::Global;
 use std::collections::BTreeSet;

@@ -1,15 +1,16 @@
 //! Zones in memory.
 
-use crate::begun::{chain_of, last_begun};
-use crate::handler::{Handler, Source};
-use crate::held::{kept, push, put_in};
-use crate::open_zone::{OpenZone, accepted};
-use crate::state::Zones;
 use hickory_base::zone_store::{AxfrPolicy, InMemoryZoneHandler, ZoneHandler, ZoneType};
 use hickory_wire::{
     LowerName, Message, MessageType, Metadata, OpCode, Record, RecordType, ReplyParts, RrKey,
     encode_message_parts,
 };
+use script_handlers::begun::{chain_of, last_begun};
+use script_handlers::handler::{Handler, Source};
+use script_handlers::held::{kept, push, put_in};
+use script_handlers::kinds::{axfr_policy, policy_word, type_word, zone_type};
+use script_handlers::open_zone::{OpenZone, accepted};
+use script_handlers::state::Zones;
 use script_values::fault::Fault;
 use script_values::output::Output;
 use script_values::printing::{print_hex, print_records};
@@ -19,44 +20,6 @@ use script_values::words::octets;
 use std::alloc::{AllocError, Global};
 use std::{io, str};
 use zone_text::read_zone_file;
-
-/// The type of a zone, by a word.
-pub fn zone_type(word: &str) -> Option<ZoneType> {
-    match word {
-        "primary" => Some(ZoneType::Primary),
-        "secondary" => Some(ZoneType::Secondary),
-        "external" => Some(ZoneType::External),
-        _ => None,
-    }
-}
-
-/// The word for a type of zones.
-pub fn type_word(zone_type: ZoneType) -> &'static str {
-    match zone_type {
-        ZoneType::Primary => "primary",
-        ZoneType::Secondary => "secondary",
-        ZoneType::External => "external",
-    }
-}
-
-/// Who may have a transfer, by a word.
-pub fn axfr_policy(word: &str) -> Option<AxfrPolicy> {
-    match word {
-        "deny" => Some(AxfrPolicy::Deny),
-        "allow-all" => Some(AxfrPolicy::AllowAll),
-        "allow-signed" => Some(AxfrPolicy::AllowSigned),
-        _ => None,
-    }
-}
-
-/// The word for a transfer policy.
-fn policy_word(policy: AxfrPolicy) -> &'static str {
-    match policy {
-        AxfrPolicy::Deny => "deny",
-        AxfrPolicy::AllowAll => "allow-all",
-        AxfrPolicy::AllowSigned => "allow-signed",
-    }
-}
 
 /// How `load` is written.
 pub const LOAD_USAGE: &str = "load ORIGIN HEX";

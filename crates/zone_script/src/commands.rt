@@ -3,13 +3,12 @@
 //! Each subject has a function `obey`, which is given the words of a line, the line without the blanks around it, and the
 //! text to put behind what is printed; it obeys the line if that is one of its commands, and else gives `None`.
 
+use script_handlers::state::Zones;
+use script_requests::{asking, calling, sections, updatable, updating};
 use script_values::fault::Fault;
 use script_values::output::Output;
 use script_values::{codes, encoding, messages, names, networks, records, requests};
-use script_zones::state::Zones;
-use script_zones::{
-    asking, calling, chains, lists, places, sections, setting, updatable, updating, zones,
-};
+use script_zones::{chains, lists, places, setting, zones};
 use std::alloc::Global;
 
 /// Obeys a command of a server's: its settings, zones and chains.

@@ -1,5 +1,14 @@
 //! How the commands are written.
 
+use script_requests::asking::{ASK_USAGE, FIND_USAGE, LOOKUP_USAGE, MODIFY_USAGE};
+use script_requests::calling::CALL_USAGE;
+use script_requests::sections::{
+    PREREQUISITE_USAGE, PREREQUISITES_USAGE, PRESCAN_USAGE, UPDATE_USAGE,
+};
+use script_requests::updatable::{
+    EMPTY_USAGE, TRANSFERS_USAGE, UPDATABLE_USAGE, UPDATES_USAGE, VERIFIER_USAGE,
+};
+use script_requests::updating::{APPLY_USAGE, AUTHORIZE_USAGE, SEND_USAGE, UNSIGNED_USAGE};
 use script_values::codes::{
     CLASS_USAGE, FAILURE_USAGE, NSID_USAGE, OPCODE_USAGE, STATUS_USAGE, TYPE_USAGE,
 };
@@ -19,22 +28,13 @@ use script_values::records::{RECORD_USAGE, SAME_USAGE};
 use script_values::requests::{
     QUESTIONS_USAGE, REBUILD_USAGE, REFUSE_USAGE, REQUEST_USAGE, RESPOND_USAGE,
 };
-use script_zones::asking::{ASK_USAGE, FIND_USAGE, LOOKUP_USAGE, MODIFY_USAGE};
-use script_zones::calling::CALL_USAGE;
 use script_zones::chains::{ANSWER_USAGE, PART_USAGE, REMOVE_USAGE, SERVE_USAGE, ZONES_USAGE};
 use script_zones::lists::{BLOCK_USAGE, BLOCKED_USAGE, BLOCKLIST_USAGE, ENTRIES_USAGE};
 use script_zones::places::SECTION_USAGE;
-use script_zones::sections::{
-    PREREQUISITE_USAGE, PREREQUISITES_USAGE, PRESCAN_USAGE, UPDATE_USAGE,
-};
 use script_zones::setting::{
     IDENTIFIER_USAGE, NOW_USAGE, PRINTED_USAGE, SINK_USAGE, SOURCE_USAGE, TRANSPORT_USAGE,
 };
 use script_zones::signing::SIGNER_USAGE;
-use script_zones::updatable::{
-    EMPTY_USAGE, TRANSFERS_USAGE, UPDATABLE_USAGE, UPDATES_USAGE, VERIFIER_USAGE,
-};
-use script_zones::updating::{APPLY_USAGE, AUTHORIZE_USAGE, SEND_USAGE, UNSIGNED_USAGE};
 use script_zones::zones::{
     ACCEPTS_USAGE, FILE_USAGE, LOAD_USAGE, MESSAGE_USAGE, SERIAL_USAGE, SHOW_USAGE, ZONE_USAGE,
 };

@@ -3,11 +3,11 @@
 use crate::commands;
 use crate::forms::{form_of, put_forms};
 use hickory_wire::Record;
+use script_handlers::state::Zones;
 use script_values::fault::Fault;
 use script_values::output::Output;
 use script_values::state::Place;
 use script_values::text::record;
-use script_zones::state::Zones;
 use script_zones::{chains, zones};
 use std::alloc::{AllocError, Global};
 use std::rt::Files;

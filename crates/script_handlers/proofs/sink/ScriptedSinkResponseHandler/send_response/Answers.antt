@@ -1,5 +1,5 @@
 use Rattle.std.proofs.Common.{rules}
-use Rattle.script_zones.proofs.sink.ScriptedSinkResponseHandler.send_response.Goals as goal
+use Rattle.script_handlers.proofs.sink.ScriptedSinkResponseHandler.send_response.Goals as goal
 
 pub returns-clause-ok : goal.returns-clause-ok
 returns-clause-ok g c =

@@ -1,16 +1,16 @@
 //! Zones that take dynamic updates, and who may send them one.
 
 use crate::asking::print_calls;
-use crate::handler::{Handler, Source};
-use crate::held::{push, put_in};
-use crate::keyed::{ZoneVerifier, keys_of};
-use crate::state::Zones;
-use crate::verifier::ScriptedVerifier;
-use crate::zones::axfr_policy;
 use hickory_base::errors::UpdateFault;
 use hickory_base::zone_store::{AxfrPolicy, ZoneHandler};
 use hickory_store::sqlite::SqliteZoneHandler;
 use hickory_wire::{Name, ResponseCode, TSigResponseContext, TSigResponseKind};
+use script_handlers::handler::{Handler, Source};
+use script_handlers::held::{push, put_in};
+use script_handlers::keyed::{ZoneVerifier, keys_of};
+use script_handlers::kinds::axfr_policy;
+use script_handlers::state::Zones;
+use script_handlers::verifier::ScriptedVerifier;
 use script_values::fault::Fault;
 use script_values::output::Output;
 use script_values::state::Place;

@@ -1,7 +1,7 @@
 //! The signer of the program's server, as a script has it.
 
 ghost use Rattle.std.specs.Prelude.{◌≡◌, IfErr, IfOk};
-ghost use Rattle.script_zones.specs.Signatures.{error_of, record_with, signature_of};
+ghost use Rattle.script_handlers.specs.Signatures.{error_of, record_with, signature_of};
 
 use crate::calls::CallLog;
 use hickory_catalog::signer::{ReplySigner, SignError};

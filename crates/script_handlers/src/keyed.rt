@@ -3,8 +3,8 @@
 ghost use Rattle.std.specs.Prelude.{IfOk, map};
 ghost use Rattle.std.specs.List.{AllZip};
 ghost use Rattle.tsig.specs.KeyTexts.{IsKeyText};
-ghost use Rattle.script_zones.specs.Judging.{knows, times_of};
-ghost use Rattle.script_zones.specs.Signatures.{signature_by};
+ghost use Rattle.script_handlers.specs.Judging.{knows, times_of};
+ghost use Rattle.script_handlers.specs.Signatures.{signature_by};
 
 use crate::signer::ScriptedSigner;
 use crate::verifier::ScriptedVerifier;

@@ -1,6 +1,6 @@
 use Rattle.std.proofs.Common.{rules}
-use Rattle.script_zones.proofs.Spelled.{keys_more}
-use Rattle.script_zones.proofs.keyed.keys_of.Goals as goal
+use Rattle.script_handlers.proofs.Spelled.{keys_more}
+use Rattle.script_handlers.proofs.keyed.keys_of.Goals as goal
 
 pub loop-place-preserved : goal.loop-place-preserved
 loop-place-preserved c =

@@ -1,9 +1,6 @@
 //! Calls of the handler last begun, without a server around it.
 
 use crate::asking::print_calls;
-use crate::begun::last_begun;
-use crate::handler::Handler;
-use crate::state::Zones;
 use hickory_base::errors::{DnsError, LookupError};
 use hickory_base::server::Request;
 use hickory_base::zone_store::{
@@ -11,6 +8,9 @@ use hickory_base::zone_store::{
     ZoneTransfer,
 };
 use hickory_wire::{LowerName, RecordType, TSigResponseContext};
+use script_handlers::begun::last_begun;
+use script_handlers::handler::Handler;
+use script_handlers::state::Zones;
 use script_values::fault::Fault;
 use script_values::output::Output;
 use script_values::printing::print_records;

@@ -1,8 +1,6 @@
 //! Whole updates of the updatable zone last begun (RFC 2136 section 3).
 
 use crate::asking::print_calls;
-use crate::held::push;
-use crate::state::Zones;
 use crate::updatable::{
     UpdatableZone, last_updatable, last_updatable_mut, print_code, print_context,
 };
@@ -12,6 +10,8 @@ use hickory_base::server::Request;
 use hickory_base::update_request::UpdateRequest;
 use hickory_base::zone_store::ZoneHandler;
 use hickory_wire::{Record, ResponseCode};
+use script_handlers::held::push;
+use script_handlers::state::Zones;
 use script_values::fault::Fault;
 use script_values::output::Output;
 use script_values::printing::print_hex;

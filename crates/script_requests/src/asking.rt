@@ -1,13 +1,13 @@
 //! What is asked of the server.
 
-use crate::handler::Handler;
-use crate::sink::ScriptedSink;
-use crate::state::Zones;
-use crate::zones::type_word;
 use hickory_base::errors::CatalogError;
 use hickory_base::server::{Request, RequestHandler, ResponseInfo};
 use hickory_base::zone_store::ZoneHandler;
 use hickory_wire::{Edns, LowerName};
+use script_handlers::handler::Handler;
+use script_handlers::kinds::type_word;
+use script_handlers::sink::ScriptedSink;
+use script_handlers::state::Zones;
 use script_values::fault::Fault;
 use script_values::output::Output;
 use script_values::printing::{print_reply, put_header};

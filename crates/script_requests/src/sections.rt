@@ -1,10 +1,10 @@
 //! The sections of a dynamic update, as `nsupdate` has them, and what a zone answers of them (RFC 2136 sections 2 and 3).
 
-use crate::held::push;
-use crate::state::Zones;
 use crate::updatable::{last_updatable, print_code};
 use hickory_base::errors::UpdateFault;
 use hickory_wire::Record;
+use script_handlers::held::push;
+use script_handlers::state::Zones;
 use script_values::fault::Fault;
 use script_values::output::Output;
 use script_values::text;

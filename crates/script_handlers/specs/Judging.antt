@@ -6,8 +6,8 @@ use Rattle.tsig.specs.Keys.{key_of}
 use Rattle.tsig.specs.Validity.{validity}
 use Rattle.wire_names.specs.rr.domain.DomainName.{DomainName}
 use Rattle.wire_names.specs.rr.domain.NameOrder.{name_eq}
-use Rattle.script_zones.specs.declared.keyed.ZoneVerifier.{ZoneVerifier}
-use Rattle.script_zones.specs.declared.keyed.ZoneVerifier.TheVariants.{Scripted, ByKeys}
+use Rattle.script_handlers.specs.declared.keyed.ZoneVerifier.{ZoneVerifier}
+use Rattle.script_handlers.specs.declared.keyed.ZoneVerifier.TheVariants.{Scripted, ByKeys}
 
 -- whether it has a key of this name
 abbrev pub knows : ZoneVerifier → DomainName → Bool

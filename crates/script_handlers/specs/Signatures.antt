@@ -7,10 +7,10 @@ use Rattle.wire_messages.specs.declared.rr.tsig.TSigResponseContext.{TSigRespons
 use Rattle.wire_messages.specs.declared.rr.tsig.TSigResponseKind.{TSigResponseKind}
 use Rattle.wire_messages.specs.declared.rr.tsig.TSigResponseKind.TheVariants.{UnknownKey, BadSignature, Known}
 use Rattle.tsig.specs.ContextSigning.{context_signature}
-use Rattle.script_zones.specs.declared.keyed.ServerSigner.{ServerSigner}
-use Rattle.script_zones.specs.declared.keyed.ServerSigner.TheVariants.{Scripted, ByKeys}
-use Rattle.script_zones.specs.declared.signer.Signing.{Signing}
-use Rattle.script_zones.specs.declared.signer.Signing.TheVariants.{Fails, Echo, Fixed, Memory}
+use Rattle.script_handlers.specs.declared.keyed.ServerSigner.{ServerSigner}
+use Rattle.script_handlers.specs.declared.keyed.ServerSigner.TheVariants.{Scripted, ByKeys}
+use Rattle.script_handlers.specs.declared.signer.Signing.{Signing}
+use Rattle.script_handlers.specs.declared.signer.Signing.TheVariants.{Fails, Echo, Fixed, Memory}
 
 -- the error that a reply tells of the request's signature: BADKEY, BADSIG, BADTIME or none (RFC 8945 section 3)
 abbrev pub error_of : TSigResponseKind → ℕ
