@@ -84,10 +84,20 @@ SERVED = {
 
 NEW = update("example.com", [record("new.example.com", A, IN, 60, bytes([192, 0, 2, 7]))])
 
+
+def acknowledged(lines):
+    """The updates of the first lines of incremental.in that are answered NOERROR, as the process leaves them that was sent them."""
+    rows = [[line.split()[-1] for line in open(os.path.join(CASES, "tests_zones", file))][:lines] for file in ("incremental.in", "incremental.out")]
+    return [bytes.fromhex(sent) for sent, reply in zip(*rows) if sent[4:6] == "28" and reply[7] == "0"]
+
+
 # What cases of tests_zones find as their journal.
 FOUND = {
     "journalled_again.journal": journal([NEW]),
     "journalled_compacted.journal": FILES["compacted.journal"],
+    "incremental_again.journal": journal(acknowledged(35)),
+    "incremental_many.journal": journal(acknowledged(73)),
+    "incremental_compacted.journal": FILES["compacted.journal"],
 }
 
 FOLDERS = (("zone_journal/files", FILES), ("zone_serve/files", SERVED), ("tests_zones", FOUND))

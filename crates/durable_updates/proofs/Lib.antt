@@ -9,3 +9,4 @@ pub mod Recalled
 pub mod Compactions
 pub mod Made
 pub mod CompactedRuns
+pub mod Followed

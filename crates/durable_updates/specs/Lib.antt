@@ -9,3 +9,4 @@ pub mod Recovering
 pub mod Redone
 pub mod Runs
 pub mod Snapshots
+pub mod Versions

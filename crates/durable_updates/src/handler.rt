@@ -11,12 +11,14 @@ ghost use Rattle.sqlite_disk.specs.Disk.{Only};
 ghost use Rattle.durable_updates.specs.Recorded.{AreRecovered, IsDurable, IsHandedBack, IsOpenedFrom, IsRecovered, IsSpare};
 ghost use Rattle.durable_updates.specs.Recovering.{counting};
 ghost use Rattle.durable_updates.specs.Snapshots.{Recalls};
+ghost use Rattle.durable_updates.specs.Versions.{AreFollowed};
 ghost use Rattle.hickory_base.specs.zone_store.ZoneAnswers.{MemoryZone};
 ghost use Rattle.update_journal.specs.Read.{contents};
 ghost use Rattle.update_journal.specs.Settled.{IsAtRest};
 
 use crate::batches::{UpdateAnswer, update_all_durably};
 use crate::compaction::{CompactError, Spare, compact_into};
+use crate::following::recall_followed;
 use crate::recovering::{TwoRecovered, recover_two};
 use crate::redoing::{RedoError, redo};
 use crate::snapshots::recall;
@@ -34,6 +36,7 @@ use std::alloc::{AllocError, Global};
 use std::marker::Model;
 use thiserror::Error;
 use update_journal::{Journal, JournalError, generation, recover};
+use zone_differences::History;
 
 /// Why the journal of a zone was not opened.
 #[derive(Debug, Drop, Error)]
@@ -125,6 +128,34 @@ impl<V: Verifier, D: Disk + Drop> JournalledZone<V, D> {
             Ok(found) => match recall(&mut zone, alloc, found.entries()) {
                 Err(error) => Err((OpenError::Entries(error), first, second)),
                 Ok(()) => Ok(JournalledZone::of_two(zone, first, second, &found)),
+            },
+        }
+    }
+
+    /// The same, and what the last of the requests have changed: of those behind the snapshot, and of so many last ones as a history has room for. That is
+    /// of as many records of transfers as `History::limit_of` tells, of the zone that the first of the requests was done to and `least`, twice.
+    pub fn open_followed(
+        alloc: Global,
+        zone: SqliteZoneHandler<V>,
+        first: D,
+        second: D,
+        least: usize,
+    ) -> Result<(JournalledZone<V, D>, History), (OpenError, D, D)>
+        requires usable { IsTrue (D.is_usable first) × IsTrue (D.is_usable second) }
+        // After a restart, what is read is what is on the disk.
+        requires restarted { Only (D.seen first) (D.may_leave first) × Only (D.seen second) (D.may_leave second) }
+        ensures followed { IfOk result (λ opened. AreFollowed D.Disk first second zone.zone opened.1 opened.0.zone) }
+        ensures others { IfOk result (λ opened. opened.0 ≡ record zone { zone = opened.0.zone }) }
+        ensures err { IfErr result (λ e. IsHandedBack D.Disk first e.1 × IsHandedBack D.Disk second e.2) }
+    {
+        let mut zone = zone;
+        let mut first = first;
+        let mut second = second;
+        match recover_two(alloc, &mut first, &mut second) {
+            Err(error) => Err((OpenError::Journal(error), first, second)),
+            Ok(found) => match recall_followed(&mut zone, alloc, found.entries(), least) {
+                Err(error) => Err((OpenError::Entries(error), first, second)),
+                Ok(history) => Ok((JournalledZone::of_two(zone, first, second, &found), history)),
             },
         }
     }

@@ -3,6 +3,7 @@
 
 mod batches;
 mod compaction;
+mod following;
 mod handler;
 pub mod laws;
 mod recovering;

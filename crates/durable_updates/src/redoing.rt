@@ -1,10 +1,11 @@
 //! Doing a journal's entries again.
 
-ghost use Rattle.std.specs.Prelude.{◌≡◌, ◌++◌, List, ℕ, IfOk, IfSome, OnOk};
+ghost use Rattle.std.specs.Prelude.{◌≡◌, ◌++◌, List, ℕ, IfOk, IfSome, OnOk, false, true};
 ghost use Rattle.hickory_base.specs.zone_store.ZoneAnswers.{soa_serial, zone_soa};
 ghost use Rattle.wire_reading.specs.serialize.reading.MessageReading.{Reads};
 ghost use Rattle.hickory_base.specs.requests.RequestReading.{message_of};
 ghost use Rattle.update_journal.specs.Read.{contents};
+ghost use Rattle.zone_differences.specs.Standing.{IsChangedBy};
 ghost use Rattle.durable_updates.specs.Redone.{Makes, Redone, RedoesOne};
 
 use hickory_base::errors::UpdateFault;
@@ -55,22 +56,24 @@ pub fn read_entry(alloc: Global, entry: &[u8]) -> Result<Request, RedoError>
     }
 }
 
-/// Does an update section again that passes the prescan. One that is refused, for want of an SOA, leaves the zone as it was when
-/// it came.
-fn redo_updates<V: Verifier>(
+/// Does an update section again that passes the prescan, and tells whether it changed the zone. One that is refused, for want of an SOA, leaves the zone as
+/// it was when it came.
+pub(crate) fn redo_updates<V: Verifier>(
     zone: &mut SqliteZoneHandler<V>,
     alloc: Global,
     updates: &[Record],
-) -> Result<(), RedoError>
+) -> Result<bool, RedoError>
     ensures made { OnOk result (Makes updates.now zone.old.zone zone.new.zone) }
+    ensures changed { IfOk result (λ changed. changed ≡ true → IsChangedBy updates.now zone.old.zone zone.new.zone) }
+    ensures untouched { IfOk result (λ changed. changed ≡ false → zone.new ≡ zone.old) }
     ensures others { zone.new ≡ record zone.old { zone = zone.new.zone } }
 {
     let Ok(()) = zone.pre_scan(updates) else {
         return Err(RedoError::Damaged);
     };
     match zone.update_records(alloc, updates, true) {
-        Ok(_) => Ok(()),
-        Err(UpdateFault::Code(_)) => Ok(()),
+        Ok(changed) => Ok(changed),
+        Err(UpdateFault::Code(_)) => Ok(false),
         Err(UpdateFault::Memory) => Err(RedoError::Memory),
     }
 }

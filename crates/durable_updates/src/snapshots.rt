@@ -239,7 +239,7 @@ fn put_records<V: Verifier>(
 
 /// Where the file was compacted, puts the records of its snapshot in the place of those of the first zone, and gives the requests behind it; of
 /// every other file it gives all entries. After an `Err` the zone is as before.
-fn put_snapshot<'e, V: Verifier>(
+pub(crate) fn put_snapshot<'e, V: Verifier>(
     zone: &mut SqliteZoneHandler<V>,
     alloc: Global,
     entries: &'e [Vec<u8>],

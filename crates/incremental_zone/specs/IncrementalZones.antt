@@ -1,11 +1,9 @@
 -- What a zone answers of which earlier versions are known (RFC 1995).
-use Rattle.std.specs.Prelude.{◌≡◌, ◌⊎◌, ◌==◌, ◌&&◌, ◌∷◌, ℕ, Bool, true, false, not, cond, List, [], IfOk, IfSome, Option, Some, None, Result, Ok, Err}
-use Rattle.std.specs.declared.alloc.AllocError.{AllocError}
+use Rattle.std.specs.Prelude.{◌≡◌, ◌⊎◌, ◌==◌, ◌&&◌, ◌∷◌, ℕ, Bool, true, false, not, cond, List, [], Option, Some, None, Result, Ok, Err}
 use Rattle.wire_messages.specs.declared.op.query.Query.{Query}
 use Rattle.wire_messages.specs.declared.rr.tsig.TSigResponseContext.{TSigResponseContext}
 use Rattle.hickory_base.specs.requests.Questions.{one_query}
 use Rattle.hickory_base.specs.requests.Requests.{ReceivedRequest}
-use Rattle.hickory_base.specs.requests.Updates.{update_of}
 use Rattle.hickory_base.specs.zone_store.ZoneAnswers.{MemoryZone, soa_alone}
 use Rattle.hickory_base.specs.declared.errors.LookupError.{LookupError}
 use Rattle.hickory_base.specs.declared.errors.LookupError.TheVariants.{Memory}
@@ -14,21 +12,15 @@ use Rattle.hickory_base.specs.declared.zone_store.lookup.ZoneTransfer.{ZoneTrans
 use Rattle.hickory_store.specs.Permission.{Permission, transfer_permission}
 use Rattle.hickory_store.specs.TransferAnswers.{transfer_or_code}
 use Rattle.hickory_store.specs.UpdatableZone.{UpdatableZone}
-use Rattle.hickory_store.specs.UpdateAnswers.{AnswersUpdate}
 use Rattle.hickory_store.specs.declared.sqlite.verifier.Verifier.{Ghosts}
 use Rattle.hickory_zone.specs.Handled.{held_serial, is_by_soa, names_zone}
 use Rattle.hickory_zone.specs.Replies.{zone_of}
 use Rattle.hickory_zone.specs.Zones.{type_ixfr}
-use Rattle.wire_messages.specs.declared.rr.rdata.RData.{RData}
-use Rattle.wire_messages.specs.declared.rr.record.Record.{Record}
 use Rattle.dynamic_zone.specs.DynamicZones.{TransferAnswered}
 use Rattle.durable_zone.specs.DurableZones.{KeptZone}
 use Rattle.durable_zone.specs.DurableZones as durable
-use Rattle.zone_differences.specs.Differences.{IsDifferenceOf}
-use Rattle.zone_differences.specs.Histories.{IsFollowed, since}
+use Rattle.zone_differences.specs.Histories.{IsRecorded, since}
 use Rattle.zone_differences.specs.Sequences.{with_differences}
-use Rattle.zone_differences.specs.Standing.{IsBefore}
-use Rattle.zone_differences.specs.declared.before.Before.{Before}
 use Rattle.zone_differences.specs.declared.difference.Difference.{Difference}
 
 -- a zone that takes updates, and what led to it from earlier versions, the oldest first
@@ -76,10 +68,6 @@ TransferGiven by handler request now answer =
 
 -- ---- updates
 
--- What leads from the one zone to the other is put last, and of all that led to the first the oldest may be given up; or all is given up.
-abbrev pub IsRecorded : MemoryZone → MemoryZone → List Difference → List Difference → Type 0
-IsRecorded old new before after = (after ≡ []) ⊎ ((difference : Difference) × IsDifferenceOf old new difference × IsFollowed before (difference ∷ []) after)
-
 -- An update that changed the zone is recorded; where none did, what led to the zone stays.
 abbrev pub IsHistory : Result Bool UpdateFault → MemoryZone → MemoryZone → List Difference → List Difference → Type 0
 IsHistory (Ok true) old new before after = IsRecorded old new before after
@@ -90,13 +78,3 @@ IsHistory (Err fault) old new before after = after ≡ before
 abbrev pub Updates : {V : Type 0} → Ghosts V → VersionedZone V → ReceivedRequest → ℕ → Result Bool UpdateFault → Option TSigResponseContext → VersionedZone V → Type 0
 Updates by old request now answer context new =
     durable.Updates by old.kept request now answer context new.kept × IsHistory answer (now_of old) (now_of new) old.history new.history
-
--- what stood in a zone before an update of these records, if that is known
-abbrev pub IsKnown : MemoryZone → List (Record RData) → Result (Option Before) AllocError → Type 0
-IsKnown zone updates before = IfOk before (λ found. IfSome found (IsBefore zone updates))
-
--- This update may have left the zone `new`. Of each zone that it was made in, where that stood there before, what it changed is recorded.
-abbrev pub Records : {V : Type 0} → Ghosts V → Result (Option Before) AllocError → UpdatableZone V → List Difference → List Difference → Type 0
-Records {V} by before new history after =
-    (old : UpdatableZone V) (request : ReceivedRequest) (now : ℕ) (context : Option TSigResponseContext)
-    → IsKnown old.zone (update_of request.message).updates before → AnswersUpdate by old request now (Ok true) context new → IsRecorded old.zone new.zone history after

@@ -1,18 +1,21 @@
 //! A zone that takes dynamic updates (RFC 2136), and answers a client that has an earlier version of it by the differences since (RFC 1995).
 #![tactic(auto)]
 
-ghost use Rattle.std.specs.Prelude.{◌≡◌, None, [], false};
+ghost use Rattle.std.specs.Prelude.{◌≡◌, IfErr, IfOk, IsTrue, None, [], false, true};
 ghost use Rattle.hickory_base.specs.declared.zone_store.lookup.LookupControlFlow.TheVariants.{Skip};
 ghost use Rattle.dynamic_zone.specs.DynamicZones.{LookedUp, Searched};
-ghost use Rattle.incremental_zone.specs.IncrementalZones.{TransferGiven, Updates};
+ghost use Rattle.durable_updates.specs.Recorded.{IsHandedBack};
+ghost use Rattle.durable_updates.specs.Versions.{AreFollowed};
+ghost use Rattle.sqlite_disk.specs.Disk.{Only};
+ghost use Rattle.incremental_zone.specs.IncrementalZones.{TransferGiven, Updates, now_of};
 
 pub mod laws;
 mod transfers;
 mod updating;
 
 use crate::transfers::transfer;
-use crate::updating::{follow, has_changed};
-use durable_updates::CompactError;
+use crate::updating::has_changed;
+use durable_updates::{CompactError, JournalledZone, OpenError};
 use durable_zone::DurableZone;
 use hickory_base::errors::{LookupError, UpdateFault};
 use hickory_base::server::{Request, RequestInfo};
@@ -21,7 +24,7 @@ use hickory_base::zone_store::{
     AuthLookup, AxfrPolicy, LookupControlFlow, LookupOptions, Nsec3QueryInfo, NxProofKind,
     ZoneHandler, ZoneTransfer, ZoneType,
 };
-use hickory_store::sqlite::Verifier;
+use hickory_store::sqlite::{SqliteZoneHandler, Verifier};
 use hickory_wire::{LowerName, RecordType, TSigResponseContext};
 use sqlite_disk::Disk;
 use std::alloc::Global;
@@ -31,7 +34,8 @@ use zone_differences::{Before, History};
 /// A zone that takes updates and answers standard queries as [`DurableZone`] does, and keeps what its last updates have changed: who asks for what changed
 /// (IXFR) since a version that it still knows gets that, and not the whole zone.
 ///
-/// The differences are kept in memory: after a restart a client gets the whole zone once.
+/// The differences are kept in memory. Those of a zone with a journal are made anew of its requests when that is opened: after a restart a client gets what
+/// changed too, as far as the journal was not compacted since its version.
 #[derive(Drop)]
 pub struct IncrementalZone<V: Verifier, D: Disk + Drop> {
     zone: DurableZone<V, D>,
@@ -55,6 +59,32 @@ impl<V: Verifier, D: Disk + Drop> IncrementalZone<V, D> {
         IncrementalZone {
             zone,
             history: History::new(alloc, limit),
+        }
+    }
+
+    /// Opens the journal that two files are in turns, as [`DurableZone::open`] does, and keeps what the last of its requests have changed: of those behind its
+    /// snapshot, where it was compacted, and of so many last ones as differences are kept of, as [`History::limit_of`] tells of the zone that the first of
+    /// them was done to and `least`. A request that changed nothing counts as one of them. With an error the files are handed back.
+    pub fn open(
+        alloc: Global,
+        zone: SqliteZoneHandler<V>,
+        first: D,
+        second: D,
+        least: usize,
+    ) -> Result<IncrementalZone<V, D>, (OpenError, D, D)>
+        requires usable { IsTrue (D.is_usable first) × IsTrue (D.is_usable second) }
+        // After a restart, what is read is what is on the disk.
+        requires restarted { Only (D.seen first) (D.may_leave first) × Only (D.seen second) (D.may_leave second) }
+        ensures followed { IfOk result (λ opened. AreFollowed D.Disk first second zone.zone opened.history (now_of opened)) }
+        ensures others { IfOk result (λ opened. opened ≡ record { kept = record { updatable = record zone { zone = now_of opened }; is_journalled = true }; history = opened.history }) }
+        ensures err { IfErr result (λ e. IsHandedBack D.Disk first e.1 × IsHandedBack D.Disk second e.2) }
+    {
+        match JournalledZone::open_followed(alloc, zone, first, second, least) {
+            Ok((opened, history)) => Ok(IncrementalZone {
+                zone: DurableZone::journalled(opened),
+                history,
+            }),
+            Err(e) => Err(e),
         }
     }
 
@@ -206,7 +236,8 @@ impl<V: Verifier, D: Disk + Drop> ZoneHandler for IncrementalZone<V, D> {
         let before = Before::of(alloc, self.zone.updatable().in_memory(), updates);
         let (answer, context) = self.zone.update(alloc, request, now);
         if has_changed(&answer) {
-            follow(&mut self.history, alloc, before, self.zone.updatable());
+            let zone = self.zone.updatable().in_memory();
+            self.history.follow(alloc, before, zone);
         }
         (answer, context)
     }

@@ -5,12 +5,12 @@ ghost use Rattle.sqlite_disk.specs.Disk.{Only};
 ghost use Rattle.served_updates.specs.Journals.{HasJournal, IsJournalled, OpensJournal};
 
 use crate::moving::{Handler, Zones};
-use crate::updated_zone::UpdatedZone;
+use crate::updated_zone::{LEAST_RECORDS, UpdatedZone};
 use durable_updates::{CompactError, OpenError, RedoError, SnapshotError};
-use durable_zone::DurableZone;
 use either::Either;
 use hickory_store::sqlite::Verifier;
 use hickory_wire::{LowerName, Name};
+use incremental_zone::IncrementalZone;
 use sqlite_disk::Disk;
 use std::alloc::{AllocError, AllocFailed, Global};
 use thiserror::Error;
@@ -70,7 +70,7 @@ fn fault_of(error: &OpenError) -> JournalFault {
     }
 }
 
-/// The zone with the journal in two files, as [`DurableZone::open`] takes them.
+/// The zone with the journal in two files, as [`IncrementalZone::open`] takes them.
 fn with_journal<V: Verifier, D: Disk + Drop>(
     alloc: Global,
     zone: UpdatedZone<V, D>,
@@ -87,8 +87,12 @@ fn with_journal<V: Verifier, D: Disk + Drop>(
         policy,
     } = zone;
     let (updatable, _) = zone.into_zone().into_parts();
-    match DurableZone::open(alloc, updatable, first, second) {
-        Ok(zone) => Ok(UpdatedZone::new(alloc, zone, parent, policy)),
+    match IncrementalZone::open(alloc, updatable, first, second, LEAST_RECORDS) {
+        Ok(zone) => Ok(UpdatedZone {
+            zone,
+            parent,
+            policy,
+        }),
         Err((error, _, _)) => Err(fault_of(&error)),
     }
 }
@@ -137,9 +141,10 @@ fn open_in_chain<D: Disk + Drop>(
     })
 }
 
-/// Opens the journal of the zone of this apex, which takes updates, in two files by turns, as [`DurableZone::open`] does, and compacts it: from then on the zone
-/// as it was before counts for nothing, and the files have at most twice what the zone takes and what is updated since. Each update is on the disk before it is
-/// answered (RFC 2136 section 3.5).
+/// Opens the journal of the zone of this apex, which takes updates, in two files by turns, as [`IncrementalZone::open`] does, and compacts it: from then on the
+/// zone as it was before counts for nothing, and the files have at most twice what the zone takes and what is updated since. Each update is on the disk before
+/// it is answered (RFC 2136 section 3.5). What the last updates changed that the journal had behind its snapshot is kept, up to as many records of transfers as
+/// the zone of the snapshot has record sets (RFC 1995 section 5), and up to 200 of a smaller one.
 ///
 /// A disk that fails while the journal is compacted is told by `takes_updates`: the zone is served as its journal says, and each update is ServFail. After an
 /// error the zone may be gone.

@@ -21,8 +21,8 @@ pub fn updates_are_those_of_memory<V: Verifier, D: Disk + Drop>()
     durable_zone::laws::updates_are_those_of_memory::<V>();
 }
 
-/// Whatever a zone has answered since its first version, of which no earlier one was known, as when it was loaded or its journal was opened: who has a version
-/// of it, and applies to that the differences which the zone keeps since then (RFC 1995 section 4), has the zone as it is.
+/// Whatever a zone has answered since it was loaded, or since its journal was opened, which tells of earlier versions: who has a version of it, and applies to
+/// that the differences which the zone keeps since then (RFC 1995 section 4), has the zone as it is.
 pub fn clients_follow<V: Verifier, D: Disk + Drop>()
     ensures { DifferencesLead D V.Verifier }
 {

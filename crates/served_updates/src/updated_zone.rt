@@ -28,12 +28,13 @@ use std::alloc::Global;
 use std::rc::Rc;
 use update_journal::Journal;
 use update_policy::Policy;
+use zone_differences::History;
 
 /// The type of the records that a zone above has of a zone below (RFC 4034 section 5).
 const DS: u16 = 43;
 
 /// How many records of transfers the differences of a small zone may have, twice.
-const LEAST_RECORDS: usize = 100;
+pub(crate) const LEAST_RECORDS: usize = 100;
 
 /// A zone that takes updates, with the rules of who may make which, and the zone above it, if the server has it: that one is asked for the DS records of
 /// the zone's apex (RFC 4035 section 3.1.4.1), and all else of the zone.
@@ -45,8 +46,8 @@ const LEAST_RECORDS: usize = 100;
 /// nothing; `into_parts` says of the journal what that comes to.
 ///
 /// A client that asks for what changed since its version (IXFR, RFC 1995) gets the SOA alone over UDP, and where its version is no older than the zone's
-/// (section 2); else the differences that updates have made since (section 4), where its version is one that the zone had since it was loaded and all of
-/// them are kept; and else the whole zone. Differences are kept in memory alone.
+/// (section 2); else the differences that updates have made since (section 4), where all of them are kept: of a zone in memory alone since it was loaded, and
+/// of one with a journal since that was compacted before it was opened; and else the whole zone.
 #[derive(Drop)]
 pub struct UpdatedZone<V: Verifier, D: Disk + Drop> {
     /// The zone.
@@ -86,9 +87,9 @@ impl<V: Verifier, D: Disk + Drop> UpdatedZone<V, D> {
     ) -> UpdatedZone<V, D>
         ensures { result ≡ record { zone = record { kept = zone; history = [] }; parent = parent; policy = policy } }
     {
-        let half = zone.updatable().in_memory().records().len() / 2;
+        let limit = History::limit_of(zone.updatable().in_memory(), LEAST_RECORDS);
         UpdatedZone {
-            zone: IncrementalZone::new(alloc, zone, half.max(LEAST_RECORDS)),
+            zone: IncrementalZone::new(alloc, zone, limit),
             parent,
             policy,
         }

@@ -9,7 +9,7 @@ use thiserror::Error;
 #[derive(Clone, Copy, Debug, PartialEq, Eq, Error)]
 pub enum Fault {
     /// The arguments are wrong.
-    #[error("usage: tests_zones updated|above|incremental|journalled PATH")]
+    #[error("usage: tests_zones updated|above|incremental|journalled PATH|incremental PATH")]
     Usage,
     /// Memory was refused.
     #[error("no memory")]

@@ -1,8 +1,8 @@
 //! Serves messages by `server::Server`, and prints what becomes of each: `tests_zones updated|above|incremental` reads lines `TRANSPORT ADDRESS HEX`, with
 //! transport `udp` or `tcp`, and prints `denied`, `response`, `unreadable` or the bytes of each reply; a line that begins with `#` it prints. `updated` serves
 //! a zone that takes every update that is signed, `above` that zone and one below it, `incremental` the first with the differences of its last updates, and
-//! `tests_zones journalled PATH` the first with a journal in this file and `PATH-wal`. The status is 0, 2 for wrong arguments, 3 without memory, 4 where input
-//! or output fail, and 5 where a line is none or there is no journal.
+//! `tests_zones journalled PATH` and `tests_zones incremental PATH` the same with a journal in this file and `PATH-wal`. The status is 0, 2 for wrong
+//! arguments, 3 without memory, 4 where input or output fail, and 5 where a line is none or there is no journal.
 #![tactic(auto)]
 
 mod answers;
@@ -13,7 +13,7 @@ mod zones;
 
 use crate::answers::serve_lines;
 use crate::fault::Fault;
-use crate::zones::{above, incremental, journalled, updated};
+use crate::zones::{above, followed, incremental, journalled, updated};
 use std::alloc::Global;
 use std::io::Read;
 use std::process::ExitCode;
@@ -30,6 +30,8 @@ enum Served<'a> {
     Incremental,
     /// One that takes updates, with a journal in this file and the one beside it.
     Journalled(&'a str),
+    /// The same, which keeps what the last of them have changed, those of its journal too.
+    Followed(&'a str),
 }
 
 /// Serves the lines of a text by a zone that takes updates, and puts what becomes of them behind another one.
@@ -61,6 +63,17 @@ fn serve_journalled(
     serve_lines(rt.alloc(), &mut server, lines, text)
 }
 
+/// The same by a zone with a journal that keeps what its last updates have changed.
+fn serve_followed(
+    rt: &HostRuntime,
+    path: &str,
+    lines: &str,
+    text: &mut String,
+) -> Result<(), Fault> {
+    let mut server = followed(rt, path)?;
+    serve_lines(rt.alloc(), &mut server, lines, text)
+}
+
 /// Serves the lines of a text by the zones that are named, and puts what becomes of them behind another one.
 fn serve_text(
     rt: &HostRuntime,
@@ -73,6 +86,7 @@ fn serve_text(
         Served::Above => serve_above(rt.alloc(), lines, text),
         Served::Incremental => serve_incremental(rt.alloc(), lines, text),
         Served::Journalled(path) => serve_journalled(rt, path, lines, text),
+        Served::Followed(path) => serve_followed(rt, path, lines, text),
     }
 }
 
@@ -101,6 +115,7 @@ fn named_zones(words: &[String]) -> Result<Served<'_>, Fault> {
         [word] if word.as_str() == "above" => Ok(Served::Above),
         [word] if word.as_str() == "incremental" => Ok(Served::Incremental),
         [word, path] if word.as_str() == "journalled" => Ok(Served::Journalled(path)),
+        [word, path] if word.as_str() == "incremental" => Ok(Served::Followed(path)),
         _ => Err(Fault::Usage),
     }
 }

@@ -123,23 +123,45 @@ pub fn updated(alloc: Global) -> Result<Server<Trusting, DynamicZone<Trusting>>,
     server_of(alloc, &apex, zone)
 }
 
-/// The same with the differences of its last updates, up to forty records of transfers twice.
+/// How many records of transfers the differences have, twice.
+const LIMIT: usize = 40;
+
+/// The same with the differences of its last updates.
 pub fn incremental(
     alloc: Global,
 ) -> Result<Server<Trusting, IncrementalZone<Trusting, File>>, Fault> {
     let apex = name(alloc, "example.com.")?;
     let kept = DurableZone::in_memory(updatable(alloc, &apex)?);
-    server_of(alloc, &apex, IncrementalZone::new(alloc, kept, 40))
+    server_of(alloc, &apex, IncrementalZone::new(alloc, kept, LIMIT))
+}
+
+/// A file and the one beside it.
+fn files(rt: &HostRuntime, path: &str) -> Result<Files<File>, Fault> {
+    match open(rt, path, Unknown) {
+        Ok(files) => Ok(files),
+        Err(_) => Err(Fault::Line),
+    }
 }
 
 /// The zone `example.com` with its journal in a file and the one beside it.
 fn opened(rt: &HostRuntime, apex: &Name, path: &str) -> Result<DurableZone<Trusting, File>, Fault> {
     let zone = updatable(rt.alloc(), apex)?;
-    let Ok(files) = open(rt, path, Unknown) else {
-        return Err(Fault::Line);
-    };
-    let Files { db, log } = files;
+    let Files { db, log } = files(rt, path)?;
     match DurableZone::open(rt.alloc(), zone, db, log) {
+        Ok(zone) => Ok(zone),
+        Err(_) => Err(Fault::Line),
+    }
+}
+
+/// The same with the differences of the last updates of the journal.
+fn opened_followed(
+    rt: &HostRuntime,
+    apex: &Name,
+    path: &str,
+) -> Result<IncrementalZone<Trusting, File>, Fault> {
+    let zone = updatable(rt.alloc(), apex)?;
+    let Files { db, log } = files(rt, path)?;
+    match IncrementalZone::open(rt.alloc(), zone, db, log, LIMIT) {
         Ok(zone) => Ok(zone),
         Err(_) => Err(Fault::Line),
     }
@@ -162,6 +184,19 @@ pub fn journalled(
     let mut zone = opened(rt, &apex, path)?;
     compact(rt.alloc(), &mut zone)?;
     server_of(rt.alloc(), &apex, zone)
+}
+
+/// The same with the differences of its last updates, those of the journal too.
+pub fn followed(
+    rt: &HostRuntime,
+    path: &str,
+) -> Result<Server<Trusting, IncrementalZone<Trusting, File>>, Fault> {
+    let apex = name(rt.alloc(), "example.com.")?;
+    let mut zone = opened_followed(rt, &apex, path)?;
+    match zone.compact(rt.alloc()) {
+        Ok(()) => server_of(rt.alloc(), &apex, zone),
+        Err(_) => Err(Fault::Line),
+    }
 }
 
 /// A server of `example.com` and of `sub.example.com` below it.

@@ -4,29 +4,59 @@ use Rattle.std.specs.Prelude.{◌==◌, Some}
 use Rattle.std.proofs.lemmas.Bool.{eqb-true}
 use Rattle.std.proofs.lemmas.List.{append-nil}
 use Rattle.hickory_base.specs.zone_store.ZoneAnswers.{soa_serial}
-use Rattle.zone_differences.specs.Histories.{IsFollowed, since}
+use Rattle.zone_differences.specs.Histories.{IsFollowed, or_else, since}
 use Rattle.zone_differences.specs.declared.difference.Difference.{Difference}
 
 abbrev Differences : Type 0
 Differences = List Difference
 
-newer_step : (d : Difference) (xs ys rest more newer : Differences) (b : Bool) → (rest ≡ [] → more ≡ newer) → cond b (d ∷ xs) rest ≡ [] → cond b (d ∷ xs ++ ys) more ≡ newer
-newer_step d xs ys rest more newer true go h = absurd (cc)
-newer_step d xs ys rest more newer false go h = go h
+-- ---- from one on
 
--- none of the older ones leads from there
-pub since_newer : (s : ℕ) (xs ys : Differences) → since s xs ≡ [] → since s (xs ++ ys) ≡ since s ys
-since_newer s [] ys h = refl
-since_newer s (d ∷ xs) ys h = newer_step d xs ys (since s xs) (since s (xs ++ ys)) (since s ys) (soa_serial (Some d.old_soa) == s) (since_newer s xs ys) h
+-- the first that is some
+first_of : (zs ws others : Differences) → zs ≡ ws → (ws ≡ [] → ⊥) → or_else zs others ≡ ws
+first_of [] ws others e some = absurd (some (sym e))
+first_of (z ∷ zs) ws others e some = e
 
-older_step : (d : Difference) (xs ys rest more : Differences) (b : Bool) → ((rest ≡ [] → ⊥) → more ≡ rest ++ ys) → (cond b (d ∷ xs) rest ≡ [] → ⊥) → cond b (d ∷ xs ++ ys) more ≡ cond b (d ∷ xs) rest ++ ys
-older_step d xs ys rest more true go h = refl
-older_step d xs ys rest more false go h = go h
+pub or_none : (zs : Differences) → or_else zs [] ≡ zs
+or_none [] = refl
+or_none (z ∷ zs) = refl
 
--- one of them does
-pub since_older : (s : ℕ) (xs ys : Differences) → (since s xs ≡ [] → ⊥) → since s (xs ++ ys) ≡ since s xs ++ ys
-since_older s [] ys h = absurd (h refl)
-since_older s (d ∷ xs) ys h = older_step d xs ys (since s xs) (since s (xs ++ ys)) (soa_serial (Some d.old_soa) == s) (since_older s xs ys) h
+-- one more is looked at
+pub one_more : (b : Bool) (d : Difference) (others found more : Differences) → or_else (or_else more (cond b (d ∷ others) [])) found ≡ or_else more (cond b (d ∷ others) found)
+one_more true d others found [] = refl
+one_more false d others found [] = refl
+one_more b d others found (m ∷ more) = refl
+
+-- one of the newer ones leads from there
+pub since_newer : (s : ℕ) (xs ys : Differences) → (since s ys ≡ [] → ⊥) → since s (xs ++ ys) ≡ since s ys
+since_newer s [] ys some = refl
+since_newer s (d ∷ xs) ys some = first_of (since s (xs ++ ys)) (since s ys) (cond (soa_serial (Some d.old_soa) == s) (d ∷ xs ++ ys) []) (since_newer s xs ys some) some
+
+-- those behind some; none behind none
+abbrev behind_some : Differences → Differences → Differences
+behind_some [] ys = []
+behind_some (z ∷ zs) ys = z ∷ zs ++ ys
+
+behind : (zs ys : Differences) → (zs ≡ [] → ⊥) → behind_some zs ys ≡ zs ++ ys
+behind [] ys some = absurd (some refl)
+behind (z ∷ zs) ys some = refl
+
+older_step : (d : Difference) (xs ys rest more : Differences) (b : Bool) → more ≡ behind_some rest ys → or_else more (cond b (d ∷ xs ++ ys) []) ≡ behind_some (or_else rest (cond b (d ∷ xs) [])) ys
+older_step d xs ys [] more true e = ap (λ (l : Differences). or_else l (d ∷ xs ++ ys)) e
+older_step d xs ys [] more false e = ap (λ (l : Differences). or_else l []) e
+older_step d xs ys (r ∷ rest) more b e = ap (λ (l : Differences). or_else l (cond b (d ∷ xs ++ ys) [])) e
+
+none_newer : (s : ℕ) (xs ys : Differences) → since s ys ≡ [] → since s (xs ++ ys) ≡ behind_some (since s xs) ys
+none_newer s [] ys none = none
+none_newer s (d ∷ xs) ys none = older_step d xs ys (since s xs) (since s (xs ++ ys)) (soa_serial (Some d.old_soa) == s) (none_newer s xs ys none)
+
+-- none of the newer ones does, and one of the older ones
+pub since_older : (s : ℕ) (xs ys : Differences) → since s ys ≡ [] → (since s xs ≡ [] → ⊥) → since s (xs ++ ys) ≡ since s xs ++ ys
+since_older s xs ys none some = none_newer s xs ys none ∙ behind (since s xs) ys some
+
+-- none does
+pub since_none : (s : ℕ) (xs ys : Differences) → since s ys ≡ [] → since s xs ≡ [] → since s (xs ++ ys) ≡ []
+since_none s xs ys none old = none_newer s xs ys none ∙ ap (λ (l : Differences). behind_some l ys) old
 
 -- ---- differences that are put last
 

@@ -3,3 +3,5 @@ pub mod Compared
 pub mod Naming
 pub mod Staying
 pub mod Following
+pub mod Leading
+pub mod Recorded

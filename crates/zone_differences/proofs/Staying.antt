@@ -4,26 +4,18 @@ use Rattle.std.specs.List.{AllByRecursion, list_any}
 use Rattle.wire_names.specs.rr.domain.DomainName.{DomainName}
 use Rattle.wire_names.specs.rr.domain.NameOrder.{name_eq}
 use Rattle.wire_names.proofs.lemmas.rr.domain.SameNames.{eq_from_same}
-use Rattle.wire_messages.specs.declared.rr.tsig.TSigResponseContext.{TSigResponseContext}
-use Rattle.hickory_base.specs.requests.Requests.{ReceivedRequest}
-use Rattle.hickory_base.specs.requests.Updates.{UpdateMessage, update_of}
 use Rattle.hickory_base.specs.zone_store.ZoneAnswers.{MemoryZone}
 use Rattle.hickory_base.specs.zone_store.ZoneRecords.{is_at}
 use Rattle.hickory_base.specs.zone_store.ZoneSets.{zone_records}
 use Rattle.hickory_store.specs.Changes.{any_change, fold, is_type}
 use Rattle.hickory_store.specs.Identity.{SameZone, same_record, ttl_at}
 use Rattle.hickory_store.specs.NameUpdates.{of_name}
-use Rattle.hickory_store.specs.Permission.{update_permission}
-use Rattle.hickory_store.specs.Prerequisites.{prerequisites_refusal}
-use Rattle.hickory_store.specs.Prescan.{prescan_refusal}
-use Rattle.hickory_store.specs.UpdatableZone.{UpdatableZone}
-use Rattle.hickory_store.specs.UpdateAnswers.{AnswersUpdate, IsOutcome, Outcome, applied, incremented, is_apex_soa, message_outcome, next_data, unless_refused, with_next_serial}
-use Rattle.hickory_store.specs.declared.sqlite.verifier.Verifier.{Ghosts}
+use Rattle.hickory_store.specs.UpdateAnswers.{IsOutcome, applied, incremented, is_apex_soa, next_data, with_next_serial}
 use Rattle.hickory_store.proofs.ApexNs.{Records, Resource, and_left, names}
 use Rattle.hickory_store.proofs.NamesApart.{fold_by_name}
 use Rattle.hickory_store.proofs.RecordByRecord.{itself}
 use Rattle.hickory_store.proofs.SameZones.{Identity, name_respects, ttl_filter}
-use Rattle.zone_differences.specs.Standing.{are_among}
+use Rattle.zone_differences.specs.Standing.{IsChangedBy, are_among}
 use Rattle.zone_differences.specs.declared.names.NameRecords.{NameRecords}
 use Rattle.zone_differences.proofs.Naming.{among_equal}
 
@@ -96,26 +88,11 @@ module _ (identity : Identity) where
     by_change true changed is q apart = by_serial (list_any (is_apex_soa o) (fold o 1 z rs)) changed is q apart
     by_change false changed is q apart = sym (is.0 q)
 
-    by_refusal : (code : Option ℕ) (outcome : Outcome) (changed : Bool) → IsOutcome (unless_refused code outcome) records changed → (IsOutcome outcome records changed → Stays) → Stays
-    by_refusal None outcome changed is go = go is
-    by_refusal (Some code) outcome changed is go = absurd is
+  pub stays : (old new : MemoryZone) (updates : Records) (es : List NameRecords) → are_among es old.origin ≡ true → AllByRecursion (λ r. are_among es r.name ≡ true) updates → IsChangedBy updates old new
+      → (q : Resource) → are_among es q.name ≡ false → ttl_at (zone_records old.sets) q ≡ ttl_at (zone_records new.sets) q
+  stays old new updates es there spoken made =
+      let z : Records = zone_records old.sets in
+      by_change old.origin es updates z (zone_records new.sets) there spoken (any_change old.origin 1 z updates) true made.0
 
-  pub stays : {V : Type 0} (by : Ghosts V) (request : ReceivedRequest) (now : ℕ) (context : Option TSigResponseContext) (old new : UpdatableZone V) (es : List NameRecords)
-      → are_among es old.zone.origin ≡ true → AllByRecursion (λ r. are_among es r.name ≡ true) (update_of request.message).updates
-      → AnswersUpdate by old request now (Ok true) context new → (q : Resource) → are_among es q.name ≡ false → ttl_at (zone_records old.zone.sets) q ≡ ttl_at (zone_records new.zone.sets) q
-  stays by request now context old new es there spoken a =
-      let o : DomainName = old.zone.origin in
-      let z : Records = zone_records old.zone.sets in
-      let records : Records = zone_records new.zone.sets in
-      let message : UpdateMessage = update_of request.message in
-      let last : Outcome = applied o 1 z message.updates true in
-      let scan : Option ℕ = prescan_refusal o 1 message.updates in
-      let required : Option ℕ = prerequisites_refusal o 1 z message.prerequisites in
-      by_refusal o es message.updates z records there spoken (update_permission by old.verifier old.allow_update request now).refusal (unless_refused required (unless_refused scan last)) true a.0.0
-      (λ is. by_refusal o es message.updates z records there spoken required (unless_refused scan last) true is
-      (λ is. by_refusal o es message.updates z records there spoken scan last true is
-      (λ is. by_change o es message.updates z records there spoken (any_change o 1 z message.updates) true is)))
-
-  pub origin_kept : {V : Type 0} (by : Ghosts V) (request : ReceivedRequest) (now : ℕ) (context : Option TSigResponseContext) (old new : UpdatableZone V)
-      → AnswersUpdate by old request now (Ok true) context new → new.zone.origin ≡ old.zone.origin
-  origin_kept by request now context old new a = ap (λ (m : MemoryZone). m.origin) a.0.1
+pub origin_kept : (old new : MemoryZone) (updates : Records) → IsChangedBy updates old new → new.origin ≡ old.origin
+origin_kept old new updates made = ap (λ (m : MemoryZone). m.origin) made.1

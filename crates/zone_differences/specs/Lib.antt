@@ -2,3 +2,4 @@ pub mod Differences
 pub mod Histories
 pub mod Sequences
 pub mod Standing
+pub mod Versions

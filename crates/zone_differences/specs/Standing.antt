@@ -1,21 +1,18 @@
 -- What stands in a zone before an update, at the names that the update speaks of, and what leads from there to the zone that the update leaves.
-use Rattle.std.specs.Prelude.{◌≡◌, ◌∷◌, ℕ, All, Bool, true, List, [], filter, Option, Ok}
+use Rattle.std.specs.Prelude.{◌≡◌, ◌∷◌, All, Bool, true, IfOk, IfSome, List, [], filter, Option, Result, Ok}
 use Rattle.std.specs.List.{AllByRecursion, list_any}
+use Rattle.std.specs.declared.alloc.AllocError.{AllocError}
 use Rattle.wire_names.specs.rr.domain.DomainName.{DomainName}
 use Rattle.wire_names.specs.rr.domain.NameOrder.{name_eq}
 use Rattle.wire_messages.specs.declared.rr.rdata.RData.{RData}
 use Rattle.wire_messages.specs.declared.rr.record.Record.{Record}
-use Rattle.wire_messages.specs.declared.rr.tsig.TSigResponseContext.{TSigResponseContext}
-use Rattle.hickory_base.specs.requests.Requests.{ReceivedRequest}
-use Rattle.hickory_base.specs.requests.Updates.{update_of}
 use Rattle.hickory_base.specs.zone_store.ZoneAnswers.{MemoryZone}
 use Rattle.hickory_base.specs.zone_store.ZoneRecords.{rrset}
 use Rattle.hickory_base.specs.zone_store.ZoneSets.{zone_records}
 use Rattle.hickory_store.specs.NameUpdates.{of_name}
-use Rattle.hickory_store.specs.UpdatableZone.{UpdatableZone}
-use Rattle.hickory_store.specs.UpdateAnswers.{AnswersUpdate}
-use Rattle.hickory_store.specs.declared.sqlite.verifier.Verifier.{Ghosts}
+use Rattle.hickory_store.specs.UpdateAnswers.{Updates, applied}
 use Rattle.zone_differences.specs.Differences.{IsDifferenceOf, is_changed}
+use Rattle.zone_differences.specs.Histories.{IsRecorded}
 use Rattle.zone_differences.specs.declared.before.Before.{Before}
 use Rattle.zone_differences.specs.declared.difference.Difference.{Difference}
 use Rattle.zone_differences.specs.declared.names.NameRecords.{NameRecords}
@@ -46,8 +43,20 @@ went origin zone e = filter (is_changed origin e.records (of_name e.name zone)) 
 abbrev pub came : DomainName → List (Record RData) → NameRecords → List (Record RData)
 came origin zone e = filter (is_changed origin e.records (of_name e.name zone)) (of_name e.name zone)
 
--- This update may have left the zone `new`. Of each zone that it was made in, where that stood there before, the difference leads from that zone to this one.
-abbrev pub Leads : {V : Type 0} → Ghosts V → Before → UpdatableZone V → Difference → Type 0
-Leads {V} by before new difference =
-    (old : UpdatableZone V) (request : ReceivedRequest) (now : ℕ) (context : Option TSigResponseContext)
-    → IsBefore old.zone (update_of request.message).updates before → AnswersUpdate by old request now (Ok true) context new → IsDifferenceOf old.zone new.zone difference
+-- These records of an update section were done to the zone, and changed it (RFC 2136 sections 3.4.2 and 3.6).
+abbrev pub IsChangedBy : List (Record RData) → MemoryZone → MemoryZone → Type 0
+IsChangedBy updates old new = Updates (applied old.origin 1 (zone_records old.sets) updates true) (Ok true) old new
+
+-- An update may have left the zone `new`. Of each zone that it was made in, where that stood there before, the difference leads from that zone to this one.
+abbrev pub Leads : Before → MemoryZone → Difference → Type 0
+Leads before new difference =
+    (old : MemoryZone) (updates : List (Record RData)) → IsBefore old updates before → IsChangedBy updates old new → IsDifferenceOf old new difference
+
+-- what stood in a zone before an update of these records, if that is known
+abbrev pub IsKnown : MemoryZone → List (Record RData) → Result (Option Before) AllocError → Type 0
+IsKnown zone updates before = IfOk before (λ found. IfSome found (IsBefore zone updates))
+
+-- An update may have left the zone `new`. Of each zone that it was made in, where that stood there before, what it changed is recorded.
+abbrev pub Records : Result (Option Before) AllocError → MemoryZone → List Difference → List Difference → Type 0
+Records before new history after =
+    (old : MemoryZone) (updates : List (Record RData)) → IsKnown old updates before → IsChangedBy updates old new → IsRecorded old new history after

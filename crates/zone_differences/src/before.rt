@@ -10,7 +10,6 @@ use crate::difference::Difference;
 use crate::names::{NameRecords, apex_soa, push_name, push_names};
 use hickory_base::zone_store::{InMemoryZoneHandler, ZoneHandler};
 use hickory_store::sqlite::laws::identities;
-use hickory_store::sqlite::{SqliteZoneHandler, Verifier};
 use hickory_wire::{Items, Name, Record};
 use std::alloc::{AllocError, Global};
 
@@ -85,19 +84,19 @@ impl Before {
 
     /// What the update has changed, of the zone that it left; `None` where that has another number of SOA records at its apex than one. It takes memory for
     /// copies of the records that have changed, and time by the records of the names that the update speaks of, by the square of those of each.
-    pub fn until<V: Verifier>(
+    pub fn until(
         self,
         alloc: Global,
-        zone: &SqliteZoneHandler<V>,
+        zone: &InMemoryZoneHandler,
     ) -> Result<Option<Difference>, AllocError>
-        ensures { IfOk result (λ found. IfSome found (Leads V.Verifier self zone.now)) }
+        ensures { IfOk result (λ found. IfSome found (Leads self zone.now)) }
     {
         identities();
         let Before { soa, names } = self;
-        let Some(new_soa) = apex_soa(alloc, zone.in_memory())? else {
+        let Some(new_soa) = apex_soa(alloc, zone)? else {
             return Ok(None);
         };
-        let (deleted, added) = compare(alloc, zone.in_memory(), &names)?;
+        let (deleted, added) = compare(alloc, zone, &names)?;
         Ok(Some(Difference {
             old_soa: soa,
             deleted,

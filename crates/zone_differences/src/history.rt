@@ -4,9 +4,11 @@ ghost use Rattle.std.specs.Prelude.{◌++◌, ◌∷◌, ◌≡◌, ◌↔◌, I
 ghost use Rattle.hickory_base.specs.zone_store.ZoneAnswers.{soa_serial};
 ghost use Rattle.zone_differences.specs.Histories.{IsFollowed, since};
 ghost use Rattle.zone_differences.specs.Sequences.{with_differences};
+ghost use Rattle.zone_differences.specs.Standing.{Records};
 
+use crate::before::Before;
 use crate::difference::{Difference, push_copies, push_sequences};
-use hickory_base::zone_store::ZoneTransfer;
+use hickory_base::zone_store::{InMemoryZoneHandler, ZoneTransfer};
 use hickory_wire::{Items, RData, Record};
 use std::alloc::{AllocError, Global};
 use std::marker::Model;
@@ -43,21 +45,29 @@ fn serial_of(soa: &Record) -> u32
     }
 }
 
-/// The differences from the first on that leads from the version of a serial.
+/// The differences from the last on that leads from a version of a serial.
 fn since(differences: &[Difference], serial: u32) -> &[Difference]
     ensures { result.now ≡ since serial differences.now }
 {
+    let mut found: &[Difference] = &[];
     let mut rest = differences;
     while let [difference, others @ ..] = rest {
         if serial_of(&difference.old_soa) == serial {
-            return rest;
+            found = rest;
         }
         rest = others;
     }
-    rest
+    found
 }
 
 impl History {
+    /// How many records of transfers are to be kept of a zone, twice, so that the differences are no longer than the zone (RFC 1995 section 5): half as many as
+    /// it has record sets, and so many at least.
+    pub fn limit_of(zone: &InMemoryZoneHandler, least: usize) -> usize {
+        let half = zone.records().len() / 2;
+        half.max(least)
+    }
+
     /// A history without differences, which keeps so many records of transfers at most, twice. It takes no memory.
     pub fn new(alloc: Global, limit: usize) -> History
         ensures { result ≡ [] }
@@ -106,17 +116,38 @@ impl History {
         }
     }
 
-    /// The differences that lead from the version of a serial to the zone as it is; none where no difference leads from there. It takes time by the number of
-    /// differences.
+    /// Puts what an update has changed of a zone last, of what stood there before it and the zone that it left. Where that is not known, all differences are
+    /// given up.
+    pub fn follow(
+        &mut self,
+        alloc: Global,
+        before: Result<Option<Before>, AllocError>,
+        zone: &InMemoryZoneHandler,
+    )
+        ensures { Records before zone.now self.old self.new }
+    {
+        let Ok(Some(before)) = before else {
+            self.clear(alloc);
+            return;
+        };
+        match before.until(alloc, zone) {
+            Ok(Some(difference)) => self.push(alloc, difference),
+            _ => self.clear(alloc),
+        }
+    }
+
+    /// The differences that lead from the version of a serial to the zone as it is, from the newest one where there are several; none where no difference leads
+    /// from there. It takes time by the number of differences.
     pub fn since(&self, serial: u32) -> Steps<'_>
         ensures { result.older.now ++ result.newer.now ≡ since serial self.now }
     {
+        let newer = since(&self.newer, serial);
+        if !newer.is_empty() {
+            return Steps { older: &[], newer };
+        }
         let older = since(&self.older, serial);
         if older.is_empty() {
-            return Steps {
-                older,
-                newer: since(&self.newer, serial),
-            };
+            return Steps::none();
         }
         Steps {
             older,

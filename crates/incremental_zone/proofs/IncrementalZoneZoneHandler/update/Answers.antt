@@ -15,9 +15,9 @@ returns-clause-gives g c =
       | then-has_changed w ↦
           subst (λ (z : VersionedZone g.row.V.Denot). Updates g.V.Verifier old c.args.request.now c.args.now c.update-answer.result.0 c.update-answer.result.1 z) (sym w.self-is) (
             c.update-answer.ensures.gives,
-            changed_history g.V.Verifier c.self.inside.zone c.update-answer.new.self w.updatable-then-has_changed.result.now c.args.request.now c.args.now c.update-answer.result.0 c.update-answer.result.1
-                c.of-before.result c.self.inside.history w.follow.new.history c.in_memory.result.now c.updates-updates.result.now c.update-answer.ensures.gives (c.has_changed.ensures.0 w.if-has_changed.true)
-                w.updatable-then-has_changed.ensures (c.in_memory.ensures ∙ ap (λ (u : UpdatableZone g.row.V.Denot). u.zone) c.updatable.ensures)
+            changed_history g.V.Verifier c.self.inside.zone c.update-answer.new.self w.in_memory-zone.result.now c.args.request.now c.args.now c.update-answer.result.0 c.update-answer.result.1
+                c.of-before.result c.self.inside.history w.follow.new.self c.in_memory.result.now c.updates-updates.result.now c.update-answer.ensures.gives (c.has_changed.ensures.0 w.if-has_changed.true)
+                (w.in_memory-zone.ensures ∙ ap (λ (u : UpdatableZone g.row.V.Denot). u.zone) w.updatable-then-has_changed.ensures) (c.in_memory.ensures ∙ ap (λ (u : UpdatableZone g.row.V.Denot). u.zone) c.updatable.ensures)
                 (c.updates-updates.ensures ∙ ap (λ (m : MessageRequest). m.authorities) c.message.ensures) c.of-before.ensures w.follow.ensures,
           )
       | else-has_changed w ↦

@@ -1,5 +1,5 @@
 -- By what is so of the zone inside, which an update outside the rules leaves as it is.
-use Rattle.std.proofs.Common.{◌≡◌, ◌⊎◌, ◌∷◌, inl, inr, subst, sym, ℕ, Bool, List, [], Option, Result}
+use Rattle.std.proofs.Common.{◌≡◌, ◌⊎◌, ◌∷◌, inl, inr, subst, sym, ℕ, Bool, List, Option, Result}
 use Rattle.wire_messages.specs.declared.rr.tsig.TSigResponseContext.{TSigResponseContext}
 use Rattle.hickory_base.specs.requests.Requests.{ReceivedRequest}
 use Rattle.hickory_base.specs.zone_store.ZoneAnswers.{MemoryZone}
@@ -8,7 +8,7 @@ use Rattle.hickory_store.specs.declared.sqlite.verifier.Verifier.{Ghosts}
 use Rattle.zone_differences.specs.declared.difference.Difference.{Difference}
 use Rattle.incremental_zone.specs.IncrementalZones.{now_of}
 use Rattle.incremental_zone.specs.Versions as inner
-use Rattle.incremental_zone.specs.Versions.{IsAmong, LeadFrom}
+use Rattle.zone_differences.specs.Versions.{IsAmong, LeadFrom}
 use Rattle.served_updates.specs.UpdatedZones.{Updates}
 use Rattle.served_updates.specs.UpdatedZones.Updates.{granted, outside}
 use Rattle.served_updates.specs.Versions.{DifferencesLead, Serves}
@@ -44,11 +44,11 @@ module _ {V : Type 0} (D : Type 0) (by : Ghosts V) where
   }
 
   inside_of : (first zone : UpdatedZone V D) (versions : List MemoryZone) → Serves D by first versions zone → Inside first versions zone
-  inside_of first zone [] (begun none) = record { had = []; serves = inner.begun none; among = λ z is. is }
+  inside_of first zone versions (begun led) = record { had = versions; serves = inner.begun led; among = λ z is. is }
   inside_of first zone versions (answered {versions = earlier} {old = old} request now answer context so_far u) =
       step first old zone earlier request now answer context (inside_of first old earlier so_far) u
 
-  wider : (had versions : List MemoryZone) (d : Difference) (ds : List Difference) (zone : MemoryZone) → AreAmong had versions → LeadFrom by had d ds zone → LeadFrom by versions d ds zone
+  wider : (had versions : List MemoryZone) (d : Difference) (ds : List Difference) (zone : MemoryZone) → AreAmong had versions → LeadFrom had d ds zone → LeadFrom versions d ds zone
   wider had versions d ds zone among l = record { version = l.version; is_one = among l.version l.is_one; soa = l.soa; lead = l.lead }
 
   follow : inner.DifferencesLead by → DifferencesLead D by

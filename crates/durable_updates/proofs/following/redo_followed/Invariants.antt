@@ -1,0 +1,13 @@
+-- The entries so far are done, and followed.
+use Rattle.std.proofs.Common.{◌≡◌, ◌++◌, List, ℕ, length}
+use Rattle.update_journal.specs.Read.{contents}
+use Rattle.durable_updates.specs.Redone.{Redone}
+use Rattle.durable_updates.specs.Versions.{AreLed}
+use Rattle.durable_updates.proofs.following.redo_followed.Given as goal
+
+abbrev pub invariant-loop-rest : goal.invariant-loop-rest
+invariant-loop-rest g l = (done : List (List ℕ)) × (contents l.fn.entries ≡ done ++ contents l.rest) × Redone done l.fn.zone.zone l.zone.zone
+    × AreLed (λ front version. Redone front l.fn.zone.zone version) (contents l.fn.entries) l.history l.zone.zone × (l.zone ≡ record l.fn.zone { zone = l.zone.zone })
+
+abbrev pub decreases-loop-rest : goal.decreases-loop-rest
+decreases-loop-rest g l = length l.rest
