@@ -1,9 +1,10 @@
 -- A zone that is turned into another one by entries of its journal.
-use Rattle.std.specs.Prelude.{◌≡◌, ◌⊎◌, ℕ, List}
+use Rattle.std.specs.Prelude.{◌≡◌, ◌⊎◌, ℕ, Bool, List}
 use Rattle.wire_messages.specs.declared.rr.rdata.RData.{RData}
 use Rattle.wire_messages.specs.declared.rr.rdata.RData.TheVariants as rdata
 use Rattle.wire_messages.specs.declared.rr.record.Record.{Record}
-use Rattle.hickory_base.specs.zone_store.ZoneAnswers.{MemoryZone}
+use Rattle.hickory_base.specs.zone_store.Serials.{is_greater}
+use Rattle.hickory_base.specs.zone_store.ZoneAnswers.{MemoryZone, soa_serial, zone_soa}
 use Rattle.hickory_base.specs.zone_store.ZoneSets.{zone_records}
 use Rattle.hickory_store.specs.Identity.{SameZone}
 use Rattle.sqlite_disk.specs.declared.Disk.{Ghosts as DiskGhosts}
@@ -23,6 +24,14 @@ numbered serial r = record r { rdata = numbered_data serial r.rdata }
 -- Each record of the one is in the other, with the same TTL (RFC 2136 section 1.1).
 abbrev pub AreSame : MemoryZone → MemoryZone → Type 0
 AreSame zone other = SameZone (zone_records zone.sets) (zone_records other.sets)
+
+-- the serial of the SOA record at the apex, 0 without one
+abbrev pub serial_of : MemoryZone → ℕ
+serial_of zone = soa_serial (zone_soa zone)
+
+-- the serial of the other zone is above that of the zone (RFC 1982 section 3.2)
+abbrev pub is_above : MemoryZone → MemoryZone → Bool
+is_above other zone = is_greater (serial_of other) (serial_of zone)
 
 -- The file stands for entries that make of the first zone the old one, or one that is the same as the other.
 pub record LeavesEither (first old other : MemoryZone) (file : List ℕ) : Type 0 where

@@ -1,11 +1,10 @@
 //! A zone with its journal, turned into another zone.
 
 ghost use Rattle.std.specs.Prelude.{◌≡◌, ◌⊎◌, ℕ, List, Err, IfErr, IfOk, OnErr, OnOk, false, length, true};
-ghost use Rattle.hickory_base.specs.zone_store.Serials.{is_greater};
-ghost use Rattle.hickory_base.specs.zone_store.ZoneAnswers.{MemoryZone, soa_serial, zone_soa};
+ghost use Rattle.hickory_base.specs.zone_store.ZoneAnswers.{MemoryZone};
 ghost use Rattle.update_journal.specs.Read.{contents};
 ghost use Rattle.durable_updates.specs.Redone.{Redone};
-ghost use Rattle.zone_import.specs.Imports.{AreSame, Keeps, LeavesEither};
+ghost use Rattle.zone_import.specs.Imports.{AreSame, Keeps, LeavesEither, is_above, serial_of};
 ghost use Rattle.zone_import.specs.declared.error.ImportError.TheVariants as import_error;
 
 use crate::changes::Changes;
@@ -78,8 +77,8 @@ fn planned(
     zone: &InMemoryZoneHandler,
     other: &InMemoryZoneHandler,
 ) -> Result<Plan, ImportError>
-    ensures serial { result ≡ Err import_error.Serial → is_greater (soa_serial (zone_soa other.now)) (soa_serial (zone_soa zone.now)) ≡ false }
-    ensures above { IfOk result (λ plan. (length plan.entries.items ≡ 0) ⊎ (is_greater (soa_serial (zone_soa other.now)) (soa_serial (zone_soa zone.now)) ≡ true)) }
+    ensures serial { result ≡ Err import_error.Serial → is_above other.now zone.now ≡ false }
+    ensures above { IfOk result (λ plan. (length plan.entries.items ≡ 0) ⊎ (is_above other.now zone.now ≡ true)) }
 {
     if is_same_zone(alloc, zone, other)? {
         return Ok(Plan {
@@ -133,9 +132,10 @@ pub fn import<V: Verifier, D: Disk>(
     ensures same { OnOk result (AreSame zone.new.zone other.now) }
     ensures kept { OnErr result (zone.new ≡ zone.old) }
     ensures others { zone.new ≡ record zone.old { zone = record zone.old.zone { sets = zone.new.zone.sets } } }
-    ensures serials { IfOk result (λ done. (done.old_serial ≡ soa_serial (zone_soa zone.old.zone)) × (done.new_serial ≡ soa_serial (zone_soa other.now))) }
-    ensures serial { result ≡ Err import_error.Serial → is_greater (soa_serial (zone_soa other.now)) (soa_serial (zone_soa zone.old.zone)) ≡ false }
-    ensures above { IfOk result (λ done. (done.requests ≡ 0) ⊎ (is_greater done.new_serial done.old_serial ≡ true)) }
+    ensures serials { IfOk result (λ done. (done.old_serial ≡ serial_of zone.old.zone) × (done.new_serial ≡ serial_of other.now)) }
+    ensures serial { result ≡ Err import_error.Serial → is_above other.now zone.old.zone ≡ false }
+    ensures above { IfOk result (λ done. (done.requests ≡ 0) ⊎ (is_above other.now zone.old.zone ≡ true)) }
+    // Entries that are on the disk, and make the zone of some first one, make the zone that it is then.
     ensures acknowledged { OnOk result ((first : MemoryZone) → Keeps D.Disk first zone.old.zone journal.old → Keeps D.Disk first zone.new.zone journal.new) }
     ensures refused { OnErr result ((journal.new ≡ journal.old) ⊎ ((journal.old.is_open ≡ true) × (journal.new.is_open ≡ false))) }
     ensures clean { D.is_clean journal.new.disk ≡ D.is_clean journal.old.disk }
