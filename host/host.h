@@ -100,8 +100,8 @@ struct sockets {
 int adopted_sockets(void);
 int open_sockets(struct sockets *sockets);
 
-/* worker.c: work serves until SIGTERM, then lets its connections end; it opens the file of the log anew. wait_for has it
- * wait for these events of a descriptor, or for none: 0, or -1. */
+/* worker.c: work serves until SIGTERM, then lets its connections end; it opens the file of the log anew. wait_for has
+ * it wait for these events of a descriptor, or for none: 0, or -1. */
 extern uint64_t now, moment; /* of events at hand: seconds since 1970, and milliseconds of a clock that is never set */
 int work(struct sockets *sockets);
 int wait_for(struct watch *watch, uint32_t events);
