@@ -1108,6 +1108,29 @@ def try_configuration(folder, zone, port):
         host.send_signal(signal.SIGTERM)
         said = host.communicate(timeout=10)[1]
         want("what was wrong is told, and it ends", host.returncode == 0 and said.count("there is no option") == 2)
+    try_two_configurations(folder, zone, port)
+
+
+def try_two_configurations(folder, zone, port):
+    """Of two files, of which the second is not taken any more, both say on what they said before."""
+    paths = [os.path.join(folder, name) for name in ("first.toml", "second.toml")]
+
+    def write(log, second):
+        for path, text in zip(paths, (f'query-log = "{folder}/{log}"\nlisten = "127.0.0.1@{port}"\nzone = "example.com={zone}"\n', second)):
+            with open(path, "w") as it:
+                it.write(text)
+
+    write("log-one", 'nsid = "here"\n')
+    with subprocess.Popen([ZONED, "--config", paths[0], "--config", paths[1]], stderr=subprocess.DEVNULL) as host:
+        want("it is ready by two configurations", wait_for(port))
+        write("log-two", "no-option = 1\n")
+        host.send_signal(signal.SIGHUP)
+        time.sleep(0.7)
+        os.kill(children(host.pid)[0], signal.SIGKILL)
+        time.sleep(1.5)
+        want("a worker that begins behind a reload that was not taken has the settings of before", wait_for(port) and not os.path.exists(f"{folder}/log-two"))
+        host.terminate()
+        want("and it ends", host.wait(15) == 0)
 
 
 def main():
