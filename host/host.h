@@ -3,59 +3,115 @@
 
 #include "zone_service.h"
 
+#include <arpa/inet.h>
 #include <err.h>
 #include <errno.h>
+#include <fcntl.h>
+#include <grp.h>
+#include <netdb.h>
+#include <netinet/in.h>
+#include <netinet/tcp.h>
+#include <poll.h>
+#include <pwd.h>
+#include <signal.h>
 #include <stdio.h>
 #include <stdlib.h>
 #include <string.h>
+#include <sys/epoll.h>
+#include <sys/mman.h>
+#include <sys/prctl.h>
+#include <sys/queue.h>
+#include <sys/signalfd.h>
 #include <sys/socket.h>
+#include <sys/stat.h>
+#include <sys/un.h>
+#include <sys/wait.h>
+#include <time.h>
 #include <unistd.h>
 
 #define MOST_SOCKETS 32
 #define MOST_GIVEN 4096
 #define MOST_WORKERS 64
 
+/* Options with a number. */
+enum number {
+    NO_NUMBER,
+    MAX_UDP,    /* bytes of a reply over UDP */
+    WORKERS,    /* processes that serve */
+    LOG_EVERY,  /* one in so many queries is told */
+    RATE,       /* replies over UDP a second and network */
+    SLIP,       /* of those above it each so many says TC */
+    TCP_IDLE,   /* seconds */
+    TCP_MOST,   /* connections a worker */
+    TCP_CLIENT, /* connections a client and worker */
+    NUMBERS
+};
+
+/* An option: a number that is set within bounds, or a text. The library is told of a text by set as it is, by set_pair
+ * of the two parts of NAME=TEXT; of one that names a file, what is in the file. A zone_serve is told of all texts that
+ * are not of zoned alone. */
+struct option {
+    const char *name, *says;
+    uint32_t (*set)(zone_service *, const uint8_t *, size_t, uint8_t *, size_t, size_t *);
+    uint32_t (*set_pair)(zone_service *, const uint8_t *, size_t, const uint8_t *, size_t, uint8_t *, size_t, size_t *);
+    bool is_file, is_own;
+    enum number number;
+    int least, most, usual;
+};
+
+/* What zoned is told, and the server that the library made of it. */
 struct settings {
     struct given {
-        const char *option, *text;
+        const struct option *option;
+        const char *text;
     } given[MOST_GIVEN]; /* options with a text, in their order */
-    int count;
-    int max_udp, workers;               /* bytes of a reply over UDP; processes that serve */
-    int log_every;                      /* one in so many queries is told */
-    int rate_limit, rate_slip;          /* replies over UDP a second and network; of those above it each so many says TC */
-    int tcp_idle, tcp_most, tcp_client; /* seconds; connections a worker; connections a client and worker */
+    int count, numbers[NUMBERS];
+    bool is_check;        /* the files are only to be read */
+    zone_service service; /* at NULL where there is none */
+    size_t used;
+    char room[1 << 20]; /* whose front has what configuration files say */
 };
+extern struct settings *settings;
 
-/* The sockets of a worker, for datagrams and for connections. */
-struct sockets {
-    struct socket {
-        int fd;
-        bool is_stream;
-    } all[MOST_SOCKETS];
-    int count;
-};
-
-extern struct settings settings;
-
-/* settings.c: given tells the text of an option, the last where there are several, or NULL. read_arguments has the settings say what arguments do, where sockets
- * may have been opened and so many workers run: whether the files are only to be read, or -1; forget_arguments has them say what they said before. load makes the
- * server that they ask for, of their files: 0, or -1. Each -1 comes with a line on the standard error. */
+/* settings.c: given tells the text of an option, the last where there are several, or NULL. read_arguments puts new
+ * settings into the place of those before, which stay, and keeps their number of workers, if there are any; load makes
+ * the server that the settings ask for, of their files. Both are 0, or -1 with a line on the standard error. forget
+ * frees settings. */
 const char *given(const char *option);
-int read_arguments(char **arguments, bool is_adopted, int running);
-void forget_arguments(void);
-int load(zone_service *service);
+int read_arguments(char **arguments);
+int load(void);
+void forget(struct settings *old);
 
-/* sockets.c: adopt takes those that systemd has opened: how many they are, or -1. */
+/* What a worker waits for, and what it does with the events that came. */
+struct watch {
+    int fd;
+    void (*ready)(struct watch *);
+    uint32_t events, came; /* those waited for, which wait_for keeps, and those that came */
+};
+
+/* The sockets of a worker, and what else it waits for all the time. */
+struct sockets {
+    struct watch all[MOST_SOCKETS + 2];
+    int count;
+};
+
+/* sockets.c: how many sockets systemd has opened. open takes these, and opens those at given addresses: 0, or -1 with a
+ * line on the standard error. */
+int adopted_sockets(void);
 int open_sockets(struct sockets *sockets);
-int adopt_sockets(struct sockets *sockets);
 
-/* worker.c: serves until SIGTERM, then lets its connections end. statistics is a listener, or less than 0. The file of the log is opened anew. */
-int work(const struct sockets *sockets, int statistics, zone_service *service);
+/* worker.c: work serves until SIGTERM, then lets its connections end; it opens the file of the log anew. wait_for has
+ * it wait for these events of a descriptor, or for none: 0, or -1. */
+extern uint64_t now, moment; /* of events at hand: seconds since 1970, and milliseconds of a clock that is never set */
+int work(struct sockets *sockets);
+int wait_for(struct watch *watch, uint32_t events);
 
-/* statistics.c: begin makes the socket where they are told, add has what a server counted since the last time, tell answers a client. */
-int statistics_begin(const char *path);
-void statistics_add(zone_service *service);
-void statistics_tell(int listener);
+/* statistics.c: begin makes the socket where they are told, if they are to be: 0, or -1 with a line on the standard
+ * error. add has what the server counted since the last time, tell answers a client. */
+extern int statistics; /* that socket, or less than 0 */
+int statistics_begin(void);
+void statistics_add(void);
+void statistics_tell(struct watch *listener);
 
 /* The bytes of an address. */
 struct source {
@@ -65,26 +121,28 @@ struct source {
 };
 struct source source_of(const struct sockaddr_storage *address);
 
-/* relay.c: where zones have journals, begin starts the process that answers, once the one before has ended, and waits until it does: 0, or -1 with a line on the
- * standard error. leave has nobody but the worker ask it, and has_ended says whether it is what has ended. answer, answer_stream and take are those of
- * zone_service.h, by that process where there is one; with it, take may find that nothing waits any more. */
+/* relay.c: where zones have journals, begin starts the process that answers, once the one before has ended, and waits
+ * until it does: 0, or -1 with a line on the standard error. leave has nobody but the worker ask it. answer,
+ * answer_stream and take are those of zone_service.h, by that process where there is one; with it, take may find that
+ * nothing waits any more. relay_statistics has its statistics told: how many bytes they are. */
+extern pid_t serving; /* that process, or 0; whoever waits for its end sets it to 0 */
 int relay_begin(void);
 void relay_leave(void);
-bool relay_has_ended(pid_t ended);
-uint32_t answer(zone_service *service, const uint8_t *message, size_t len, const struct source *source, bool stream, uint64_t now, uint8_t *out, size_t room,
+uint32_t answer(const uint8_t *message, size_t len, const struct source *source, bool stream, uint8_t *out, size_t room,
                 size_t *written, size_t *waiting);
-uint32_t answer_stream(zone_service *service, const uint8_t *bytes, size_t len, const struct source *source, uint64_t now, uint8_t *out, size_t room, size_t *taken,
-                       size_t *written, size_t *waiting);
-size_t take(zone_service *service, uint8_t *out, size_t room, size_t *waiting);
+uint32_t answer_stream(const uint8_t *bytes, size_t len, const struct source *source, uint8_t *out, size_t room,
+                       size_t *taken, size_t *written, size_t *waiting);
+size_t take(uint8_t *out, size_t room, size_t *waiting);
+size_t relay_statistics(uint8_t *out, size_t room);
 
 /* udp.c: answers what waits at a socket. */
-void udp_serve(int fd, zone_service *service, uint64_t now);
+void udp_ready(struct watch *socket);
 
-/* tcp.c */
-extern int tcp_epoll, tcp_count; /* where connections are waited for, and how many there are */
-void tcp_accept(int listener, uint64_t moment);
-void tcp_ready(void *connection, uint32_t events, zone_service *service, uint64_t now, uint64_t moment);
-int tcp_expire(uint64_t moment); /* milliseconds until the next connection is too old, or -1 */
+/* tcp.c: how many connections there are; accept takes one that waits; expire closes those that are too old or too many:
+ * milliseconds until the next one is too old, or -1. */
+extern int tcp_count;
+void tcp_accept(struct watch *listener);
+int tcp_expire(void);
 
 /* Tells what is wrong in a line on the standard error; -1. */
 #define complain(...) (warnx(__VA_ARGS__), -1)

@@ -1,112 +1,124 @@
-/* Zones with journals: a process zone_serve has them, proved down to the files that it writes, and answers every message. The parent begins it before the worker, which
- * hands it messages as lines, one at a time, and takes back what it answers (docs/ZONE_SERVE.md, the mode lines). Where one of the two ends, so does the other. Where no
- * zone has a journal there is no such process, and the library answers. */
+/* Zones with journals: a process zone_serve has them, proved down to the files that it writes, and answers every
+ * message. The parent begins it before the worker, which hands it messages as lines, one at a time, and takes back what
+ * it answers (docs/ZONE_SERVE.md, the mode lines). Where one of the two ends, so does the other. Where no zone has a
+ * journal there is no such process, and the library answers. */
 #include "host.h"
-
-#include <arpa/inet.h>
-#include <signal.h>
-#include <sys/wait.h>
 
 #define MESSAGE 65535
 #define DIGITS "0123456789abcdef"
 
-static pid_t serving;   /* the process, or 0 */
-static FILE *served;    /* by which it is asked and answers, or NULL */
+pid_t serving;
+static int asked = -1;  /* where it is asked and answers, or less than 0 */
 static char *line;      /* the last line that it told, without its end */
-static bool is_pending; /* more lines may come that answer the last message */
+static bool is_pending; /* more lines come that answer what it was asked: not behind an empty one, or a word */
 
-/* Becomes the process, which has this end for its input and output. Signals that the parent waits for stay blocked: it ends once nobody has the other end. */
-static void become(int end)
-{
-    static const char *const passed[] = {"--zone", "--blocklist", "--allow", "--deny", "--allow-transfer", "--deny-transfer", "--keys", "--allow-transfer-key",
-                                         "--allow-update", "--journal", "--nsid"};
-    static char *words[2 * MOST_GIVEN + 5], number[16];
+/* Becomes the process, which has this end for its input and output. Signals that the parent waits for stay blocked: it
+ * ends once nobody has the other end. */
+static void become(int end) {
+    static const char *words[2 * MOST_GIVEN + 5];
+    char number[16];
     int count = 0;
-    words[count++] = (char *)(given("zone-serve") != NULL ? given("zone-serve") : "zone_serve");
-    for (const struct given *g = settings.given; g < settings.given + settings.count; g++)
-        for (size_t p = 0; p < sizeof passed / sizeof *passed; p++)
-            if (strcmp(passed[p] + 2, g->option) == 0) {
-                words[count++] = (char *)passed[p];
-                words[count++] = (char *)g->text;
-            }
-    snprintf(number, sizeof number, "%d", settings.max_udp);
+    words[count++] = given("--zone-serve") != NULL ? given("--zone-serve") : "zone_serve";
+    for (const struct given *g = settings->given; g < settings->given + settings->count; g++)
+        if (!g->option->is_own) {
+            words[count++] = g->option->name;
+            words[count++] = g->text;
+        }
+    snprintf(number, sizeof number, "%d", settings->numbers[MAX_UDP]);
     words[count++] = "--max-udp";
     words[count++] = number;
     words[count] = "lines";
     signal(SIGXFSZ, SIG_IGN); /* a write beyond the limit of files is to fail */
     if (dup2(end, 0) == 0 && dup2(end, 1) == 1)
-        execvp(words[0], words);
+        execvp(words[0], (char *const *)words);
     warn("%s", words[0]);
     _exit(1);
 }
 
-/* Reads the next line that it tells: whether there is one. */
-static bool read_line(void)
-{
-    static size_t room;
-    ssize_t len = getline(&line, &room, served);
-    if (len <= 0 || len > 2 * MESSAGE + 1 || line[len - 1] != '\n')
-        return false;
-    line[len - 1] = 0;
-    return true;
-}
-
-void relay_leave(void)
-{
-    if (served != NULL)
-        fclose(served);
-    served = NULL;
+void relay_leave(void) {
+    if (asked >= 0)
+        close(asked);
+    asked = -1;
 }
 
 /* Ends the process, and waits until it has ended: its journals are free then. */
-static void end(void)
-{
+static void end(void) {
     if (serving > 0 && kill(serving, SIGKILL) == 0)
         waitpid(serving, NULL, 0);
     serving = 0;
     relay_leave();
 }
 
-int relay_begin(void)
-{
+int relay_begin(void) {
     static const char first[] = "udp 127.0.0.1 000080000000000000000000\n"; /* a response, of which it tells one line */
+    char told;
     int ends[2];
     end();
-    if (given("journal") == NULL)
+    if (given("--journal") == NULL)
         return 0;
     if (socketpair(AF_UNIX, SOCK_STREAM | SOCK_CLOEXEC, 0, ends) != 0)
         return complain("a pair of sockets: %s", strerror(errno));
-    served = fdopen(ends[0], "r");
-    bool is_asked = served != NULL && write(ends[0], first, sizeof first - 1) == sizeof first - 1;
-    serving = is_asked ? fork() : -1;
+    asked = ends[0];
+    is_pending = write(asked, first, sizeof first - 1) == sizeof first - 1;
+    serving = is_pending ? fork() : -1;
     if (serving == 0)
         become(ends[1]);
     close(ends[1]);
-    if (serving > 0 && read_line())
+    if (serving > 0 && recv(asked, &told, 1, MSG_PEEK) == 1)
         return 0;
     end();
     return complain("zone_serve does not begin");
 }
 
-bool relay_has_ended(pid_t ended)
-{
-    if (ended != serving)
-        return false;
-    serving = 0;
-    return true;
-}
-
 /* Reads the next line, or ends with the process that is asked. */
-static void hear(void)
-{
-    if (!read_line())
+static void hear(void) {
+    static FILE *served;
+    static size_t room;
+    if (served == NULL)
+        served = fdopen(asked, "r");
+    ssize_t len = served != NULL ? getline(&line, &room, served) : -1;
+    if (len <= 0 || len > 2 * MESSAGE + 1 || line[len - 1] != '\n')
         _exit(1);
+    line[len - 1] = 0;
+    is_pending = len > 1 && (*line == '#' || *line == 'z' || line[strspn(line, DIGITS)] == 0);
 }
 
-static void ask(const uint8_t *message, size_t len, const struct source *source, bool stream)
-{
+/* Asks a line, once what nobody took of the answer before is let go. */
+static void ask(const char *text, size_t len) {
+    while (is_pending)
+        hear();
+    if (send(asked, text, len, MSG_NOSIGNAL) != (ssize_t)len)
+        _exit(1);
+    is_pending = true;
+}
+
+static int value(char digit) {
+    return digit <= '9' ? digit - '0' : digit - 'a' + 10;
+}
+
+/* Puts the reply of the next line behind its length: how many bytes, or 0 where no reply comes any more. */
+static size_t take_reply(uint8_t *frame) {
+    hear();
+    if (!is_pending)
+        return 0;
+    size_t len = strlen(line) / 2;
+    frame[0] = (uint8_t)(len >> 8);
+    frame[1] = (uint8_t)len;
+    for (size_t i = 0; i < len; i++)
+        frame[2 + i] = (uint8_t)(value(line[2 * i]) << 4 | value(line[2 * i + 1]));
+    return 2 + len;
+}
+
+uint32_t answer(const uint8_t *message, size_t len, const struct source *source, bool stream, uint8_t *out, size_t room,
+                size_t *written, size_t *waiting) {
     static char text[2 * MESSAGE + 64];
     char address[INET6_ADDRSTRLEN];
+    if (asked < 0)
+        return zone_service_answer(&settings->service, message, len, source->bytes, source->len, source->port, stream,
+                                   now, out, room, written, waiting);
+    *written = *waiting = 0;
+    if (len == 0)
+        return ZONE_SERVICE_UNREADABLE;
     inet_ntop(source->len == 4 ? AF_INET : AF_INET6, source->bytes, address, sizeof address);
     size_t used = (size_t)snprintf(text, sizeof text, "%s %s ", stream ? "tcp" : "udp", address);
     for (size_t i = 0; i < len; i++) {
@@ -114,77 +126,41 @@ static void ask(const uint8_t *message, size_t len, const struct source *source,
         text[used++] = DIGITS[message[i] & 15];
     }
     text[used++] = '\n';
-    if (send(fileno(served), text, used, MSG_NOSIGNAL) != (ssize_t)used)
-        _exit(1);
-}
-
-static int value(char digit)
-{
-    return digit <= '9' ? digit - '0' : digit - 'a' + 10;
-}
-
-/* Takes replies, each behind its length, as many as there is room for. An empty line is behind the last; a word stands for a message that has none. */
-static uint32_t take_replies(uint8_t *out, size_t room, size_t *written, size_t *waiting)
-{
-    uint32_t told = ZONE_SERVICE_DONE;
-    for (*written = 0; is_pending && room - *written >= ZONE_SERVICE_FRAME;) {
-        hear();
-        size_t len = strspn(line, DIGITS) / 2;
-        told = line[2 * len] == 0 ? ZONE_SERVICE_DONE : ZONE_SERVICE_UNREADABLE;
-        is_pending = told == ZONE_SERVICE_DONE && len > 0;
-        if (!is_pending)
-            break;
-        uint8_t *frame = out + *written;
-        frame[0] = (uint8_t)(len >> 8);
-        frame[1] = (uint8_t)len;
-        for (size_t i = 0; i < len; i++)
-            frame[2 + i] = (uint8_t)(value(line[2 * i]) << 4 | value(line[2 * i + 1]));
-        *written += 2 + len;
-    }
+    ask(text, used);
+    *written = take_reply(out);
     *waiting = is_pending;
-    return told;
+    return *line == 0 || is_pending ? ZONE_SERVICE_DONE : ZONE_SERVICE_UNREADABLE;
 }
 
-uint32_t answer(zone_service *service, const uint8_t *message, size_t len, const struct source *source, bool stream, uint64_t now, uint8_t *out, size_t room,
-                size_t *written, size_t *waiting)
-{
-    if (served == NULL)
-        return zone_service_answer(service, message, len, source->bytes, source->len, source->port, stream, now, out, room, written, waiting);
-    /* Replies that nobody took are let go. */
-    for (; is_pending; is_pending = *line != 0)
-        hear();
-    *written = *waiting = 0;
-    if (len == 0)
-        return ZONE_SERVICE_UNREADABLE;
-    ask(message, len, source, stream);
-    is_pending = true;
-    return take_replies(out, room, written, waiting);
-}
-
-uint32_t answer_stream(zone_service *service, const uint8_t *bytes, size_t len, const struct source *source, uint64_t now, uint8_t *out, size_t room, size_t *taken,
-                       size_t *written, size_t *waiting)
-{
-    uint32_t told = ZONE_SERVICE_DONE;
-    if (served == NULL)
-        return zone_service_answer_stream(service, bytes, len, source->bytes, source->len, source->port, now, out, room, taken, written, waiting);
+uint32_t answer_stream(const uint8_t *bytes, size_t len, const struct source *source, uint8_t *out, size_t room,
+                       size_t *taken, size_t *written, size_t *waiting) {
+    if (asked < 0)
+        return zone_service_answer_stream(&settings->service, bytes, len, source->bytes, source->len, source->port, now,
+                                          out, room, taken, written, waiting);
     *taken = *written = *waiting = 0;
-    while (told == ZONE_SERVICE_DONE && *waiting == 0 && len - *taken >= 2 && room - *written >= ZONE_SERVICE_FRAME) {
-        const uint8_t *message = bytes + *taken + 2;
-        size_t message_len = (size_t)message[-2] << 8 | message[-1], put;
-        if (len - *taken - 2 < message_len)
-            break;
-        told = answer(service, message, message_len, source, true, now, out + *written, room - *written, &put, waiting);
-        *taken += 2 + message_len;
-        *written += put;
-    }
-    return told;
+    size_t whole = len < 2 ? 2 : 2 + ((size_t)bytes[0] << 8 | bytes[1]);
+    if (len < whole)
+        return ZONE_SERVICE_DONE;
+    *taken = whole;
+    return answer(bytes + 2, whole - 2, source, true, out, room, written, waiting);
 }
 
-size_t take(zone_service *service, uint8_t *out, size_t room, size_t *waiting)
-{
-    size_t written;
-    if (served == NULL)
-        return zone_service_take(service, out, room, waiting);
-    take_replies(out, room, &written, waiting);
+size_t take(uint8_t *out, size_t room, size_t *waiting) {
+    if (asked < 0)
+        return zone_service_take(&settings->service, out, room, waiting);
+    size_t written = take_reply(out);
+    *waiting = is_pending;
     return written;
+}
+
+size_t relay_statistics(uint8_t *out, size_t room) {
+    struct pollfd told = {.fd = asked, .events = POLLIN};
+    size_t len = 0;
+    ask("statistics\n", 11);
+    if (poll(&told, 1, 1000) != 1)
+        return 0;
+    for (hear(); is_pending; hear())
+        if (len < room)
+            len += (size_t)snprintf((char *)out + len, room - len, "%s\n", line);
+    return len < room ? len : 0;
 }
