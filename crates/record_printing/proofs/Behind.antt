@@ -1,11 +1,11 @@
 -- What is printed behind the fields stands for its octets, and for no others: strings, hexadecimal digits, and base 64.
-use Rattle.std.proofs.Common.{◌≡◌, ◌≢◌, ◌∙◌, ℕ, Bool, true, false, nat_lt, ◌==◌, ◌+◌, ◌-◌, ◌^◌, ◌<◌, ◌≤◌, List, [], ◌∷◌, ◌++◌, length, take, drop, decimal, All, Option, Some, None, Ok, sym, ap, subst, refl, arith, append_assoc, append-nil, rules}
+use Rattle.std.proofs.Common.{◌≡◌, ◌≢◌, ◌∙◌, ℕ, Bool, true, false, nat_lt, ◌==◌, ◌+◌, ◌-◌, ◌<◌, ◌≤◌, List, [], ◌∷◌, ◌++◌, length, take, drop, decimal, All, Option, None, Ok, sym, ap, subst, refl, arith, append_assoc, append-nil, rules}
 use Rattle.std.proofs.Math.Seq.{take-add}
 use Rattle.std.proofs.lemmas.List.{length-drop, nil_from_length, same_from_push, take_all, take_rest}
 use Rattle.std.proofs.lemmas.Bool.{eqb-true}
 use Rattle.std.proofs.lemmas.Bool.Decides.{nat_tests}
 use Rattle.std.proofs.lemmas.List.Concat.{flat_map-append}
-use Rattle.std.proofs.lemmas.List.Elements.{All-append, All-cons, All-head, All-nil}
+use Rattle.std.proofs.lemmas.List.Elements.{All-append, All-cons, All-nil}
 use Rattle.base64.proofs.EngineFacts.{decode_of-encode_of}
 use Rattle.base64.specs.Engines.{standard}
 use Rattle.base64.specs.GeneralPurpose.{IsBytes, IsConsistent, decode_of as decode64_of, encode_of}
@@ -20,7 +20,7 @@ use Rattle.record_text.specs.RecordText.{ArePlain, AreStrings, IsBase64, IsField
 use Rattle.record_text.specs.RecordText.AreStrings.{none as no_strings, more as one_string}
 use Rattle.record_text.specs.RecordText.IsField.{string}
 use Rattle.record_text.specs.RecordText.IsRest.{nothing, strings, hex, base64}
-use Rattle.record_printing.specs.Printed.{ArePrinted, IsPrinted, Printed, line_of, text_of}
+use Rattle.record_printing.specs.Printed.{ArePrinted, Printed, line_of, text_of}
 use Rattle.record_printing.specs.Printed.Printed.{plain}
 use Rattle.record_printing.specs.PrintedData.{AreDigits, ArePrintedData, IsFormWord, IsPrintedField, IsPrintedRest, PutsField, PutsWords}
 use Rattle.record_printing.specs.PrintedData.ArePrintedData.{generic}

@@ -1,12 +1,10 @@
 -- What is printed for a field stands for its octets, and for no others.
-use Rattle.std.proofs.Common.{◌≡◌, ◌≢◌, ◌∙◌, ℕ, zero, suc, ◌+◌, ◌-◌, ◌*◌, ◌^◌, ◌<◌, ◌≤◌, ◌||◌, ◌&&◌, Bool, true, false, nat_le, List, [], ◌∷◌, ◌++◌, length, get_or, take, drop, All, Option, Some, None, Result, Ok, Err, decimal, sym, ap, subst, refl, arith, append_assoc, append-nil, length-append}
+use Rattle.std.proofs.Common.{◌≡◌, ◌≢◌, ◌∙◌, ℕ, zero, suc, ◌+◌, ◌-◌, ◌^◌, ◌<◌, ◌≤◌, ◌||◌, ◌&&◌, Bool, true, false, nat_le, List, [], ◌∷◌, ◌++◌, length, get_or, take, drop, Option, Some, None, Result, Ok, Err, decimal, sym, ap, subst, refl, arith, append_assoc, append-nil, length-append}
 use Rattle.std.specs.Prelude.{IfOk, IfSome, OnOk, map}
 use Rattle.std.specs.declared.alloc.AllocError.{AllocError}
-use Rattle.std.specs.Char.{digit_value, to_ascii_lowercase}
+use Rattle.std.specs.Char.{to_ascii_lowercase}
 use Rattle.std.specs.Int.{IsInRange, w16, w32, to_be_bytes}
 use Rattle.std.specs.Str.Parse.{AllDigits, digits_value}
-use Rattle.std.specs.Net.Addr.{ipv4_octets, ipv6_octets, octets_of, segments_of}
-use Rattle.std.specs.Net.Text.{hex_groups_text, ipv4_text, ipv6_text}
 use Rattle.std.proofs.lemmas.Bool.{and_parts}
 use Rattle.std.proofs.lemmas.Bool.Decides.{nat_tests}
 use Rattle.std.proofs.Math.Seq.{take-add, take-length}
@@ -14,7 +12,6 @@ use Rattle.std.proofs.lemmas.List.{length-drop, length-take-le, take_more, take_
 use Rattle.std.proofs.lemmas.List.Concat.{flat_map-append}
 use Rattle.std.proofs.lemmas.Fmt.{decimal_is_IsNumeral, length-decimal-le}
 use Rattle.std.proofs.lemmas.Str.Parse.{digit_from_value}
-use Rattle.std.proofs.NetLemmas.Theorems.{IsIpv4Text_unique, IsIpv6Text_unique}
 use Rattle.wire_names.specs.rr.domain.DomainName.{DomainName, name_len}
 use Rattle.wire_names.specs.serialize.layout.Bytes.{AreBytes}
 use Rattle.wire_names.specs.text.TextForm.{bytes_text}
@@ -33,7 +30,7 @@ use Rattle.record_text.specs.Moments.{SpellsMoment}
 use Rattle.record_text.specs.Moments.SpellsMoment.{date as moment_date, seconds as moment_seconds}
 use Rattle.record_text.specs.RecordText.{IsField, IsNamed}
 use Rattle.record_text.specs.RecordText.IsField.{number8, number16, number32, named8, unnamed8, named16, unnamed16, time, name, string, moment, text as text_is}
-use Rattle.record_printing.specs.Printed.{IsPlain, IsPrinted, IsSound, Printed, line_of, text_of}
+use Rattle.record_printing.specs.Printed.{IsPlain, Printed, line_of, text_of}
 use Rattle.record_printing.specs.Printed.Printed.{plain, quoted}
 use Rattle.record_printing.specs.PrintedData.{ArePrintedFields, IsFormWord, IsPrintedField, PutsField, PutsNumber, PutsWords}
 use Rattle.record_printing.specs.PrintedData.ArePrintedFields.{none, more}
@@ -294,8 +291,21 @@ moment_here written k e small = moment_seconds (λ long. few_digits k small (sym
 
 same_moment : (written : List ℕ) (k n : ℕ) → written ≡ decimal k → k < 2 ^ 32 → SpellsMoment written n → n ≡ k
 same_moment written k n e small (moment_date {date = d} good is) =
-    let long : length written ≡ 14 = omega (arith, ap length is.in_order, is.four, is.two.0, is.two.1, is.two.2, is.two.3, is.two.4, length-append (is.year ++ is.month ++ is.day ++ is.hour ++ is.minute) is.second, length-append (is.year ++ is.month ++ is.day ++ is.hour) is.minute,
-    length-append (is.year ++ is.month ++ is.day) is.hour, length-append (is.year ++ is.month) is.day, length-append is.year is.month) in
+    let long : length written ≡ 14 = omega (
+      arith,
+      ap length is.in_order,
+      is.four,
+      is.two.0,
+      is.two.1,
+      is.two.2,
+      is.two.3,
+      is.two.4,
+      length-append (is.year ++ is.month ++ is.day ++ is.hour ++ is.minute) is.second,
+      length-append (is.year ++ is.month ++ is.day ++ is.hour) is.minute,
+      length-append (is.year ++ is.month ++ is.day) is.hour,
+      length-append (is.year ++ is.month) is.day,
+      length-append is.year is.month,
+    ) in
     absurd (few_digits k small (sym (ap (λ (t : List ℕ). length t) e) ∙ long))
 same_moment written k n e small (moment_seconds other is few) = same_number written k n e small is
 

@@ -1,8 +1,8 @@
 -- Printed words of data stand in a text as these data, and as no data of other octets.
-use Rattle.std.proofs.Common.{◌≡◌, ◌∙◌, ◌⊎◌, ℕ, ◌+◌, ◌^◌, ◌<◌, ◌≤◌, Bool, true, false, if◌then◌else◌, nat_lt, nat_le, List, [], ◌∷◌, ◌++◌, length, take, drop, All, Option, Some, None, Ok, decimal, sym, ap, subst, refl, arith, append_assoc, append-nil}
-use Rattle.std.specs.Prelude.{◌≢◌, ◌↔◌}
+use Rattle.std.proofs.Common.{◌≡◌, ◌∙◌, ℕ, ◌+◌, ◌^◌, ◌<◌, ◌≤◌, Bool, true, false, if◌then◌else◌, nat_lt, nat_le, List, [], ◌∷◌, ◌++◌, length, take, drop, All, Option, Some, None, Ok, decimal, sym, ap, subst, refl, arith, append-nil}
+use Rattle.std.specs.Prelude.{◌↔◌}
 use Rattle.std.specs.List.{AllByRecursion, list_any}
-use Rattle.std.specs.Int.{w16, w32, to_be_bytes}
+use Rattle.std.specs.Int.{w16, to_be_bytes}
 use Rattle.std.proofs.lemmas.Bool.Decides.{nat_tests}
 use Rattle.std.proofs.lemmas.List.{drop_at, same_from_push, take_at}
 use Rattle.std.proofs.lemmas.List.Elements.{All-append, All-cons, All-head, All-nil, All-tail}
@@ -19,13 +19,11 @@ use Rattle.wire_messages.specs.serialize.layout.RecordLayout.{IsFormed, IsFormed
 use Rattle.wire_messages.specs.serialize.writing.FullForm.{HasNames, data_octets, record_octets}
 use Rattle.wire_messages.specs.serialize.writing.RecordSize.{data_len, length_fault, unwritable_reason}
 use Rattle.hickory_wire.specs.serialize.writing.ReadingBack.{ReadsBack}
-use Rattle.text_words.specs.declared.words.TextKind.{TextKind}
 use Rattle.text_words.specs.declared.words.Word.{Word}
 use Rattle.text_words.specs.Spelling.{IsNumber}
-use Rattle.text_words.specs.Words.{AreSameWords, AreWordsTo, SameWord}
+use Rattle.text_words.specs.Words.{AreSameWords, SameWord}
 use Rattle.text_words.proofs.WordsOnce.{stand_once}
 use Rattle.record_text.specs.declared.data.field.Field.{Field}
-use Rattle.record_text.specs.declared.data.field.Rest.{Rest}
 use Rattle.record_text.specs.RecordText.{AreFields, ArePlain, AreReadOf, BeginGeneric, HasData, IsField, IsGenericData, IsRest, IsRow, SpellsData, bytes_of, root_record}
 use Rattle.record_text.specs.RecordText.AreFields.{none as no_fields, more as one_field}
 use Rattle.record_text.specs.RecordText.IsData.{in_form as of_row}
@@ -33,7 +31,7 @@ use Rattle.record_text.specs.RecordText.SpellsData.{in_form as spells_form, gene
 use Rattle.record_text.specs.TypeTable.{TypeRow, row_of}
 use Rattle.record_text.proofs.DataLen.{FullSizes, full_len}
 use Rattle.record_text.proofs.NoRow.{fields_len}
-use Rattle.record_printing.specs.Printed.{ArePrinted, EndsHere, IsPlain, IsPrinted, IsSound, Printed, line_of}
+use Rattle.record_printing.specs.Printed.{ArePrinted, IsPlain, IsPrinted, IsSound, Printed, line_of}
 use Rattle.record_printing.specs.Printed.Printed.{plain, quoted}
 use Rattle.record_printing.specs.Printed.IsWhole.{nothing, escaped}
 use Rattle.record_printing.specs.PrintedData.{AreDigits, ArePrintedData, ArePrintedFields, IsFormWord, IsPrintedRow, IsTextOf}

@@ -1,13 +1,12 @@
 -- Bytes that stand for themselves in a word: those of addresses, mnemonics, hexadecimal digits and base 64.
-use Rattle.std.proofs.Common.{◌≡◌, ◌≢◌, ◌∙◌, ℕ, zero, suc, ◌+◌, ◌-◌, ◌/◌, ◌%◌, ◌*◌, ◌^◌, ◌<◌, ◌≤◌, ◌==◌, ◌&&◌, ◌⊎◌, inl, inr, Bool, true, false, not, List, [], ◌∷◌, ◌++◌, length, get_or, take, drop, replicate, codes, All, decimal, sym, ap, subst, refl, arith, length-append}
+use Rattle.std.proofs.Common.{◌≡◌, ℕ, zero, suc, ◌+◌, ◌-◌, ◌/◌, ◌%◌, ◌*◌, ◌^◌, ◌<◌, ◌==◌, ◌&&◌, inl, inr, Bool, true, false, not, List, [], ◌∷◌, ◌++◌, length, get_or, take, drop, replicate, codes, decimal, sym, ap, subst, refl, arith, length-append}
 use Rattle.std.specs.Prelude.{bytes_eq, if◌then◌else◌}
 use Rattle.std.specs.List.{slice_index}
-use Rattle.std.specs.Int.{IsInRange}
 use Rattle.std.specs.Net.Addr.{octets_of, segments_of}
-use Rattle.std.specs.Net.Grammar.{IsColonHex, IsDotted, IsElided, IsGroupsAfter}
+use Rattle.std.specs.Net.Grammar.{IsColonHex, IsDotted, IsGroupsAfter}
 use Rattle.std.specs.Net.Text.{dotted_text, hex_groups_text, ipv4_text, ipv6_text}
 use Rattle.std.proofs.NetLemmas.Alphabet.{All-hex_groups_text, All-ipv4_text, IsDigitOrDot, IsHexOrColon}
-use Rattle.std.proofs.NetLemmas.Texts.{AllSegments, AllSegments-drop, IsColonHex-ipv6_text}
+use Rattle.std.proofs.NetLemmas.Texts.{AllSegments, AllSegments-drop}
 use Rattle.std.proofs.lemmas.Bool.{and_parts}
 use Rattle.std.proofs.lemmas.Bool.Decides.{nat_tests}
 use Rattle.std.proofs.lemmas.Fmt.{decimal_is_IsNumeral}

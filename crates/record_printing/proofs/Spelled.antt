@@ -1,10 +1,9 @@
 -- What printed bytes spell: character strings, labels and names (RFC 1035 sections 3.3 and 5.1).
-use Rattle.std.proofs.Common.{Fits, w8, ◌≡◌, ◌≢◌, ◌∙◌, ℕ, zero, suc, ◌+◌, ◌/◌, ◌%◌, ◌^◌, ◌<◌, ◌≤◌, ◌==◌, ◌⊎◌, inl, inr, Bool, true, false, if◌then◌else◌, List, [], ◌∷◌, ◌++◌, length, get_or, take, drop, All, Option, decimal, sym, ap, subst, refl, arith, append_assoc, append-nil, length-append}
+use Rattle.std.proofs.Common.{Fits, w8, ◌≡◌, ◌≢◌, ◌∙◌, ℕ, zero, suc, ◌+◌, ◌/◌, ◌%◌, ◌^◌, ◌<◌, ◌≤◌, ◌⊎◌, inl, inr, Bool, true, false, if◌then◌else◌, List, [], ◌∷◌, ◌++◌, length, get_or, take, drop, All, Option, decimal, sym, ap, subst, refl, arith, append_assoc, append-nil, length-append}
 use Rattle.std.specs.Prelude.{IsTrue}
 use Rattle.std.specs.List.{flat_map}
-use Rattle.std.specs.Char.{digit_value}
 use Rattle.std.specs.Int.{IsInRange}
-use Rattle.std.specs.Str.Parse.{AllDigits, IsNumeral, digits_value}
+use Rattle.std.specs.Str.Parse.{AllDigits, IsNumeral}
 use Rattle.std.proofs.lemmas.Bool.Decides.{nat_tests}
 use Rattle.std.proofs.lemmas.Fmt.{decimal_is_IsNumeral}
 use Rattle.std.proofs.lemmas.List.{same_from_push}
@@ -14,7 +13,7 @@ use Rattle.wire_names.specs.rr.domain.DomainName.{DomainName, IsLabel}
 use Rattle.wire_names.specs.serialize.layout.Bytes.{AreBytes}
 use Rattle.wire_names.specs.text.TextForm.{byte_text, bytes_text, decimal_escape, is_plain, is_special}
 use Rattle.text_words.specs.declared.words.TextKind.TheVariants.{ZoneFile}
-use Rattle.text_words.specs.Words.{ends_quoted, ends_word, is_blank}
+use Rattle.text_words.specs.Words.{ends_quoted, ends_word}
 use Rattle.text_words.specs.Spelling.{IsNumber, Spells, SpellsByte, SpellsLabel, SpellsLabels, SpellsName, any_byte, bare_in_label}
 use Rattle.text_words.specs.Spelling.AreLabelsWithDot.{dot_last}
 use Rattle.text_words.specs.Spelling.AreNameLabels.{root, labels as of_labels}

@@ -1,12 +1,12 @@
 -- Words that are printed stand in the text, one behind the other.
-use Rattle.std.proofs.Common.{◌≡◌, ◌≢◌, ◌∙◌, ℕ, ◌+◌, ◌-◌, ◌<◌, ◌≤◌, ◌⊎◌, inl, inr, Bool, true, false, min, List, [], ◌∷◌, ◌++◌, length, get_or, take, drop, All, sym, ap, subst, refl, arith, append_assoc, append-nil, length-append}
+use Rattle.std.proofs.Common.{◌≡◌, ◌∙◌, ℕ, ◌+◌, ◌-◌, ◌<◌, ◌⊎◌, inl, inr, Bool, true, false, min, List, [], ◌∷◌, ◌++◌, length, get_or, take, drop, All, sym, ap, subst, refl, arith, append_assoc, append-nil, length-append}
 use Rattle.std.proofs.Math.Seq.{drop-append_seam, get_or-append_seam, take-append_seam}
 use Rattle.std.proofs.lemmas.List.Elements.{All-head, All-tail}
 use Rattle.std.proofs.lemmas.Bool.Decides.{nat_tests}
 use Rattle.text_words.specs.declared.words.TextKind.{TextKind}
 use Rattle.text_words.specs.declared.words.TextKind.TheVariants.{Line, ZoneFile}
 use Rattle.text_words.specs.declared.words.Word.{Word}
-use Rattle.text_words.specs.Words.{AreWords, AreWordsTo, EndsAt, IsByteAt, IsEndFrom, IsGap, IsPlainWord, IsQuotedWord, IsRun, IsRunTo, IsWordFrom, cut_of, ends_quoted, ends_word, is_blank}
+use Rattle.text_words.specs.Words.{AreWords, AreWordsTo, EndsAt, IsByteAt, IsGap, IsPlainWord, IsQuotedWord, IsRun, IsWordFrom, cut_of, ends_quoted, ends_word, is_blank}
 use Rattle.text_words.specs.Words.IsRun.{nothing as no_run, bare as run_bare, escaped as run_escaped}
 use Rattle.text_words.specs.Words.IsGap.{nothing as no_gap, more as one_gap}
 use Rattle.text_words.specs.Words.IsPiece.{blank}

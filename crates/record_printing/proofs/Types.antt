@@ -1,5 +1,5 @@
 -- A type is printed by its mnemonic, or as TYPE and its number (RFC 3597 section 5).
-use Rattle.std.proofs.Common.{◌≡◌, ◌≢◌, ◌∙◌, ℕ, zero, suc, ◌^◌, ◌<◌, ◌==◌, ◌&&◌, Bool, true, false, nat_lt, cond, List, [], ◌∷◌, ◌++◌, length, get_or, codes, find, Option, Some, decimal, sym, ap, subst, refl, arith, length-append}
+use Rattle.std.proofs.Common.{◌≡◌, ◌∙◌, ℕ, zero, suc, ◌^◌, ◌<◌, ◌==◌, ◌&&◌, Bool, true, false, nat_lt, cond, List, [], ◌∷◌, ◌++◌, length, get_or, codes, find, Option, Some, decimal, sym, ap, subst, refl, arith, length-append}
 use Rattle.std.specs.Int.{w16, to_be_bytes}
 use Rattle.std.proofs.lemmas.Bool.{and_parts, eqb-true}
 use Rattle.std.proofs.lemmas.Bool.Decides.{nat_tests}
@@ -11,7 +11,6 @@ use Rattle.record_text.specs.RecordText.IsField.{type}
 use Rattle.record_text.specs.RecordText.SpellsType.{mnemonic, numbered}
 use Rattle.record_text.specs.TypeTable.{TypeRow, row_of, rows}
 use Rattle.record_text.proofs.TypesOnce.{types_once}
-use Rattle.record_printing.specs.Printed.{IsPrinted}
 use Rattle.record_printing.specs.Printed.Printed.{plain}
 use Rattle.record_printing.specs.PrintedData.{IsPrintedField, PutsField, PutsType}
 use Rattle.record_printing.proofs.PrintedFields.{plain_word}

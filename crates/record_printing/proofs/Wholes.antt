@@ -1,10 +1,10 @@
 -- Data that are such as a record is read with, and the text of data in the form of a row.
-use Rattle.std.proofs.Common.{◌≡◌, ◌∙◌, ℕ, ◌+◌, ◌-◌, ◌^◌, ◌<◌, ◌≤◌, List, [], ◌∷◌, ◌++◌, length, get_or, take, drop, Option, Some, sym, ap, subst, refl, append_assoc, suc, not, Bool, true, false}
+use Rattle.std.proofs.Common.{◌≡◌, ◌∙◌, ℕ, ◌+◌, ◌-◌, ◌^◌, ◌<◌, List, [], ◌∷◌, ◌++◌, length, get_or, take, drop, Some, sym, ap, subst, refl, append_assoc, suc, not, Bool, true, false}
 use Rattle.std.specs.List.{AllByRecursion}
 use Rattle.std.proofs.lemmas.List.{take-append-drop, take_more, take_rest}
 use Rattle.std.proofs.lemmas.List.Concat.{flat_map-append}
 use Rattle.record_text.specs.TypeTable.{TypeRow, row_of}
-use Rattle.record_printing.specs.Printed.{Printed, line_of, text_of}
+use Rattle.record_printing.specs.Printed.{line_of, text_of}
 use Rattle.record_printing.specs.PrintedData.{ArePrintedData, ArePrintedFields, IsPrintedRest, PutsWords}
 use Rattle.record_printing.specs.PrintedData.ArePrintedData.{in_form}
 

@@ -2,7 +2,7 @@
 use Rattle.std.specs.Prelude.{◌≡◌, ◌≢◌, ℕ, ◌<◌, Bool, true, false, List, [], ◌∷◌, ◌++◌, length, get_or}
 use Rattle.std.specs.List.{flat_map}
 use Rattle.text_words.specs.declared.words.TextKind.{TextKind}
-use Rattle.text_words.specs.declared.words.TextKind.TheVariants.{Line, ZoneFile}
+use Rattle.text_words.specs.declared.words.TextKind.TheVariants.{ZoneFile}
 use Rattle.text_words.specs.declared.words.Word.{Word}
 use Rattle.text_words.specs.Words.{ends_quoted, ends_word}
 

@@ -1,5 +1,5 @@
 -- Words that are printed for the data of records, each of which spells its octets and no others (RFC 1035 section 5.1, RFC 3597 section 5).
-use Rattle.std.specs.Prelude.{◌≡◌, ◌≢◌, ℕ, ◌+◌, ◌^◌, ◌<◌, ◌≤◌, ◌==◌, if◌then◌else◌, codes, List, [], ◌∷◌, ◌++◌, length, take, All, Option, Some, Ok, decimal}
+use Rattle.std.specs.Prelude.{◌≡◌, ◌≢◌, ℕ, ◌<◌, ◌≤◌, ◌==◌, if◌then◌else◌, codes, List, [], ◌∷◌, ◌++◌, length, take, All, Option, Some, Ok, decimal}
 use Rattle.hex.specs.Hex.{decode_of}
 use Rattle.wire_names.specs.rr.domain.DomainName.{DomainName}
 use Rattle.wire_messages.specs.rr.RecordData.{type_of}
@@ -14,7 +14,7 @@ use Rattle.record_text.specs.declared.data.field.Rest.{Rest}
 use Rattle.record_text.specs.RecordText.{HasData, IsField, IsRest, SpellsType}
 use Rattle.record_text.specs.TypeTable.{TypeRow, row_of}
 use Rattle.record_printing.specs.Printed.{ArePrinted, EndsHere, IsPrinted, IsSound, Printed, line_of, text_of}
-use Rattle.record_printing.specs.Printed.Printed.{plain, quoted}
+use Rattle.record_printing.specs.Printed.Printed.{plain}
 
 -- A printed word stands for these octets of a field, and for no others.
 pub record IsPrintedField (field : Field) (p : Printed) (octets : List ℕ) : Type 0 where

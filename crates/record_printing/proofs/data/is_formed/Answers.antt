@@ -1,4 +1,4 @@
-use Rattle.std.proofs.Common.{◌≡◌, ◌∙◌, ◌==◌, ap, true, false, ℕ, arith, length, refl, rules, sym, subst, []}
+use Rattle.std.proofs.Common.{◌≡◌, ◌∙◌, ◌==◌, ap, true, false, ℕ, length, refl, rules, sym, subst, []}
 use Rattle.wire_messages.specs.declared.rr.rdata.RData.{RData}
 use Rattle.wire_messages.specs.serialize.layout.RecordLayout.{IsFormed}
 use Rattle.wire_messages.proofs.lemmas.serialize.layout.Ranges.{ipv6_in_range}

@@ -1,4 +1,4 @@
-use Rattle.std.proofs.Common.{refl, arith, subst, length, take, List, string_bytes}
+use Rattle.std.proofs.Common.{refl, arith, subst, take, List, string_bytes}
 use Rattle.std.proofs.lemmas.List.{take_all}
 use Rattle.record_text.specs.declared.data.field.Field.{Field}
 use Rattle.record_text.specs.declared.data.field.Field.TheVariants.{Number8}

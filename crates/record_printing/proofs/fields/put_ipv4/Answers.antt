@@ -1,4 +1,4 @@
-use Rattle.std.proofs.Common.{◌≡◌, ◌∙◌, sym, take, string_bytes}
+use Rattle.std.proofs.Common.{◌∙◌, take, string_bytes}
 use Rattle.std.proofs.lemmas.List.{length-take-le}
 use Rattle.record_printing.proofs.Addresses.{put_ipv4_field}
 use Rattle.record_printing.proofs.Spelled.{slice_bytes, take_bytes}

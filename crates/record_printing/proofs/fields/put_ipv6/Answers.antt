@@ -1,4 +1,4 @@
-use Rattle.std.proofs.Common.{◌≡◌, ◌∙◌, ap, sym, take, string_bytes}
+use Rattle.std.proofs.Common.{◌∙◌, ap, take, string_bytes}
 use Rattle.std.proofs.lemmas.List.{length-take-le}
 use Rattle.std.specs.Net.Addr.{segments_of}
 use Rattle.record_printing.proofs.Addresses.{put_ipv6_field}

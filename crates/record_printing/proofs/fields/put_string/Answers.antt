@@ -1,4 +1,4 @@
-use Rattle.std.proofs.Common.{refl, arith, get_or, length, take, drop, ◌-◌, string_bytes}
+use Rattle.std.proofs.Common.{refl, arith, length, take, drop, ◌-◌, string_bytes}
 use Rattle.record_printing.proofs.PrintedFields.{string_front}
 use Rattle.record_printing.proofs.Spelled.{slice_bytes}
 use Rattle.record_printing.proofs.fields.put_string.Goals as goal

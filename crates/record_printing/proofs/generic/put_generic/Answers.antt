@@ -1,4 +1,4 @@
-use Rattle.std.proofs.Common.{◌≡◌, ◌∙◌, ◌++◌, ◌∷◌, ap, arith, rules, List, ℕ, string_bytes}
+use Rattle.std.proofs.Common.{◌∙◌, ◌++◌, ◌∷◌, ap, List, ℕ, string_bytes}
 use Rattle.record_printing.proofs.Behind.{empty_if, put_digits, put_empty, some_if}
 use Rattle.record_printing.proofs.PrintedFields.{map_ok}
 use Rattle.record_printing.proofs.Spelled.{slice_bytes}

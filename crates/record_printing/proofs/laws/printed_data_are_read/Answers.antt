@@ -1,11 +1,8 @@
-use Rattle.std.proofs.Common.{◌≡◌, List, ℕ, [], ◌++◌, None, subst, sym, append-nil}
+use Rattle.std.proofs.Common.{List, ℕ, [], None, subst, sym, append-nil}
 use Rattle.wire_messages.specs.rr.RecordData.{type_of}
-use Rattle.wire_messages.specs.declared.rr.rdata.RData.{RData}
-use Rattle.wire_messages.specs.serialize.writing.FullForm.{data_octets}
 use Rattle.text_words.specs.declared.words.TextKind.TheVariants.{Line}
 use Rattle.record_text.specs.RecordText.{HasData}
 use Rattle.record_printing.specs.Printed.EndsHere.{whole}
-use Rattle.record_printing.specs.PrintedData.{IsTextOf}
 use Rattle.record_printing.proofs.laws.printed_data_are_read.Goals as goal
 
 -- the whole of a line

@@ -1,6 +1,5 @@
-use Rattle.std.proofs.Common.{◌≡◌, ◌∙◌, refl, subst, string_bytes, decimal, ℕ}
+use Rattle.std.proofs.Common.{◌∙◌, refl, subst, string_bytes, decimal, ℕ}
 use Rattle.wire_names.specs.text.TextForm.{spelled_name}
-use Rattle.wire_messages.specs.rr.RecordData.{type_of}
 use Rattle.record_text.specs.RecordText.{SpellsType}
 use Rattle.record_printing.specs.PrintedData.{class_text}
 use Rattle.record_printing.proofs.PrintedFields.{map_ok}

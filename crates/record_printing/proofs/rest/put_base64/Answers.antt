@@ -1,4 +1,4 @@
-use Rattle.std.proofs.Common.{arith, string_bytes}
+use Rattle.std.proofs.Common.{string_bytes}
 use Rattle.record_printing.proofs.Behind.{put_base64_word, some_if}
 use Rattle.record_printing.proofs.Spelled.{slice_bytes}
 use Rattle.record_printing.proofs.rest.put_base64.Goals as goal

@@ -1,4 +1,4 @@
-use Rattle.std.proofs.Common.{◌≡◌, ◌∙◌, ◌++◌, ◌∷◌, ap, arith, List, ℕ, string_bytes}
+use Rattle.std.proofs.Common.{◌∙◌, ◌++◌, ◌∷◌, ap, List, ℕ, string_bytes}
 use Rattle.record_printing.proofs.Behind.{put_hex_word, some_if}
 use Rattle.record_printing.proofs.Spelled.{slice_bytes}
 use Rattle.record_printing.proofs.rest.put_hex.Goals as goal

@@ -1,4 +1,4 @@
-use Rattle.std.proofs.Common.{◌≡◌, ◌∙◌, ap, sym, string_bytes}
+use Rattle.std.proofs.Common.{◌∙◌, ap, sym, string_bytes}
 use Rattle.std.specs.Option.{option_copied, option_map}
 use Rattle.record_text.specs.RecordText.{row_view}
 use Rattle.record_printing.proofs.PrintedFields.{map_ok}
