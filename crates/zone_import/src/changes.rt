@@ -40,20 +40,19 @@ fn set_deletion(record: &Record) -> Result<Record, AllocError> {
     Ok(deletion)
 }
 
-/// Whether a record is among others, in whose places they are; with the same TTL, where that is asked.
-fn is_among(
+/// The record among others that is the same as this one, if one is. The places are those of the others.
+fn same_among<'r>(
     alloc: Global,
-    others: &[Record],
+    others: &'r [Record],
     places: &Places,
     record: &Record,
-    with_ttl: bool,
-) -> Result<bool, AllocError> {
+) -> Result<Option<&'r Record>, AllocError> {
     let Some(place) = place_of(alloc, places, record)? else {
-        return Ok(false);
+        return Ok(None);
     };
     match others.get(place) {
-        Some(other) => Ok(record == other && (!with_ttl || record.ttl == other.ttl)),
-        None => Ok(false),
+        Some(other) if record == other => Ok(Some(other)),
+        _ => Ok(None),
     }
 }
 
@@ -128,7 +127,7 @@ impl Changes {
     ) -> Result<(), AllocError> {
         let places = places_of(alloc, others)?;
         for record in records {
-            if !is_among(alloc, others, &places, record, false)? {
+            if same_among(alloc, others, &places, record)?.is_none() {
                 self.delete(record)?;
             }
         }
@@ -144,8 +143,9 @@ impl Changes {
     ) -> Result<(), AllocError> {
         let places = places_of(alloc, others)?;
         for record in records {
-            if !is_among(alloc, others, &places, record, true)? {
-                self.add(record)?;
+            match same_among(alloc, others, &places, record)? {
+                Some(other) if other.ttl == record.ttl => {}
+                _ => self.add(record)?,
             }
         }
         Ok(())
