@@ -98,7 +98,6 @@ plain_stands kind text before (byte ∷ bytes) rest is e parted =
     let moved : text ≡ (before ++ byte ∷ bytes) ++ rest = e ∙ sym (append_assoc before (byte ∷ bytes) rest) in
     record {
       within = at.within;
-      no_quote = λ q. is.no_quote (sym at.is ∙ q);
       begins = rw at.is (first_ends kind byte bytes (byte ∷ bytes) (whole_both kind (byte ∷ bytes) is.whole) refl);
       run = record {
         run = run_on (ends_word kind) text before rest (byte ∷ bytes) (length before) (whole_both kind (byte ∷ bytes) is.whole) e no_run;
