@@ -1,5 +1,6 @@
 -- Words that are printed for the data of records, each of which spells its octets and no others (RFC 1035 section 5.1, RFC 3597 section 5).
-use Rattle.std.specs.Prelude.{◌≡◌, ◌≢◌, ℕ, ◌<◌, ◌≤◌, ◌==◌, if◌then◌else◌, codes, List, [], ◌∷◌, ◌++◌, length, take, All, Option, Some, Ok, IfSome, decimal}
+use Rattle.std.specs.Prelude.{◌≡◌, ◌≢◌, ◌⊎◌, ℕ, ◌<◌, ◌≤◌, ◌==◌, if◌then◌else◌, codes, List, [], ◌∷◌, ◌++◌, length, take, All, Option, Some, Ok, IfSome, decimal}
+use Rattle.std.specs.Int.{IsInRange}
 use Rattle.hex.specs.Hex.{decode_of}
 use Rattle.wire_names.specs.rr.domain.DomainName.{DomainName}
 use Rattle.wire_messages.specs.rr.RecordData.{type_of}
@@ -77,6 +78,10 @@ pub record PutsNumber (form : ℕ → List ℕ) (size limit : ℕ) (octets befor
   pub is : take size octets ≡ form number
   pub small : number < limit
   pub put : after ≡ before ++ 32 ∷ decimal number
+
+-- a letter or a digit
+abbrev pub IsWordByte : ℕ → Type 0
+IsWordByte b = IsInRange 48 57 b ⊎ (IsInRange 65 90 b ⊎ IsInRange 97 122 b)
 
 -- Data begin with a field of so many octets, which is printed.
 abbrev pub TakesField : Field → List ℕ → List ℕ → List ℕ → Option ℕ → Type 0

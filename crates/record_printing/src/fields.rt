@@ -2,12 +2,13 @@
 //!
 //! Each function tells how many bytes of the data the field takes, or `None` where they do not begin with one.
 
-ghost use Rattle.std.specs.Prelude.{◌<◌, ◌≤◌, ◌^◌, [], ◌∷◌, length, string_bytes, IfOk, IfSome};
+ghost use Rattle.std.specs.Prelude.{◌<◌, ◌≤◌, ◌^◌, [], ◌∷◌, length, string_bytes, IfOk, IfSome, IsTrue};
+ghost use Rattle.std.specs.List.{AllByRecursion};
 ghost use Rattle.std.specs.Int.{w16, w32, to_be_bytes};
-ghost use Rattle.record_printing.specs.PrintedData.{PutsNumber, TakesField, TakesFields};
+ghost use Rattle.record_printing.specs.PrintedData.{IsWordByte, PutsNumber, TakesField, TakesFields};
 ghost use Rattle.record_text.specs.declared.data.field.Field.TheVariants.{Ipv4, Ipv6, Name, RecordType, String as StringField, Text};
 
-use crate::text::{put_label, put_number, put_quoted, put_type};
+use crate::text::{put_bare, put_label, put_number, put_quoted, put_type};
 use record_text::Field;
 use std::alloc::AllocError;
 use std::net::{Ipv4Addr, Ipv6Addr};
@@ -91,6 +92,47 @@ pub(crate) fn put_string(data: &[u8], out: &mut String) -> Result<Option<usize>,
     Ok(Some(1 + len))
 }
 
+/// Whether a byte is a letter or a digit.
+fn is_word_byte(byte: u8) -> bool
+    ensures { IsTrue result → IsWordByte byte }
+{
+    matches!(byte, b'0'..=b'9' | b'A'..=b'Z' | b'a'..=b'z')
+}
+
+/// Whether bytes are letters and digits, at least one.
+fn is_word(bytes: &[u8]) -> bool
+    ensures some { IsTrue result → 0 < length bytes.now }
+    ensures each { IsTrue result → AllByRecursion IsWordByte bytes.now }
+{
+    if bytes.is_empty() {
+        return false;
+    }
+    for byte in bytes {
+        if !is_word_byte(*byte) {
+            return false;
+        }
+    }
+    true
+}
+
+/// Puts a character string that is a field: in no quotes where it is of letters and digits, as the tag of a CAA record stands (RFC 8659 section 4.1.1).
+fn put_string_field(data: &[u8], out: &mut String) -> Result<Option<usize>, AllocError>
+    ensures { IfOk result (TakesField StringField «data».now (string_bytes out.old) (string_bytes out.new)) }
+{
+    let [len, behind @ ..] = data else {
+        return Ok(None);
+    };
+    let len = usize::from(*len);
+    if len > behind.len() {
+        return Ok(None);
+    }
+    if !is_word(&behind[..len]) {
+        return put_string(data, out);
+    }
+    put_bare(&behind[..len], out)?;
+    Ok(Some(1 + len))
+}
+
 /// Puts all bytes as text in quotes.
 fn put_text(data: &[u8], out: &mut String) -> Result<Option<usize>, AllocError>
     ensures { IfOk result (TakesField Text «data».now (string_bytes out.old) (string_bytes out.new)) }
@@ -147,7 +189,7 @@ fn put_field(field: Field, data: &[u8], out: &mut String) -> Result<Option<usize
         Field::Time => put_number32(data, out),
         Field::Moment => put_number32(data, out),
         Field::Name => put_name(data, out),
-        Field::String => put_string(data, out),
+        Field::String => put_string_field(data, out),
         Field::Text => put_text(data, out),
         Field::Ipv4 => put_ipv4(data, out),
         Field::Ipv6 => put_ipv6(data, out),
