@@ -1,5 +1,5 @@
 -- What is printed for a field stands for its octets, and for no others.
-use Rattle.std.proofs.Common.{◌≡◌, ◌≢◌, ◌∙◌, ℕ, zero, suc, ◌+◌, ◌-◌, ◌^◌, ◌<◌, ◌≤◌, ◌||◌, ◌&&◌, Bool, true, false, nat_le, List, [], ◌∷◌, ◌++◌, length, get_or, take, drop, Option, Some, None, Result, Ok, Err, decimal, sym, ap, subst, refl, arith, append_assoc, append-nil, length-append}
+use Rattle.std.proofs.Common.{◌⊎◌, inl, inr, ◌≡◌, ◌≢◌, ◌∙◌, ℕ, zero, suc, ◌+◌, ◌-◌, ◌^◌, ◌<◌, ◌≤◌, ◌||◌, ◌&&◌, Bool, true, false, nat_le, List, [], ◌∷◌, ◌++◌, length, get_or, take, drop, Option, Some, None, Result, Ok, Err, decimal, sym, ap, subst, refl, arith, append_assoc, append-nil, length-append}
 use Rattle.std.specs.Prelude.{IfOk, IfSome, OnOk, map}
 use Rattle.std.specs.declared.alloc.AllocError.{AllocError}
 use Rattle.std.specs.Char.{to_ascii_lowercase}
@@ -14,7 +14,8 @@ use Rattle.std.proofs.lemmas.Fmt.{decimal_is_IsNumeral, length-decimal-le}
 use Rattle.std.proofs.lemmas.Str.Parse.{digit_from_value}
 use Rattle.wire_names.specs.rr.domain.DomainName.{DomainName, name_len}
 use Rattle.wire_names.specs.serialize.layout.Bytes.{AreBytes}
-use Rattle.wire_names.specs.text.TextForm.{bytes_text}
+use Rattle.wire_names.specs.text.TextForm.{bytes_text, is_plain, is_special}
+use Rattle.std.specs.List.{AllByRecursion}
 use Rattle.wire_messages.specs.rr.RecordData.{character_string}
 use Rattle.wire_messages.specs.serialize.writing.FullForm.{name_octets}
 use Rattle.text_words.specs.declared.words.Word.{Word}
@@ -32,9 +33,9 @@ use Rattle.record_text.specs.RecordText.{IsField, IsNamed}
 use Rattle.record_text.specs.RecordText.IsField.{number8, number16, number32, named8, unnamed8, named16, unnamed16, time, name, string, moment, text as text_is}
 use Rattle.record_printing.specs.Printed.{IsPlain, Printed, line_of, text_of}
 use Rattle.record_printing.specs.Printed.Printed.{plain, quoted}
-use Rattle.record_printing.specs.PrintedData.{ArePrintedFields, IsFormWord, IsPrintedField, PutsField, PutsNumber, PutsWords}
+use Rattle.record_printing.specs.PrintedData.{ArePrintedFields, IsFormWord, IsPrintedField, IsWordByte, PutsField, PutsNumber, PutsWords}
 use Rattle.record_printing.specs.PrintedData.ArePrintedFields.{none, more}
-use Rattle.record_printing.proofs.Spelled.{AreByteLabels, name_plain, name_spelled, name_text, name_unmarked, number_is, number_simple, simple_plain, spells_bytes, take_bytes, whole_bytes}
+use Rattle.record_printing.proofs.Spelled.{AllSimple, AreByteLabels, IsSimple, name_plain, name_spelled, name_text, name_unmarked, number_is, number_simple, simple_plain, spells_bytes, take_bytes, text_plain, whole_bytes}
 
 -- a word in no quotes that is no mark
 pub plain_word : (text : List ℕ) → IsPlain text × (text ≢ 92 ∷ 35 ∷ []) → IsFormWord (plain text)
@@ -317,3 +318,44 @@ moment_field k small = record { is = λ origin w p. moment p.0 (moment_here w.by
 
 pub as_moment : (octets before after : List ℕ) (r : Result (Option ℕ) AllocError) → IfOk r (λ len. IfSome len (PutsNumber (to_be_bytes w32) 4 (2 ^ 32) octets before after)) → Puts field.Moment octets before after r
 as_moment octets before after r h = map_put r (λ n. put_as octets before after n (to_be_bytes w32) 4 (2 ^ 32) field.Moment (omega arith) moment_field) h
+
+-- letters and digits stand for themselves
+word_byte : (b : ℕ) → IsWordByte b → (is_special true b ≡ false) × (is_plain true b ≡ true) × IsSimple b
+word_byte b (inl h) = (grind (arith, nat_tests), grind (arith, nat_tests), ((λ e. omega (arith, e, h.1)), (λ e. omega (arith, e, h.0)), grind (arith, nat_tests)))
+word_byte b (inr (inl h)) = (grind (arith, nat_tests), grind (arith, nat_tests), ((λ e. omega (arith, e, h.1)), (λ e. omega (arith, e, h.0)), grind (arith, nat_tests)))
+word_byte b (inr (inr h)) = (grind (arith, nat_tests), grind (arith, nat_tests), ((λ e. omega (arith, e, h.0)), (λ e. omega (arith, e, h.0)), grind (arith, nat_tests)))
+
+word_bytes : (bytes : List ℕ) → AllByRecursion IsWordByte bytes → (bytes_text true bytes ≡ bytes) × AllSimple bytes
+word_bytes [] h = (refl, tt)
+word_bytes (b ∷ bytes) h =
+    let one = word_byte b h.0 in
+    let rest = word_bytes bytes h.1 in
+    (ap (λ (t : List ℕ). t ++ bytes_text true bytes) (text_plain true b one.0 one.1) ∙ ap (λ (t : List ℕ). b ∷ t) rest.0, (one.2, rest.1))
+
+put_bare_string : (bytes octets before after : List ℕ) → AreBytes bytes → length bytes < 256 → 0 < length bytes → AllByRecursion IsWordByte bytes → octets ≡ character_string bytes → after ≡ before ++ 32 ∷ bytes_text true bytes → PutsField field.String octets before after
+put_bare_string bytes octets before after h short some each is put =
+    let word = word_bytes bytes each in
+    let simple : AllSimple (bytes_text true bytes) = subst AllSimple (sym word.0) word.1 in (
+      plain (bytes_text true bytes),
+      put,
+      plain_word (bytes_text true bytes) (simple_plain (bytes_text true bytes) simple (subst (λ (t : List ℕ). 0 < length t) (sym word.0) some)),
+      subst (λ (o : List ℕ). IsPrintedField field.String (plain (bytes_text true bytes)) o) (sym is) (record {
+        is = λ origin w p. string (string_here w bytes h short p.1);
+        only = λ origin w others p f. only_string origin w others bytes h short p.1 f;
+      }),
+    )
+
+pub bare_front : (all piece before after : List ℕ) (len : ℕ) → AreBytes all → 1 ≤ length all → len ≡ get_or all 0 0 → len ≤ length (take (length all - 1) (drop 1 all)) → piece ≡ take len (take (length all - 1) (drop 1 all))
+    → 0 < length piece → AllByRecursion IsWordByte piece → after ≡ before ++ 32 ∷ bytes_text true piece → (1 + len ≤ length all) × PutsField field.String (take (1 + len) all) before after
+bare_front [] piece before after len bytes some told fits same full each put = absurd (omega (arith, some))
+bare_front (b ∷ rest) piece before after len bytes some told fits same full each put =
+    let count : length (b ∷ rest) - 1 ≡ length rest = omega arith in
+    let left : take (length (b ∷ rest) - 1) rest ≡ rest = ap (λ (n : ℕ). take n rest) count ∙ take-length rest in
+    let within : len ≤ length rest = omega (arith, fits, ap (λ (t : List ℕ). length t) left) in
+    let is : piece ≡ take len rest = same ∙ ap (λ (t : List ℕ). take len t) left in
+    let long : length piece ≡ len = ap (λ (t : List ℕ). length t) is ∙ length-take-le len rest within in
+    let small : b < 256 = bytes 0 in
+    let own : AreBytes piece = subst (λ (t : List ℕ). AreBytes t) (sym is) (take_bytes len rest (λ k. bytes (suc k))) in
+    let next : 1 + len ≡ suc len = omega arith in
+    let front : take (1 + len) (b ∷ rest) ≡ character_string piece = ap (λ (n : ℕ). take n (b ∷ rest)) next ∙ ap (λ (t : List ℕ). b ∷ t) (sym is) ∙ ap (λ (n : ℕ). n ∷ piece) (sym told ∙ sym long) in
+    (omega (arith, within), put_bare_string piece (take (1 + len) (b ∷ rest)) before after own (omega (arith, long, told, small)) full each front put)

@@ -69,7 +69,7 @@ record OneByte (q : Bool) (b : ℕ) (text : List ℕ) : Type 0 where
 text_special : (q : Bool) (b : ℕ) → is_special q b ≡ true → byte_text q b ≡ 92 ∷ b ∷ []
 text_special q b h = ap (λ (s : Bool). if s then 92 ∷ b ∷ [] else (if is_plain q b then b ∷ [] else decimal_escape b)) h
 
-text_plain : (q : Bool) (b : ℕ) → is_special q b ≡ false → is_plain q b ≡ true → byte_text q b ≡ b ∷ []
+pub text_plain : (q : Bool) (b : ℕ) → is_special q b ≡ false → is_plain q b ≡ true → byte_text q b ≡ b ∷ []
 text_plain q b h k = ap (λ (s : Bool). if s then 92 ∷ b ∷ [] else (if is_plain q b then b ∷ [] else decimal_escape b)) h ∙ ap (λ (s : Bool). if s then b ∷ [] else decimal_escape b) k
 
 text_other : (q : Bool) (b : ℕ) → is_special q b ≡ false → is_plain q b ≡ false → byte_text q b ≡ decimal_escape b

@@ -1,5 +1,6 @@
 -- Words that are printed for the data of records, each of which spells its octets and no others (RFC 1035 section 5.1, RFC 3597 section 5).
-use Rattle.std.specs.Prelude.{◌≡◌, ◌≢◌, ℕ, ◌<◌, ◌≤◌, ◌==◌, if◌then◌else◌, codes, List, [], ◌∷◌, ◌++◌, length, take, All, Option, Some, Ok, decimal}
+use Rattle.std.specs.Prelude.{◌≡◌, ◌≢◌, ◌⊎◌, ℕ, ◌<◌, ◌≤◌, ◌==◌, if◌then◌else◌, codes, List, [], ◌∷◌, ◌++◌, length, take, All, Option, Some, Ok, IfSome, decimal}
+use Rattle.std.specs.Int.{IsInRange}
 use Rattle.hex.specs.Hex.{decode_of}
 use Rattle.wire_names.specs.rr.domain.DomainName.{DomainName}
 use Rattle.wire_messages.specs.rr.RecordData.{type_of}
@@ -77,6 +78,22 @@ pub record PutsNumber (form : ℕ → List ℕ) (size limit : ℕ) (octets befor
   pub is : take size octets ≡ form number
   pub small : number < limit
   pub put : after ≡ before ++ 32 ∷ decimal number
+
+-- a letter or a digit
+abbrev pub IsWordByte : ℕ → Type 0
+IsWordByte b = IsInRange 48 57 b ⊎ (IsInRange 65 90 b ⊎ IsInRange 97 122 b)
+
+-- Data begin with a field of so many octets, which is printed.
+abbrev pub TakesField : Field → List ℕ → List ℕ → List ℕ → Option ℕ → Type 0
+TakesField field octets before after len = IfSome len (λ n. (n ≤ length octets) × PutsField field (take n octets) before after)
+
+-- Data begin with fields of so many octets, which are printed.
+abbrev pub TakesFields : List Field → List ℕ → List ℕ → List ℕ → Option ℕ → Type 0
+TakesFields fields octets before after len = IfSome len (λ n. PutsWords (λ printed. ArePrintedFields fields printed (take n octets)) before after)
+
+-- a type of which data are bytes alone in `RData`
+abbrev pub HasNoForm : ℕ → Type 0
+HasNoForm code = (code ≢ 1) × (code ≢ 2) × (code ≢ 5) × (code ≢ 6) × (code ≢ 10) × (code ≢ 12) × (code ≢ 15) × (code ≢ 16) × (code ≢ 28) × (code ≢ 41) × (code ≢ 250)
 
 -- a type, printed
 abbrev pub PutsType : ℕ → List ℕ → List ℕ → Type 0

@@ -1,6 +1,6 @@
 //! The data of records, printed.
 
-ghost use Rattle.std.specs.Prelude.{◌≡◌, ◌≢◌, [], ◌++◌, ◌<◌, ◌^◌, length, string_bytes, IfErr, IfOk, IfSome, IsTrue, IsFalse, OnOk};
+ghost use Rattle.std.specs.Prelude.{◌≡◌, [], ◌++◌, ◌<◌, ◌^◌, length, string_bytes, IfErr, IfOk, IfSome, IsTrue, IsFalse, OnOk};
 ghost use Rattle.std.specs.List.{AllByRecursion};
 ghost use Rattle.wire_names.specs.rr.domain.DomainName.{AreLabels};
 ghost use Rattle.wire_names.specs.serialize.layout.Bytes.{AreBytes};
@@ -14,7 +14,7 @@ ghost use Rattle.wire_messages.specs.declared.rr.rdata.RData.TheVariants.{SOA as
 ghost use Rattle.wire_messages.specs.declared.rr.rdata.RData.TheVariants.{TSIG as TsigData};
 ghost use Rattle.wire_messages.specs.declared.rr.rdata.RData.TheVariants.{TXT as TxtData};
 ghost use Rattle.record_printing.specs.declared.error.PrintError.TheVariants.{DataTooLong, Memory, WrongForm};
-ghost use Rattle.record_printing.specs.PrintedData.{ArePrintedData, IsTextOf, PutsText, PutsWords};
+ghost use Rattle.record_printing.specs.PrintedData.{ArePrintedData, HasNoForm, IsTextOf, PutsText, PutsWords};
 
 use crate::error::PrintError;
 use crate::fields::put_fields;
@@ -122,8 +122,8 @@ fn is_exchange(mx: &MX) -> bool
 
 /// Whether data of a type have a form of their own in `RData`, so that none are read as bytes alone.
 fn has_own_form(code: u16) -> bool
-    ensures other { IsFalse result → (code ≢ 1) × (code ≢ 2) × (code ≢ 5) × (code ≢ 6) × (code ≢ 10) × (code ≢ 12) × (code ≢ 15) × (code ≢ 16) × (code ≢ 28) × (code ≢ 41) × (code ≢ 250) }
-    ensures own { IsTrue result → ¬ ((code ≢ 1) × (code ≢ 2) × (code ≢ 5) × (code ≢ 6) × (code ≢ 10) × (code ≢ 12) × (code ≢ 15) × (code ≢ 16) × (code ≢ 28) × (code ≢ 41) × (code ≢ 250)) }
+    ensures other { IsFalse result → HasNoForm code }
+    ensures own { IsTrue result → ¬ (HasNoForm code) }
 {
     matches!(code, 1 | 2 | 5 | 6 | 10 | 12 | 15 | 16 | 28 | 41 | 250)
 }
@@ -203,6 +203,10 @@ fn put_octets(
 
 /// Puts the data of a record behind text, a space before each word (RFC 1035 section 5.1): in the form of their type, or in the form that is one for
 /// all types, `\#`, their length and hexadecimal digits (RFC 3597 section 5), where the type has none that is printed or the data are not in it.
+///
+/// Printed are forms of numbers, times, names, character strings, addresses and types, and behind these of hexadecimal digits or base 64; moments are
+/// their seconds since 1970. In the form that is one for all stand data with a salt, a hash, sets of types, EUI-48 and EUI-64, identifiers and locators of
+/// nodes, NSAP addresses, service parameters, ports, address prefixes, gateways, relays, the identity of a host, or a location.
 ///
 /// Behind whatever text they stand, the words read as these data, with any origin, in a line and in a zone file, and as no other data of the type but such
 /// of the same octets. Data that no record is read with are refused, and data of more than 65,535 bytes. Behind an error, some text may have been put.

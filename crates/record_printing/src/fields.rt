@@ -2,12 +2,13 @@
 //!
 //! Each function tells how many bytes of the data the field takes, or `None` where they do not begin with one.
 
-ghost use Rattle.std.specs.Prelude.{◌≡◌, ◌<◌, ◌≤◌, ◌^◌, ℕ, [], ◌∷◌, length, take, string_bytes, IfOk, IfSome};
+ghost use Rattle.std.specs.Prelude.{◌<◌, ◌≤◌, ◌^◌, [], ◌∷◌, length, string_bytes, IfOk, IfSome, IsTrue};
+ghost use Rattle.std.specs.List.{AllByRecursion};
 ghost use Rattle.std.specs.Int.{w16, w32, to_be_bytes};
-ghost use Rattle.record_printing.specs.PrintedData.{ArePrintedFields, PutsField, PutsNumber, PutsWords};
+ghost use Rattle.record_printing.specs.PrintedData.{IsWordByte, PutsNumber, TakesField, TakesFields};
 ghost use Rattle.record_text.specs.declared.data.field.Field.TheVariants.{Ipv4, Ipv6, Name, RecordType, String as StringField, Text};
 
-use crate::text::{put_label, put_number, put_quoted, put_type};
+use crate::text::{put_bare, put_label, put_number, put_quoted, put_type};
 use record_text::Field;
 use std::alloc::AllocError;
 use std::net::{Ipv4Addr, Ipv6Addr};
@@ -53,7 +54,7 @@ fn put_number32(data: &[u8], out: &mut String) -> Result<Option<usize>, AllocErr
 
 /// Puts a name in full: its labels with a dot behind each, or a dot alone.
 fn put_name(data: &[u8], out: &mut String) -> Result<Option<usize>, AllocError>
-    ensures { IfOk result (λ len. IfSome len (λ n. (n ≤ length «data».now) × PutsField Name (take n «data».now) (string_bytes out.old) (string_bytes out.new))) }
+    ensures { IfOk result (TakesField Name «data».now (string_bytes out.old) (string_bytes out.new)) }
 {
     out.push_str(" ")?;
     let mut place = 0;
@@ -78,7 +79,7 @@ fn put_name(data: &[u8], out: &mut String) -> Result<Option<usize>, AllocError>
 /// Puts a character string, in quotes.
 pub(crate) fn put_string(data: &[u8], out: &mut String) -> Result<Option<usize>, AllocError>
     ensures some { IfOk result (λ len. IfSome len (λ n. 0 < n)) }
-    ensures put { IfOk result (λ len. IfSome len (λ n. (n ≤ length «data».now) × PutsField StringField (take n «data».now) (string_bytes out.old) (string_bytes out.new))) }
+    ensures put { IfOk result (TakesField StringField «data».now (string_bytes out.old) (string_bytes out.new)) }
 {
     let [len, behind @ ..] = data else {
         return Ok(None);
@@ -91,9 +92,50 @@ pub(crate) fn put_string(data: &[u8], out: &mut String) -> Result<Option<usize>,
     Ok(Some(1 + len))
 }
 
+/// Whether a byte is a letter or a digit.
+fn is_word_byte(byte: u8) -> bool
+    ensures { IsTrue result → IsWordByte byte }
+{
+    matches!(byte, b'0'..=b'9' | b'A'..=b'Z' | b'a'..=b'z')
+}
+
+/// Whether bytes are letters and digits, at least one.
+fn is_word(bytes: &[u8]) -> bool
+    ensures some { IsTrue result → 0 < length bytes.now }
+    ensures each { IsTrue result → AllByRecursion IsWordByte bytes.now }
+{
+    if bytes.is_empty() {
+        return false;
+    }
+    for byte in bytes {
+        if !is_word_byte(*byte) {
+            return false;
+        }
+    }
+    true
+}
+
+/// Puts a character string that is a field: in no quotes where it is of letters and digits, as the tag of a CAA record stands (RFC 8659 section 4.1.1).
+fn put_string_field(data: &[u8], out: &mut String) -> Result<Option<usize>, AllocError>
+    ensures { IfOk result (TakesField StringField «data».now (string_bytes out.old) (string_bytes out.new)) }
+{
+    let [len, behind @ ..] = data else {
+        return Ok(None);
+    };
+    let len = usize::from(*len);
+    if len > behind.len() {
+        return Ok(None);
+    }
+    if !is_word(&behind[..len]) {
+        return put_string(data, out);
+    }
+    put_bare(&behind[..len], out)?;
+    Ok(Some(1 + len))
+}
+
 /// Puts all bytes as text in quotes.
 fn put_text(data: &[u8], out: &mut String) -> Result<Option<usize>, AllocError>
-    ensures { IfOk result (λ len. IfSome len (λ n. (n ≤ length «data».now) × PutsField Text (take n «data».now) (string_bytes out.old) (string_bytes out.new))) }
+    ensures { IfOk result (TakesField Text «data».now (string_bytes out.old) (string_bytes out.new)) }
 {
     put_quoted(data, out)?;
     Ok(Some(data.len()))
@@ -101,7 +143,7 @@ fn put_text(data: &[u8], out: &mut String) -> Result<Option<usize>, AllocError>
 
 /// Puts an IPv4 address.
 fn put_ipv4(data: &[u8], out: &mut String) -> Result<Option<usize>, AllocError>
-    ensures { IfOk result (λ len. IfSome len (λ n. (n ≤ length «data».now) × PutsField Ipv4 (take n «data».now) (string_bytes out.old) (string_bytes out.new))) }
+    ensures { IfOk result (TakesField Ipv4 «data».now (string_bytes out.old) (string_bytes out.new)) }
 {
     let Some(octets) = data.first_chunk::<4>() else {
         return Ok(None);
@@ -113,7 +155,7 @@ fn put_ipv4(data: &[u8], out: &mut String) -> Result<Option<usize>, AllocError>
 
 /// Puts an IPv6 address.
 fn put_ipv6(data: &[u8], out: &mut String) -> Result<Option<usize>, AllocError>
-    ensures { IfOk result (λ len. IfSome len (λ n. (n ≤ length «data».now) × PutsField Ipv6 (take n «data».now) (string_bytes out.old) (string_bytes out.new))) }
+    ensures { IfOk result (TakesField Ipv6 «data».now (string_bytes out.old) (string_bytes out.new)) }
 {
     let Some(octets) = data.first_chunk::<16>() else {
         return Ok(None);
@@ -125,7 +167,7 @@ fn put_ipv6(data: &[u8], out: &mut String) -> Result<Option<usize>, AllocError>
 
 /// Puts a type.
 fn put_record_type(data: &[u8], out: &mut String) -> Result<Option<usize>, AllocError>
-    ensures { IfOk result (λ len. IfSome len (λ n. (n ≤ length «data».now) × PutsField RecordType (take n «data».now) (string_bytes out.old) (string_bytes out.new))) }
+    ensures { IfOk result (TakesField RecordType «data».now (string_bytes out.old) (string_bytes out.new)) }
 {
     let Some(octets) = data.first_chunk::<2>() else {
         return Ok(None);
@@ -136,7 +178,7 @@ fn put_record_type(data: &[u8], out: &mut String) -> Result<Option<usize>, Alloc
 
 /// Puts a field. Fields of the other kinds are not printed, and data that have them stand in the form that is one for all types.
 fn put_field(field: Field, data: &[u8], out: &mut String) -> Result<Option<usize>, AllocError>
-    ensures { IfOk result (λ len. IfSome len (λ n. (n ≤ length «data».now) × PutsField field (take n «data».now) (string_bytes out.old) (string_bytes out.new))) }
+    ensures { IfOk result (TakesField field «data».now (string_bytes out.old) (string_bytes out.new)) }
 {
     match field {
         Field::Number8 => put_number8(data, out),
@@ -147,7 +189,7 @@ fn put_field(field: Field, data: &[u8], out: &mut String) -> Result<Option<usize
         Field::Time => put_number32(data, out),
         Field::Moment => put_number32(data, out),
         Field::Name => put_name(data, out),
-        Field::String => put_string(data, out),
+        Field::String => put_string_field(data, out),
         Field::Text => put_text(data, out),
         Field::Ipv4 => put_ipv4(data, out),
         Field::Ipv6 => put_ipv6(data, out),
@@ -163,7 +205,7 @@ pub(crate) fn put_fields(
     out: &mut String,
 ) -> Result<Option<usize>, AllocError>
     ensures within { IfOk result (λ len. IfSome len (λ n. n ≤ length «data».now)) }
-    ensures put { IfOk result (λ len. IfSome len (λ n. PutsWords (λ printed. ArePrintedFields fields.now printed (take n «data».now)) (string_bytes out.old) (string_bytes out.new))) }
+    ensures put { IfOk result (TakesFields fields.now «data».now (string_bytes out.old) (string_bytes out.new)) }
 {
     let mut place = 0;
     for field in fields {

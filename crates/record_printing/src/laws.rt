@@ -14,11 +14,13 @@ ghost use Rattle.record_printing.specs.Printed.{ArePrinted, EndsHere, IsSound, P
 
 /// Words that are printed stand in the text.
 pub fn printed_words_stand()
-    ensures { (kind : TextKind) (before behind : List ℕ) (printed : List Printed) → EndsHere kind behind → All IsSound printed → (words : List Word) × ArePrinted printed words × AreWordsTo kind (before ++ line_of printed ++ behind) (length before) 0 words (length before + length (line_of printed)) }
+    ensures { (kind : TextKind) (before behind : List ℕ) (printed : List Printed) → EndsHere kind behind → All IsSound printed
+        → (words : List Word) × ArePrinted printed words × AreWordsTo kind (before ++ line_of printed ++ behind) (length before) 0 words (length before + length (line_of printed)) }
 {}
 
 /// What is printed of data is read: it is not refused as data of their type, and what is read of it has the same octets.
 pub fn printed_data_are_read()
     ensures taken { (rdata : RData) (text : List ℕ) → IsTextOf rdata text → HasNone (HasData None (type_of rdata) Line text 0 0) → ⊥ }
-    ensures same { (rdata other : RData) (text : List ℕ) → IsTextOf rdata text → HasData None (type_of rdata) Line text 0 0 other → data_octets other ≡ data_octets rdata }
+    ensures same { (rdata other : RData) (text : List ℕ) → IsTextOf rdata text → HasData None (type_of rdata) Line text 0 0 other
+        → data_octets other ≡ data_octets rdata }
 {}

@@ -27,6 +27,17 @@ pub(crate) fn put_quoted(bytes: &[u8], out: &mut String) -> Result<(), AllocErro
     write!(out, " \"{text}\"")
 }
 
+/// Puts a string in no quotes, which must be such that it stands as it is.
+pub(crate) fn put_bare(bytes: &[u8], out: &mut String) -> Result<(), AllocError>
+    ensures { OnOk result (string_bytes out.new ≡ string_bytes out.old ++ 32 ∷ bytes_text true bytes.now) }
+{
+    let text = TextBytes {
+        bytes,
+        quoted: true,
+    };
+    write!(out, " {text}")
+}
+
 /// Puts a label, and a dot behind it.
 pub(crate) fn put_label(bytes: &[u8], out: &mut String) -> Result<(), AllocError>
     ensures { OnOk result (string_bytes out.new ≡ string_bytes out.old ++ (bytes_text false bytes.now ++ 46 ∷ [])) }
