@@ -1,6 +1,6 @@
 //! A zone handler whose updates are on the disk before they are answered.
 
-ghost use Rattle.std.specs.Prelude.{◌≡◌, IfErr, IfOk, IsTrue, None, false};
+ghost use Rattle.std.specs.Prelude.{◌≡◌, ◌⊎◌, IfErr, IfOk, IsTrue, None, false};
 ghost use Rattle.hickory_base.specs.zone_store.ZoneAnswers.{LookedUp};
 ghost use Rattle.hickory_base.specs.declared.zone_store.lookup.LookupControlFlow.TheVariants.{Skip};
 ghost use Rattle.hickory_store.specs.Permission.{transfer_permission};
@@ -8,8 +8,9 @@ ghost use Rattle.hickory_store.specs.TransferAnswers.{SearchedIn, TransferredAs}
 ghost use Rattle.durable_updates.specs.Batches.{AnswersBatch};
 ghost use Rattle.durable_updates.specs.DurableUpdates.{AnswersDurably};
 ghost use Rattle.sqlite_disk.specs.Disk.{Only};
-ghost use Rattle.durable_updates.specs.Recorded.{AreRecovered, IsDurable, IsHandedBack, IsOpenedFrom, IsRecovered, IsSpare};
+ghost use Rattle.durable_updates.specs.Recorded.{AreRecovered, IsDurable, IsHandedBack, IsOpenedFrom, IsRecovered, IsRefused, IsSpare};
 ghost use Rattle.durable_updates.specs.Recovering.{counting};
+ghost use Rattle.durable_updates.specs.OpenErrors.{is_no_journal};
 ghost use Rattle.durable_updates.specs.Snapshots.{Recalls};
 ghost use Rattle.hickory_base.specs.zone_store.ZoneAnswers.{MemoryZone};
 ghost use Rattle.update_journal.specs.Read.{contents};
@@ -33,14 +34,14 @@ use sqlite_disk::Disk;
 use std::alloc::{AllocError, Global};
 use std::marker::Model;
 use thiserror::Error;
-use update_journal::{Journal, JournalError, generation, recover};
+use update_journal::{Journal, RecoverError, generation, recover};
 
 /// Why the journal of a zone was not opened.
 #[derive(Debug, Drop, Error)]
 pub enum OpenError {
     /// Its file was not recovered.
     #[error("{0}")]
-    Journal(JournalError),
+    Journal(RecoverError),
     /// Its entries were not done again.
     #[error("{0}")]
     Entries(RedoError),
@@ -74,7 +75,7 @@ impl<V: Verifier, D: Disk + Drop> JournalledZone<V, D> {
     /// file is a journal without entries. It takes memory for the file twice and for the zone, and writes at most one byte, with
     /// one sync.
     ///
-    /// With an error the file is handed back. It stands for the same entries.
+    /// With an error the file is handed back. It stands for the same entries, and one that is no journal's is as it was.
     pub fn open(
         alloc: Global,
         zone: SqliteZoneHandler<V>,
@@ -86,6 +87,7 @@ impl<V: Verifier, D: Disk + Drop> JournalledZone<V, D> {
         ensures recovered { IfOk result (λ handler. IsRecovered D.Disk disk zone.zone handler.zone) }
         ensures others { IfOk result (λ handler. handler ≡ record zone { zone = handler.zone }) }
         ensures err { IfErr result (λ e. IsOpenedFrom D.Disk disk e.1) }
+        ensures refused { IfErr result (λ e. IsTrue (is_no_journal e.0) → IsRefused D.Disk disk e.1) }
     {
         let mut zone = zone;
         let mut disk = disk;
@@ -103,7 +105,7 @@ impl<V: Verifier, D: Disk + Drop> JournalledZone<V, D> {
     /// the place of its records. `compact` goes from the one file to the other. Two empty files are a journal without entries. It takes
     /// memory for both files twice and for the zone, and writes at most one byte to each, with one sync.
     ///
-    /// With an error the files are handed back. They stand for the same entries.
+    /// With an error the files are handed back. They stand for the same entries, and where one is no journal's, that is as it was.
     pub fn open_two(
         alloc: Global,
         zone: SqliteZoneHandler<V>,
@@ -116,6 +118,7 @@ impl<V: Verifier, D: Disk + Drop> JournalledZone<V, D> {
         ensures recovered { IfOk result (λ handler. AreRecovered D.Disk first second zone.zone handler.zone) }
         ensures others { IfOk result (λ handler. handler ≡ record zone { zone = handler.zone }) }
         ensures err { IfErr result (λ e. IsHandedBack D.Disk first e.1 × IsHandedBack D.Disk second e.2) }
+        ensures refused { IfErr result (λ e. IsTrue (is_no_journal e.0) → IsRefused D.Disk first e.1 ⊎ IsRefused D.Disk second e.2) }
     {
         let mut zone = zone;
         let mut first = first;
