@@ -1,5 +1,5 @@
 #!/usr/bin/env python3
-"""Makes the journals of cases/zone_journal/files and cases/zone_serve/files, and those that cases of tests_zones find: frames of requests, and a gate behind
+"""Makes the journals of cases/zone_journal/files and cases/zone_serve/files, and those that cases of tests_zones and zone_serve find: frames of requests, and a gate behind
 them.
 
     cases/journal_files.py
@@ -58,6 +58,10 @@ SNAPSHOT = [
     said(record("quoted.example.com", TXT, IN, 60, b"\3a\"b\1\\")),
 ]
 
+# Fronts of files that are no journals: of SQLite's format 3 (its "Database File Format", section 1.3), and of PNG (RFC 2083 sections 3.1 and 4.1.1).
+DATABASE = b"SQLite format 3\0" + struct.pack(">HBBBBBB", 512, 1, 1, 0, 64, 32, 32) + bytes(488)
+IMAGE = bytes([137, 80, 78, 71, 13, 10, 26, 10]) + struct.pack(">I4sIIBBBBB", 13, b"IHDR", 1, 1, 8, 6, 0, 0, 0) + bytes.fromhex("1f15c489")
+
 FILES = {
     "none.journal": b"",
     "emptied.journal": b"\0" + journal([ADDED])[1:],
@@ -73,6 +77,12 @@ FILES = {
     "other_zone.journal": journal([ADDED, OTHER]),
     "query.journal": journal([QUERY, ADDED]),
     "no_message.journal": journal([ADDED, b"no message", TWO]),
+    "database": DATABASE,
+    "image": IMAGE,
+    "first_cut.journal": journal([ADDED])[:-20],
+    "zeros.journal": bytes(64),
+    "letter.journal": b"a",
+    "opened_alone.journal": b"\1",
 }
 
 # Those that a server opens, which writes to them.
@@ -100,7 +110,18 @@ FOUND = {
     "incremental_compacted.journal": FILES["compacted.journal"],
 }
 
-FOLDERS = (("zone_journal/files", FILES), ("zone_serve/files", SERVED), ("tests_zones", FOUND))
+# And cases of zone_serve.
+FOUND_BY_A_SERVER = {
+    "journal_is_a_text.journal": b"root:x:0:0:root:/root:/bin/bash\n",
+    "journal_is_a_database.journal": DATABASE,
+    "journal_is_an_image.journal": IMAGE,
+    "journal_of_a_cut_entry.journal": FILES["first_cut.journal"],
+    "journal_of_zeros.journal": FILES["zeros.journal"],
+    "journal_of_a_letter.journal": FILES["letter.journal"],
+    "journal_of_a_gate.journal": FILES["opened_alone.journal"],
+}
+
+FOLDERS = (("zone_journal/files", FILES), ("zone_serve/files", SERVED), ("tests_zones", FOUND), ("zone_serve", FOUND_BY_A_SERVER))
 
 
 def main():

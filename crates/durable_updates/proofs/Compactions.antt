@@ -175,4 +175,5 @@ module _ {D : Type 0} (disks : DiskGhosts D) where
     entries = contents (counting found).items;
     stand = stand_for first second found opened other are;
     recalled = recalls;
+    journals = λ a b. (are.first_recovers.journal a, are.second_recovers.journal b);
   }

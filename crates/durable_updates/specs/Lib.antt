@@ -4,6 +4,7 @@ pub mod CompactedRuns
 pub mod Compactions
 pub mod DurableUpdates
 pub mod Journalling
+pub mod OpenErrors
 pub mod Recorded
 pub mod Recovering
 pub mod Redone

@@ -7,9 +7,10 @@ use Rattle.update_journal.specs.Frames.{IsBeforeOrAfter}
 use Rattle.update_journal.specs.Generations.{StandFor}
 use Rattle.update_journal.specs.JournalState.{JournalState}
 use Rattle.update_journal.specs.Read.{contents}
-use Rattle.update_journal.specs.Recovery.{Recovers}
+use Rattle.update_journal.specs.JournalFile.{IsJournal}
+use Rattle.update_journal.specs.Recovery.{IsLeftAlone, Recovers}
 use Rattle.update_journal.specs.Settled.{IsSettled}
-use Rattle.update_journal.specs.declared.error.JournalError.{JournalError}
+use Rattle.update_journal.specs.declared.error.RecoverError.{RecoverError}
 use Rattle.update_journal.specs.declared.reading.Recovered.{Recovered}
 use Rattle.durable_updates.specs.Batches.{bytes_of}
 use Rattle.durable_updates.specs.Redone.{Redone}
@@ -50,18 +51,24 @@ module _ {D : Type 0} (disks : DiskGhosts D) where
     pub recovers : Recovers disks.seen disks.may_leave disks.is_clean disk (Ok found) opened
     pub redone : Redone (contents found.entries.items) base new
 
-  -- The zone is the one that the entries which count of two recovered disks make of the first.
+  -- Both disks were recovered, so that each has a journal's file, and the zone is the one that the entries which count of them make of the first.
   pub record AreRecovered (first second : D) (base new : MemoryZone) : Type 0 where
     pub opened : D
     pub other : D
     pub entries : List (List ℕ)
     pub stand : IsTrue (disks.is_clean opened) → IsTrue (disks.is_clean other) → StandFor (disks.seen first) (disks.seen second) entries
     pub recalled : Recalls entries base new
+    pub journals : IsTrue (disks.is_clean opened) → IsTrue (disks.is_clean other) → IsJournal (disks.seen first) × IsJournal (disks.seen second)
 
   -- A recovery of this disk, or an attempt at it, has left the other.
   abbrev pub IsOpenedFrom : D → D → Type 0
-  IsOpenedFrom disk opened = (result : Result Recovered JournalError) × Recovers disks.seen disks.may_leave disks.is_clean disk result opened
+  IsOpenedFrom disk opened = (result : Result Recovered RecoverError) × Recovers disks.seen disks.may_leave disks.is_clean disk result opened
 
   -- The disk is as it was, or as a recovery, or an attempt at it, has left it.
   abbrev pub IsHandedBack : D → D → Type 0
   IsHandedBack disk handed = (handed ≡ disk) ⊎ IsOpenedFrom disk handed
+
+  -- What the disk has is no journal's file, where it told no lie, and nothing was written to it.
+  pub record IsRefused (disk handed : D) : Type 0 where
+    pub none : IsTrue (disks.is_clean handed) → IsJournal (disks.seen disk) → ⊥
+    pub left_alone : IsLeftAlone disks.seen disks.may_leave disk handed

@@ -16,7 +16,7 @@ use Rattle.update_journal.specs.JournalState.{JournalState}
 use Rattle.update_journal.specs.Read.{contents}
 use Rattle.update_journal.specs.Recovery.{Recovers}
 use Rattle.update_journal.specs.declared.reading.Recovered.{Recovered}
-use Rattle.update_journal.specs.declared.error.JournalError.{JournalError}
+use Rattle.update_journal.specs.declared.error.RecoverError.{RecoverError}
 use Rattle.durable_updates.specs.Batches.{AnswersBatch, Told, accepted, bytes_of}
 use Rattle.durable_updates.specs.DurableUpdates.{AnswersDurably}
 use Rattle.durable_updates.specs.Journalling.{Journals, JournalsAll, RefusesEntries, RefusesEntry}
@@ -93,7 +93,7 @@ module _ {V D : Type 0} (by : Ghosts V) (disks : DiskGhosts D) where
     pub journals : JournalsAll disks.seen disks.may_leave answers.written (bytes_of (accepted requests answers.judged)) old.journal new.journal
 
   -- A disk has this file, and nothing else, as after a crash; its recovery answers so, and the disk told no lie: the contract of `recover`.
-  pub record Opens (file : List ℕ) (result : Result Recovered JournalError) (opened : D) : Type 0 where
+  pub record Opens (file : List ℕ) (result : Result Recovered RecoverError) (opened : D) : Type 0 where
     pub disk : D
     pub there : disks.seen disk ≡ file
     pub restarted : Only (disks.seen disk) (disks.may_leave disk)
@@ -122,7 +122,7 @@ module _ {V D : Type 0} (by : Ghosts V) (disks : DiskGhosts D) where
   -- A life begins with one file, and a crash leaves another: while the server started, or between two calls, or while it was at one request or at a
   -- batch, at any moment of the call.
   pub data IsLife (most : ℕ) (base : MemoryZone) (file : List ℕ) : Life → List ℕ → Type 0 where
-    while_starting : {next : List ℕ} {result : Result Recovered JournalError} {opened : D} → Opens file result opened → disks.may_leave opened next → IsLife most base file unused next
+    while_starting : {next : List ℕ} {result : Result Recovered RecoverError} {opened : D} → Opens file result opened → disks.may_leave opened next → IsLife most base file unused next
     between_requests : {next : List ℕ} {life : Life} {first server : Server V D} → Starts base file first → Serves most first life server → disks.may_leave server.journal.disk next
         → IsLife most base file life next
     within_request : {next : List ℕ} {life : Life} {first old new : Server V D} (request : ReceivedRequest) (now : ℕ) (answer : Result Bool UpdateFault) (context : Option TSigResponseContext)

@@ -1,6 +1,6 @@
 //! A zone handler whose updates are on the disk before they are answered.
 
-ghost use Rattle.std.specs.Prelude.{◌≡◌, IfErr, IfOk, IsTrue, None, false};
+ghost use Rattle.std.specs.Prelude.{◌≡◌, ◌⊎◌, IfErr, IfOk, IsTrue, None, false};
 ghost use Rattle.hickory_base.specs.zone_store.ZoneAnswers.{LookedUp};
 ghost use Rattle.hickory_base.specs.declared.zone_store.lookup.LookupControlFlow.TheVariants.{Skip};
 ghost use Rattle.hickory_store.specs.Permission.{transfer_permission};
@@ -8,8 +8,9 @@ ghost use Rattle.hickory_store.specs.TransferAnswers.{SearchedIn, TransferredAs}
 ghost use Rattle.durable_updates.specs.Batches.{AnswersBatch};
 ghost use Rattle.durable_updates.specs.DurableUpdates.{AnswersDurably};
 ghost use Rattle.sqlite_disk.specs.Disk.{Only};
-ghost use Rattle.durable_updates.specs.Recorded.{AreRecovered, IsDurable, IsHandedBack, IsOpenedFrom, IsRecovered, IsSpare};
+ghost use Rattle.durable_updates.specs.Recorded.{AreRecovered, IsDurable, IsHandedBack, IsOpenedFrom, IsRecovered, IsRefused, IsSpare};
 ghost use Rattle.durable_updates.specs.Recovering.{counting};
+ghost use Rattle.durable_updates.specs.OpenErrors.{is_no_journal};
 ghost use Rattle.durable_updates.specs.Snapshots.{Recalls};
 ghost use Rattle.durable_updates.specs.Versions.{AreFollowed};
 ghost use Rattle.hickory_base.specs.zone_store.ZoneAnswers.{MemoryZone};
@@ -35,7 +36,7 @@ use sqlite_disk::Disk;
 use std::alloc::{AllocError, Global};
 use std::marker::Model;
 use thiserror::Error;
-use update_journal::{Journal, JournalError, generation, recover};
+use update_journal::{Journal, RecoverError, generation, recover};
 use zone_differences::History;
 
 /// Why the journal of a zone was not opened.
@@ -43,7 +44,7 @@ use zone_differences::History;
 pub enum OpenError {
     /// Its file was not recovered.
     #[error("{0}")]
-    Journal(JournalError),
+    Journal(RecoverError),
     /// Its entries were not done again.
     #[error("{0}")]
     Entries(RedoError),
@@ -77,7 +78,7 @@ impl<V: Verifier, D: Disk + Drop> JournalledZone<V, D> {
     /// file is a journal without entries. It takes memory for the file twice and for the zone, and writes at most one byte, with
     /// one sync.
     ///
-    /// With an error the file is handed back. It stands for the same entries.
+    /// With an error the file is handed back. It stands for the same entries, and one that is no journal's is as it was.
     pub fn open(
         alloc: Global,
         zone: SqliteZoneHandler<V>,
@@ -89,6 +90,7 @@ impl<V: Verifier, D: Disk + Drop> JournalledZone<V, D> {
         ensures recovered { IfOk result (λ handler. IsRecovered D.Disk disk zone.zone handler.zone) }
         ensures others { IfOk result (λ handler. handler ≡ record zone { zone = handler.zone }) }
         ensures err { IfErr result (λ e. IsOpenedFrom D.Disk disk e.1) }
+        ensures refused { IfErr result (λ e. IsTrue (is_no_journal e.0) → IsRefused D.Disk disk e.1) }
     {
         let mut zone = zone;
         let mut disk = disk;
@@ -106,7 +108,7 @@ impl<V: Verifier, D: Disk + Drop> JournalledZone<V, D> {
     /// the place of its records. `compact` goes from the one file to the other. Two empty files are a journal without entries. It takes
     /// memory for both files twice and for the zone, and writes at most one byte to each, with one sync.
     ///
-    /// With an error the files are handed back. They stand for the same entries.
+    /// With an error the files are handed back. They stand for the same entries, and where one is no journal's, that is as it was.
     pub fn open_two(
         alloc: Global,
         zone: SqliteZoneHandler<V>,
@@ -119,6 +121,7 @@ impl<V: Verifier, D: Disk + Drop> JournalledZone<V, D> {
         ensures recovered { IfOk result (λ handler. AreRecovered D.Disk first second zone.zone handler.zone) }
         ensures others { IfOk result (λ handler. handler ≡ record zone { zone = handler.zone }) }
         ensures err { IfErr result (λ e. IsHandedBack D.Disk first e.1 × IsHandedBack D.Disk second e.2) }
+        ensures refused { IfErr result (λ e. IsTrue (is_no_journal e.0) → IsRefused D.Disk first e.1 ⊎ IsRefused D.Disk second e.2) }
     {
         let mut zone = zone;
         let mut first = first;

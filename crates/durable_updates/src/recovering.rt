@@ -1,13 +1,14 @@
 //! Two files that a journal is in by turns.
 
-ghost use Rattle.std.specs.Prelude.{◌≡◌, IfOk, IsTrue};
+ghost use Rattle.std.specs.Prelude.{◌≡◌, ◌⊎◌, IfErr, IfOk, IsTrue};
 ghost use Rattle.sqlite_disk.specs.Disk.{Only};
-ghost use Rattle.durable_updates.specs.Recorded.{IsHandedBack};
+ghost use Rattle.durable_updates.specs.Recorded.{IsHandedBack, IsRefused};
 ghost use Rattle.durable_updates.specs.Recovering.{AreFound, counting};
+ghost use Rattle.update_journal.specs.Errors.{is_refusal};
 
 use sqlite_disk::Disk;
 use std::alloc::Global;
-use update_journal::{JournalError, Recovered, is_newer, recover};
+use update_journal::{RecoverError, Recovered, is_newer, recover};
 
 /// What was found in two files, and which of them counts.
 #[derive(Drop)]
@@ -36,11 +37,12 @@ pub(crate) fn recover_two<D: Disk>(
     alloc: Global,
     first: &mut D,
     second: &mut D,
-) -> Result<TwoRecovered, JournalError>
+) -> Result<TwoRecovered, RecoverError>
     requires usable { IsTrue (D.is_usable first.old) × IsTrue (D.is_usable second.old) }
     requires restarted { Only (D.seen first.old) (D.may_leave first.old) × Only (D.seen second.old) (D.may_leave second.old) }
     ensures found { IfOk result (λ found. AreFound D.Disk first.old second.old found first.new second.new) }
     ensures handed_back { IsHandedBack D.Disk first.old first.new × IsHandedBack D.Disk second.old second.new }
+    ensures refused { IfErr result (λ e. IsTrue (is_refusal e) → IsRefused D.Disk first.old first.new ⊎ IsRefused D.Disk second.old second.new) }
 {
     let found = recover(alloc, first)?;
     let other = recover(alloc, second)?;

@@ -2,11 +2,12 @@
 //! authoritative server does (RFC 1034 section 4.3.2).
 #![tactic(auto)]
 
-ghost use Rattle.std.specs.Prelude.{◌≡◌, IfErr, IfOk, IfSome, IsTrue, None, false, is_some, true};
+ghost use Rattle.std.specs.Prelude.{◌≡◌, ◌⊎◌, IfErr, IfOk, IfSome, IsTrue, None, false, is_some, true};
 ghost use Rattle.hickory_base.specs.declared.zone_store.lookup.LookupControlFlow.TheVariants.{Skip};
 ghost use Rattle.hickory_store.specs.Permission.{transfer_permission};
 ghost use Rattle.dynamic_zone.specs.DynamicZones.{LookedUp, Searched, TransferAnswered};
-ghost use Rattle.durable_updates.specs.Recorded.{AreRecovered, IsDurable, IsHandedBack};
+ghost use Rattle.durable_updates.specs.OpenErrors.{is_no_journal};
+ghost use Rattle.durable_updates.specs.Recorded.{AreRecovered, IsDurable, IsHandedBack, IsRefused};
 ghost use Rattle.sqlite_disk.specs.Disk.{Only};
 ghost use Rattle.durable_zone.specs.DurableZones.{Updates, kept_zone};
 
@@ -87,6 +88,7 @@ impl<V: Verifier, D: Disk + Drop> DurableZone<V, D> {
         ensures recovered { IfOk result (λ opened. AreRecovered D.Disk first second zone.zone opened.updatable.zone) }
         ensures others { IfOk result (λ opened. opened ≡ record { updatable = record zone { zone = opened.updatable.zone }; is_journalled = true }) }
         ensures err { IfErr result (λ e. IsHandedBack D.Disk first e.1 × IsHandedBack D.Disk second e.2) }
+        ensures refused { IfErr result (λ e. IsTrue (is_no_journal e.0) → IsRefused D.Disk first e.1 ⊎ IsRefused D.Disk second e.2) }
     {
         match JournalledZone::open_two(alloc, zone, first, second) {
             Ok(opened) => Ok(DurableZone::journalled(opened)),

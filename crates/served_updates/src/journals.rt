@@ -1,7 +1,9 @@
 //! Opening the journals of zones that are served.
 
 ghost use Rattle.std.specs.Prelude.{◌≡◌, IfOk, IsTrue, OnOk};
+ghost use Rattle.durable_updates.specs.OpenErrors.{is_no_journal};
 ghost use Rattle.sqlite_disk.specs.Disk.{Only};
+ghost use Rattle.served_updates.specs.JournalFaults.{tells_no_journal};
 ghost use Rattle.served_updates.specs.Journals.{HasJournal, IsJournalled, OpensJournal};
 
 use crate::moving::{Handler, Zones};
@@ -14,7 +16,7 @@ use incremental_zone::IncrementalZone;
 use sqlite_disk::Disk;
 use std::alloc::{AllocError, AllocFailed, Global};
 use thiserror::Error;
-use update_journal::JournalError;
+use update_journal::{JournalError, RecoverError};
 
 /// What was found as the journal of a zone was opened.
 #[derive(Clone, Copy, Debug, PartialEq, Eq)]
@@ -33,6 +35,9 @@ pub enum JournalFault {
     /// No zone of this name takes updates.
     #[error("no zone of this name takes updates")]
     NoUpdates,
+    /// One of its files is no journal's, and is left as it is.
+    #[error("it is no journal")]
+    NotAJournal,
     /// Its files are not recovered.
     #[error("the disk failed")]
     Disk,
@@ -60,12 +65,15 @@ impl<T: Drop> From<AllocFailed<T>> for JournalFault {
 }
 
 /// The fault of a journal that is not opened.
-fn fault_of(error: &OpenError) -> JournalFault {
+fn fault_of(error: &OpenError) -> JournalFault
+    ensures { tells_no_journal result ≡ is_no_journal error.now }
+{
     match error {
-        OpenError::Journal(JournalError::Memory) | OpenError::Entries(RedoError::Memory) => {
+        OpenError::Journal(RecoverError::Memory) | OpenError::Entries(RedoError::Memory) => {
             JournalFault::Memory
         }
-        OpenError::Journal(_) => JournalFault::Disk,
+        OpenError::Journal(RecoverError::NotAJournal) => JournalFault::NotAJournal,
+        OpenError::Journal(RecoverError::Disk(_)) => JournalFault::Disk,
         OpenError::Entries(RedoError::Damaged) => JournalFault::Damaged,
     }
 }
@@ -146,7 +154,7 @@ fn open_in_chain<D: Disk + Drop>(
 /// it is answered (RFC 2136 section 3.5). What the last updates changed that the journal had behind its snapshot is kept, up to as many records of transfers as
 /// the zone of the snapshot has record sets (RFC 1995 section 5), and up to 200 of a smaller one.
 ///
-/// A disk that fails while the journal is compacted is told by `takes_updates`: the zone is served as its journal says, and each update is ServFail. After an
+/// Where one of the files is no journal's, nothing is written to it. A disk that fails while the journal is compacted is told by `takes_updates`: the zone is served as its journal says, and each update is ServFail. After an
 /// error the zone may be gone.
 pub fn open_journal<D: Disk + Drop>(
     alloc: Global,

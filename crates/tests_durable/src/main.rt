@@ -26,7 +26,7 @@ use std::io::Read;
 use std::net::{IpAddr, Ipv4Addr, SocketAddr};
 use std::process::ExitCode;
 use std::{env, io};
-use update_journal::JournalError;
+use update_journal::RecoverError;
 
 /// The zone of before the first entry.
 const ZONE: &str = "@ 60 SOA ns hostmaster 1 60 60 60 60\n";
@@ -189,7 +189,7 @@ fn first_zone(alloc: Global) -> Result<SqliteZoneHandler<Trusting>, Fault> {
 /// The fault of a journal that was not opened.
 fn fault_of(error: &OpenError) -> Fault {
     match error {
-        OpenError::Journal(JournalError::Memory) | OpenError::Entries(RedoError::Memory) => {
+        OpenError::Journal(RecoverError::Memory) | OpenError::Entries(RedoError::Memory) => {
             Fault::Memory
         }
         _ => Fault::Journal,

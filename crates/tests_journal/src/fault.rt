@@ -2,7 +2,7 @@
 
 use std::alloc::{AllocError, AllocFailed};
 use thiserror::Error;
-use update_journal::JournalError;
+use update_journal::RecoverError;
 
 /// Why the program ends before its input does.
 #[derive(Clone, Copy, Debug, PartialEq, Eq, Error)]
@@ -45,10 +45,10 @@ impl<T: Drop> From<AllocFailed<T>> for Fault {
     }
 }
 
-impl From<JournalError> for Fault {
-    fn from(e: JournalError) -> Fault {
+impl From<RecoverError> for Fault {
+    fn from(e: RecoverError) -> Fault {
         match e {
-            JournalError::Memory => Fault::Memory,
+            RecoverError::Memory => Fault::Memory,
             _ => Fault::Journal,
         }
     }

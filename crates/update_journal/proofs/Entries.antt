@@ -4,7 +4,8 @@ use Rattle.std.specs.Int.{w32, to_be_bytes}
 use Rattle.std.proofs.lemmas.Bool.{cases_eq}
 use Rattle.std.proofs.lemmas.List.{append-nil}
 use Rattle.update_journal.specs.Frames.{frame, frames, AreSmall, IsBeforeOrAfter, IsEnd, StandsFor, ended, framed}
-use Rattle.update_journal.specs.Settled.{behind_gate}
+use Rattle.update_journal.specs.JournalFile.{IsJournal}
+use Rattle.update_journal.specs.Settled.{behind_gate, IsClosed}
 
 -- frames, and then whatever the rest stands for
 pub after_frames : (entries : List (List ℕ)) (rest : List ℕ) (more : List (List ℕ)) → AreSmall entries → StandsFor rest more → StandsFor (frames entries ++ rest) (entries ++ more)
@@ -18,6 +19,23 @@ shut gate rest closed entry more small e = closed (ap (λ (l : List ℕ). get_or
 
 pub zero_not_one : (gate : ℕ) → gate ≡ 0 → gate ≢ 1
 zero_not_one gate is e = absurd (omega arith)
+
+pub not_open : (entries : List (List ℕ)) (gate : ℕ) → IsClosed entries gate → gate ≢ 1
+not_open [] gate closed = zero_not_one gate closed
+not_open (entry ∷ entries) gate closed = closed
+
+pub closed_by_zero : (entries : List (List ℕ)) → IsClosed entries 0
+closed_by_zero [] = λ i. 0
+closed_by_zero (entry ∷ entries) = zero_not_one 0 (λ i. 0)
+
+-- the first frame is whole, whatever stands behind it
+pub framed_journal : (entry : List ℕ) (entries : List (List ℕ)) (rest : List ℕ) → AreSmall (entry ∷ entries) → IsJournal (frames (entry ∷ entries) ++ rest)
+framed_journal entry entries rest small = inr (inr (entry, frames entries ++ rest, small.0, append_assoc (frame entry) (frames entries) rest))
+
+-- a file with a closed gate is a journal's
+pub closed_journal : (entries : List (List ℕ)) (gate : ℕ) (rest : List ℕ) → AreSmall entries → IsClosed entries gate → IsJournal (frames entries ++ gate ∷ rest)
+closed_journal [] gate rest small closed = inr (inl closed)
+closed_journal (entry ∷ entries) gate rest small closed = framed_journal entry entries (gate ∷ rest) small
 
 -- the frames of two lists stand one behind the other
 pub frames-append : (entries added : List (List ℕ)) (rest : List ℕ) → frames (entries ++ added) ++ rest ≡ frames entries ++ (frames added ++ rest)
@@ -47,6 +65,14 @@ stands_gate entries first others gate junk small new = by (cases_eq gate 1)
         (subst (λ f. StandsFor f (first ∷ others)) (sym (ap (λ (g : ℕ). g ∷ (behind_gate first others ++ junk)) is_open ∙ framed_by first others junk))
         (stands_closed (first ∷ others) 0 junk (zero_not_one 0 (λ i. 0)) new)))
     by (inr closed) = inl (stands_closed entries gate (behind_gate first others ++ junk) closed small)
+
+-- a gate before entries that stand whole, where each byte is old or new
+pub gate_journal : (entries : List (List ℕ)) (first : List ℕ) (others : List (List ℕ)) (gate : ℕ) (junk : List ℕ) → AreSmall entries → AreSmall (first ∷ others) → IsClosed entries gate ⊎ (gate ≡ 1)
+    → IsJournal (frames entries ++ gate ∷ (behind_gate first others ++ junk))
+gate_journal (entry ∷ entries) first others gate junk small new is = framed_journal entry entries (gate ∷ (behind_gate first others ++ junk)) small
+gate_journal [] first others gate junk small new (inl closed) = inr (inl closed)
+gate_journal [] first others gate junk small new (inr is_open) =
+    subst IsJournal (sym (ap (λ (g : ℕ). g ∷ (behind_gate first others ++ junk)) is_open ∙ framed_by first others junk)) (framed_journal first others (0 ∷ junk) new)
 
 -- with the gate open they are among the frames
 pub opened_is : (entries : List (List ℕ)) (first : List ℕ) (others : List (List ℕ)) (junk : List ℕ) → frames entries ++ 1 ∷ (behind_gate first others ++ junk) ≡ frames (entries ++ first ∷ others) ++ 0 ∷ junk

@@ -1,5 +1,5 @@
 -- What is read of a file, and that there is one reading.
-use Rattle.std.proofs.Common.{◌≡◌, inl, inr, ⊎_elim, ℕ, suc, ◌+◌, ◌<◌, ◌≤◌, List, [], ◌∷◌, ◌++◌, length, get_or, take, drop, sym, ◌∙◌, ap, subst, arith, append_assoc, length-append, length-drop, add-zero, take-append-drop, Vec}
+use Rattle.std.proofs.Common.{◌≡◌, ◌≢◌, ◌⊎◌, inl, inr, ⊎_elim, ℕ, suc, ◌+◌, ◌<◌, ◌≤◌, List, [], ◌∷◌, ◌++◌, length, get_or, take, drop, sym, ◌∙◌, ap, subst, arith, append_assoc, length-append, length-drop, add-zero, take-append-drop, Vec}
 use Rattle.std.specs.Int.{w32, to_be_bytes, from_be_bytes}
 use Rattle.std.specs.declared.alloc.Global.{Global}
 use Rattle.std.proofs.lemmas.Bool.{cases_eq}
@@ -8,9 +8,11 @@ use Rattle.std.proofs.lemmas.List.{append-nil, take_at, drop_at, drop_more, leng
 use Rattle.std.proofs.lemmas.Nat.{be_bytes_4, from_be_bytes-to_be_bytes_4}
 use Rattle.sqlite_disk.specs.Disk.{Holds, Torn}
 use Rattle.update_journal.specs.Frames.{frame, frames, AreSmall, IsEnd, IsSmall, StandsFor, ended, framed}
+use Rattle.update_journal.specs.JournalFile.{IsJournal}
 use Rattle.update_journal.specs.Read.{contents, IsSplit}
+use Rattle.update_journal.specs.Settled.{IsClosed}
 use Rattle.update_journal.proofs.Files.{kept, written, one_byte}
-use Rattle.update_journal.proofs.Entries.{after_frames, shut, frames-append, small_all}
+use Rattle.update_journal.proofs.Entries.{after_frames, framed_journal, shut, zero_not_one, frames-append, small_all}
 
 -- the length that stands in a frame
 len_of : List ℕ → ℕ
@@ -91,8 +93,8 @@ small_and_more read v entry small new is =
 short : (bytes : List ℕ) → length bytes < 5 → IsEnd bytes
 short bytes few entry rest small e = absurd (omega (arith, ap length e, few, length-append (frame entry) rest, length-append (to_be_bytes w32 (length entry)) entry))
 
--- What a write of one byte at the end leaves, where what stands there is no gate or an open one.
-pub closing : (file : List ℕ) (entries : List (List ℕ)) (end : ℕ) (c : List ℕ) → IsSplit file entries end → (end < length file → get_or file end 0 ≡ 1) → Torn end 1 file c → StandsFor c entries
+-- What a write of one byte at the end leaves, where what stands there is no gate or an open one, or is all that the file has.
+pub closing : (file : List ℕ) (entries : List (List ℕ)) (end : ℕ) (c : List ℕ) → IsSplit file entries end → (end < length file → (get_or file end 0 ≡ 1) ⊎ (length file ≤ 1)) → Torn end 1 file c → StandsFor c entries
 closing file entries end c s tested torn = by s.rest s.split s.ends
   where
     by : (rest : List ℕ) → file ≡ frames entries ++ rest → IsEnd rest → StandsFor c entries
@@ -105,11 +107,13 @@ closing file entries end c s tested torn = by s.rest s.split s.ends
         let torn' : Torn end 1 (frames entries ++ b ∷ r) c = subst (λ f. Torn end 1 f c) split torn in
         let is : c ≡ frames entries ++ get_or c end 0 ∷ r = one_byte end (frames entries) r b c s.place torn' in
         let within : end < length file = omega (arith, ap length split, length-append (frames entries) (b ∷ r), s.place) in
-        let open_gate : b ≡ 1 = sym (here b r) ∙ ap (λ (l : List ℕ). get_or l end 0) (sym split) ∙ tested within in
-        let no_frame : IsEnd (get_or c end 0 ∷ r) = elim (cases_eq (get_or c end 0) 1) [
-          | inl opened ↦ subst (λ g. IsEnd (g ∷ r)) (open_gate ∙ sym opened) ends
+        let no_frame : IsEnd (get_or c end 0 ∷ r) = ⊎_elim
+        (λ opened. elim (cases_eq (get_or c end 0) 1) [
+          | inl again ↦ subst (λ g. IsEnd (g ∷ r)) (sym (here b r) ∙ ap (λ (l : List ℕ). get_or l end 0) (sym split) ∙ opened ∙ sym again) ends
           | inr closed ↦ shut (get_or c end 0) r closed
-        ] in
+        ])
+        (λ alone. short (get_or c end 0 ∷ r) (omega (arith, alone, ap length split, length-append (frames entries) (b ∷ r))))
+        (tested within) in
         subst (λ f. StandsFor f entries) (sym is) (subst (StandsFor (frames entries ++ get_or c end 0 ∷ r)) (append-nil entries) (after_frames entries (get_or c end 0 ∷ r) [] s.small (ended no_frame)))
       where
         here : (b : ℕ) (r : List ℕ) → get_or (frames entries ++ b ∷ r) end 0 ≡ b
@@ -130,3 +134,35 @@ gate_there file entries end s within = (
 pub closed_by : (file : List ℕ) (entries : List (List ℕ)) (end : ℕ) (new : List ℕ) → IsSplit file entries end → Torn end 1 file new → Holds new end (0 ∷ []) → (junk : List ℕ) × (new ≡ frames entries ++ 0 ∷ junk)
 closed_by file entries end new s torn holds =
     (drop 1 (drop end new), written end (0 ∷ []) (frames entries) s.rest new (subst (λ f. Torn end 1 f new) s.split torn) s.place holds)
+
+-- It leaves a journal's file a journal's.
+pub closing_journal : (file : List ℕ) (entries : List (List ℕ)) (end : ℕ) (c : List ℕ) → IsSplit file entries end → (end < length file → (get_or file end 0 ≡ 1) ⊎ (length file ≤ 1)) → IsJournal file → Torn end 1 file c → IsJournal c
+closing_journal file (entry ∷ entries) end c s tested was torn =
+    subst IsJournal (sym (kept end 1 (frames (entry ∷ entries)) s.rest c (subst (λ f. Torn end 1 f c) s.split torn) s.place)) (framed_journal entry entries (drop end c) s.small)
+closing_journal file [] end c s tested was torn = by was (cases_lt end (length file))
+  where
+    few : length file ≤ 1 → IsJournal c
+    few alone = inl (omega (arith, alone, torn.no_longer, s.place))
+
+    by : IsJournal file → (end < length file) ⊎ (length file ≤ end) → IsJournal c
+    by is (inr none) = few (omega (arith, none, s.place))
+    by (inl alone) (inl some) = few alone
+    by (inr (inl closed)) (inl some) = ⊎_elim (λ opened. absurd (zero_not_one (get_or file 0 0) closed (ap (λ k. get_or file k 0) (sym s.place) ∙ opened))) few (tested some)
+    by (inr (inr begins)) (inl some) = absurd (s.ends begins.0 begins.1 begins.2 (sym s.split ∙ begins.3))
+
+-- The gate that stands behind the frames of a journal's file is closed, where it is not open, and 0 where it is alone.
+pub closed_there : (file : List ℕ) (entries : List (List ℕ)) (end : ℕ) → IsSplit file entries end → IsJournal file → get_or file end 0 ≢ 1 → (1 < length file) ⊎ (get_or file 0 0 ≡ 0) → IsClosed entries (get_or file end 0)
+closed_there file (entry ∷ entries) end s was shut first = shut
+closed_there file [] end s was shut first = ap (λ k. get_or file k 0) s.place ∙ by was first
+  where
+    by : IsJournal file → (1 < length file) ⊎ (get_or file 0 0 ≡ 0) → get_or file 0 0 ≡ 0
+    by is (inr closed) = closed
+    by (inl alone) (inl more) = absurd (omega (arith, alone, more))
+    by (inr (inl closed)) (inl more) = closed
+    by (inr (inr begins)) (inl more) = absurd (s.ends begins.0 begins.1 begins.2 (sym s.split ∙ begins.3))
+
+-- Bytes that begin with no whole frame, of which there is more than one, and the first is not 0.
+pub no_journal : (bytes : List ℕ) → 1 < length bytes → get_or bytes 0 0 ≢ 0 → IsEnd bytes → IsJournal bytes → ⊥
+no_journal bytes more opened ends (inl alone) = omega (arith, alone, more)
+no_journal bytes more opened ends (inr (inl closed)) = opened closed
+no_journal bytes more opened ends (inr (inr begins)) = ends begins.0 begins.1 begins.2 begins.3

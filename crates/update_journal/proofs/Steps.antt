@@ -1,20 +1,30 @@
 -- What a crash leaves in each step of adding entries.
-use Rattle.std.proofs.Common.{◌≡◌, ◌≢◌, ◌⊎◌, inl, inr, ℕ, ◌+◌, ◌<◌, List, [], ◌∷◌, ◌++◌, length, get_or, drop, sym, ◌∙◌, ap, subst, refl, arith, append_assoc, length-append, Bool, true, false, OnErr, Result, Ok, Err}
+use Rattle.std.proofs.Common.{◌≡◌, ◌≢◌, ◌⊎◌, inl, inr, ℕ, ◌+◌, ◌<◌, List, [], ◌∷◌, ◌++◌, length, get_or, add-zero, drop, sym, ◌∙◌, ap, subst, refl, arith, append_assoc, length-append, Bool, true, false, OnErr, Result, Ok, Err}
 use Rattle.std.specs.Prelude.{IsFalse, IsTrue}
 use Rattle.std.specs.Int.{w32, to_be_bytes}
 use Rattle.std.proofs.lemmas.Bool.{cases_eq}
-use Rattle.sqlite_disk.specs.Disk.{Holds, Torn, Follows}
+use Rattle.std.proofs.lemmas.List.{drop_at, get_or-drop}
+use Rattle.sqlite_disk.specs.Disk.{Holds, Mixed, Torn, Follows}
 use Rattle.update_journal.specs.Errors.{is_of_disk}
 use Rattle.update_journal.specs.Frames.{frames, AreSmall, IsBeforeOrAfter, StandsFor}
+use Rattle.update_journal.specs.JournalFile.{IsJournal}
 use Rattle.update_journal.specs.JournalState.{JournalState}
-use Rattle.update_journal.specs.Settled.{behind_gate, IsAtRest, IsOpened, IsSettled, IsStaged}
+use Rattle.update_journal.specs.Settled.{behind_gate, IsAtRest, IsClosed, IsOpened, IsSettled, IsStaged}
 use Rattle.update_journal.specs.declared.error.JournalError.{JournalError}
 use Rattle.update_journal.proofs.Files.{kept, written, one_byte, one_byte_done}
-use Rattle.update_journal.proofs.Entries.{zero_not_one, stands_closed, stands_gate, opened_is, small_all, place_all}
+use Rattle.update_journal.proofs.Entries.{not_open, closed_by_zero, closed_journal, gate_journal, stands_closed, stands_gate, opened_is, small_all, place_all}
+
+-- what stands behind a front
+gate_at : (front : List ℕ) (gate : ℕ) (rest : List ℕ) → get_or (front ++ gate ∷ rest) (length front + 0) 0 ≡ gate
+gate_at front gate rest =
+    sym (get_or-drop (length front) (front ++ gate ∷ rest) 0 0) ∙ ap (λ (l : List ℕ). get_or l 0 0) (drop_at front (gate ∷ rest) (length front) (λ i. length front))
 
 module _ {D : Type 0} (seen : D → List ℕ) (may_leave : D → List ℕ → Type 0) (disk : D) (end : ℕ) (entries : List (List ℕ)) where
   pub rests : IsAtRest seen may_leave disk end entries → (c : List ℕ) → may_leave disk c → StandsFor c entries
-  rests s c left = subst (λ f. StandsFor f entries) (sym (s.durable c left ∙ s.file)) (stands_closed entries s.gate s.junk s.closed s.small)
+  rests s c left = subst (λ f. StandsFor f entries) (sym (s.durable c left ∙ s.file)) (stands_closed entries s.gate s.junk (not_open entries s.gate s.closed) s.small)
+
+  pub rests_journal : IsAtRest seen may_leave disk end entries → (c : List ℕ) → may_leave disk c → IsJournal c
+  rests_journal s c left = subst IsJournal (sym (s.durable c left ∙ s.file)) (closed_journal entries s.gate s.junk s.small s.closed)
 
   -- the file up to its gate, and what is behind it
   at_gate : (s : IsAtRest seen may_leave disk end entries) → seen disk ≡ (frames entries ++ s.gate ∷ []) ++ s.junk
@@ -23,13 +33,20 @@ module _ {D : Type 0} (seen : D → List ℕ) (may_leave : D → List ℕ → Ty
   behind : (s : IsAtRest seen may_leave disk end entries) → end + 1 ≡ length (frames entries ++ s.gate ∷ [])
   behind s = omega (arith, s.place, length-append (frames entries) (s.gate ∷ []))
 
-  pub staging : IsAtRest seen may_leave disk end entries → (n : ℕ) (now : List ℕ → Type 0) → Follows (Torn (end + 1) n) (may_leave disk) now → (c : List ℕ) → now c → StandsFor c entries
-  staging s n now follows c left =
+  -- a write behind the gate leaves all that stands up to it
+  up_to_gate : (s : IsAtRest seen may_leave disk end entries) → (n : ℕ) (now : List ℕ → Type 0) → Follows (Torn (end + 1) n) (may_leave disk) now → (c : List ℕ) → now c → c ≡ frames entries ++ s.gate ∷ drop (end + 1) c
+  up_to_gate s n now follows c left =
       let from = follows c left in
       let torn : Torn (end + 1) n ((frames entries ++ s.gate ∷ []) ++ s.junk) c = subst (λ f. Torn (end + 1) n f c) (s.durable from.0 from.1 ∙ at_gate s) from.2 in
-      let rest = drop (end + 1) c in
-      let is : c ≡ frames entries ++ s.gate ∷ rest = kept (end + 1) n (frames entries ++ s.gate ∷ []) s.junk c torn (behind s) ∙ append_assoc (frames entries) (s.gate ∷ []) rest in
-      subst (λ f. StandsFor f entries) (sym is) (stands_closed entries s.gate rest s.closed s.small)
+      kept (end + 1) n (frames entries ++ s.gate ∷ []) s.junk c torn (behind s) ∙ append_assoc (frames entries) (s.gate ∷ []) (drop (end + 1) c)
+
+  pub staging : IsAtRest seen may_leave disk end entries → (n : ℕ) (now : List ℕ → Type 0) → Follows (Torn (end + 1) n) (may_leave disk) now → (c : List ℕ) → now c → StandsFor c entries
+  staging s n now follows c left =
+      subst (λ f. StandsFor f entries) (sym (up_to_gate s n now follows c left)) (stands_closed entries s.gate (drop (end + 1) c) (not_open entries s.gate s.closed) s.small)
+
+  pub staging_journal : IsAtRest seen may_leave disk end entries → (n : ℕ) (now : List ℕ → Type 0) → Follows (Torn (end + 1) n) (may_leave disk) now → (c : List ℕ) → now c → IsJournal c
+  staging_journal s n now follows c left =
+      subst IsJournal (sym (up_to_gate s n now follows c left)) (closed_journal entries s.gate (drop (end + 1) c) s.small s.closed)
 
   pub staged : (s : IsAtRest seen may_leave disk end entries) → (first : List ℕ) (others : List (List ℕ)) (bytes : List ℕ) (next : D) → bytes ≡ behind_gate first others → Torn (end + 1) (length bytes) (seen disk) (seen next) → Holds (seen next) (end + 1) bytes
       → (junk : List ℕ) × (seen next ≡ frames entries ++ s.gate ∷ (behind_gate first others ++ junk))
@@ -48,6 +65,23 @@ module _ {D : Type 0} (seen : D → List ℕ) (may_leave : D → List ℕ → Ty
         let torn : Torn end 1 (frames entries ++ s.gate ∷ (behind_gate first others ++ s.junk)) c = subst (λ f. Torn end 1 f c) (s.durable from.0 from.1 ∙ s.file) from.2 in
         subst (IsBeforeOrAfter entries (first ∷ others)) (sym (one_byte end (frames entries) (behind_gate first others ++ s.junk) s.gate c s.place torn)) (stands_gate entries first others (get_or c end 0) s.junk s.small new)
 
+    -- the gate is the old one, or open
+    old_or_open : (c : List ℕ) → Mixed end (1 ∷ []) (frames entries ++ s.gate ∷ (behind_gate first others ++ s.junk)) c → IsClosed entries (get_or c end 0) ⊎ (get_or c end 0 ≡ 1)
+    old_or_open c mixed = by (mixed.each 0 (omega arith) (omega (arith, s.place, length-append (frames entries) (s.gate ∷ (behind_gate first others ++ s.junk)))))
+      where
+        by : (get_or c (end + 0) 0 ≡ get_or (frames entries ++ s.gate ∷ (behind_gate first others ++ s.junk)) (end + 0) 0) ⊎ (get_or c (end + 0) 0 ≡ 1) → IsClosed entries (get_or c end 0) ⊎ (get_or c end 0 ≡ 1)
+        by (inl same) = inl (subst (IsClosed entries) (sym (ap (λ k. get_or c k 0) (sym (add-zero end)) ∙ same ∙ here_gate)) s.closed)
+          where
+            here_gate : get_or (frames entries ++ s.gate ∷ (behind_gate first others ++ s.junk)) (end + 0) 0 ≡ s.gate
+            here_gate = ap (λ k. get_or (frames entries ++ s.gate ∷ (behind_gate first others ++ s.junk)) (k + 0) 0) s.place ∙ gate_at (frames entries) s.gate (behind_gate first others ++ s.junk)
+        by (inr is_open) = inr (ap (λ k. get_or c k 0) (sym (add-zero end)) ∙ is_open)
+
+    pub opening_journal : AreSmall (first ∷ others) → (now : List ℕ → Type 0) → Follows (Mixed end (1 ∷ [])) (may_leave disk) now → (c : List ℕ) → now c → IsJournal c
+    opening_journal new now follows c left =
+        let from = follows c left in
+        let mixed : Mixed end (1 ∷ []) (frames entries ++ s.gate ∷ (behind_gate first others ++ s.junk)) c = subst (λ f. Mixed end (1 ∷ []) f c) (s.durable from.0 from.1 ∙ s.file) from.2 in
+        subst IsJournal (sym (one_byte end (frames entries) (behind_gate first others ++ s.junk) s.gate c s.place mixed.torn)) (gate_journal entries first others (get_or c end 0) s.junk s.small new (old_or_open c mixed))
+
     pub opened : (next : D) → Torn end 1 (seen disk) (seen next) → Holds (seen next) end (1 ∷ []) → seen next ≡ frames entries ++ 1 ∷ (behind_gate first others ++ s.junk)
     opened next torn holds =
         one_byte_done end (frames entries) (behind_gate first others ++ s.junk) s.gate 1 (seen next) s.place (subst (λ f. Torn end 1 f (seen next)) s.file torn) holds
@@ -58,7 +92,7 @@ module _ {D : Type 0} (seen : D → List ℕ) (may_leave : D → List ℕ → Ty
   rests_more first others next place s small o moved = record {
     gate = 0;
     junk = o.junk;
-    closed = zero_not_one 0 (λ i. 0);
+    closed = closed_by_zero (entries ++ first ∷ others);
     file = o.file ∙ opened_is entries first others o.junk;
     place = moved ∙ ap (λ k. k + length (behind_gate first others)) s.place ∙ sym (place_all entries first others);
     small = small_all entries (first ∷ others) s.small small;
@@ -85,8 +119,19 @@ module _ {D : Type 0} (seen : D → List ℕ) (may_leave : D → List ℕ → Ty
     where
       by : {rest : List ℕ} → c ≡ get_or c 0 0 ∷ rest → seen disk ≡ 1 ∷ rest → (get_or c 0 0 ≡ 1) ⊎ (get_or c 0 0 ≢ 1) → StandsFor c entries ⊎ StandsFor c []
       by {rest} is file (inl is_open) =
-          inl (subst (λ f. StandsFor f entries) (sym (is ∙ ap (λ (b : ℕ). b ∷ rest) is_open ∙ sym file ∙ s.file)) (stands_closed entries s.gate s.junk s.closed s.small))
+          inl (subst (λ f. StandsFor f entries) (sym (is ∙ ap (λ (b : ℕ). b ∷ rest) is_open ∙ sym file ∙ s.file)) (stands_closed entries s.gate s.junk (not_open entries s.gate s.closed) s.small))
       by {rest} is file (inr closed) = inr (subst (λ f. StandsFor f []) (sym is) (stands_closed [] (get_or c 0 0) rest closed tt))
+
+  pub clearing_journal : (entries : List (List ℕ)) → IsAtRest seen may_leave disk end entries → 0 < end → (now : List ℕ → Type 0) → Follows (Mixed 0 (0 ∷ [])) (may_leave disk) now → (c : List ℕ) → now c → IsJournal c
+  clearing_journal entries s some now follows c left =
+      let from = follows c left in
+      let first = first_is entries s some in
+      let mixed : Mixed 0 (0 ∷ []) (1 ∷ first.0) c = subst (λ f. Mixed 0 (0 ∷ []) f c) (s.durable from.0 from.1 ∙ first.1) from.2 in
+      by first.1 (one_byte 0 [] first.0 1 c (λ i. 0) mixed.torn) (mixed.each 0 (omega arith) (omega arith))
+    where
+      by : {rest : List ℕ} → seen disk ≡ 1 ∷ rest → c ≡ get_or c 0 0 ∷ rest → (get_or c 0 0 ≡ 1) ⊎ (get_or c 0 0 ≡ 0) → IsJournal c
+      by {rest} file is (inl is_open) = subst IsJournal (sym (is ∙ ap (λ (b : ℕ). b ∷ rest) is_open ∙ sym file ∙ s.file)) (closed_journal entries s.gate s.junk s.small s.closed)
+      by file is (inr closed) = inr (inl closed)
 
   pub cleared : (entries : List (List ℕ)) (next : D) → IsAtRest seen may_leave disk end entries → 0 < end → Torn 0 1 (seen disk) (seen next) → Holds (seen next) 0 (0 ∷ []) → (junk : List ℕ) × (seen next ≡ 0 ∷ junk)
   cleared entries next s some torn holds =

@@ -3,15 +3,21 @@ use Rattle.std.specs.Prelude.{◌≡◌, ◌≢◌, ℕ, List, [], ◌∷◌, �
 use Rattle.std.specs.Int.{w32, to_be_bytes}
 use Rattle.sqlite_disk.specs.Disk.{Only}
 use Rattle.update_journal.specs.Frames.{frames, AreSmall, StandsFor}
+use Rattle.update_journal.specs.JournalFile.{IsJournal}
 use Rattle.update_journal.specs.JournalState.{JournalState}
 
+-- A gate behind these entries that is not open; at the front of the file it is 0.
+abbrev pub IsClosed : List (List ℕ) → ℕ → Type 0
+IsClosed [] gate = gate ≡ 0
+IsClosed (entry ∷ entries) gate = gate ≢ 1
+
 module _ {D : Type 0} (seen : D → List ℕ) (may_leave : D → List ℕ → Type 0) where
-  -- The file is the frames of these entries, and then, at this place, a gate that is not open. What stands behind it counts for nothing. All of
+  -- The file is the frames of these entries, and then, at this place, a gate that is closed. What stands behind it counts for nothing. All of
   -- it is on the disk.
   pub record IsAtRest (disk : D) (end : ℕ) (entries : List (List ℕ)) : Type 0 where
     pub gate : ℕ
     pub junk : List ℕ
-    pub closed : gate ≢ 1
+    pub closed : IsClosed entries gate
     pub file : seen disk ≡ frames entries ++ gate ∷ junk
     pub place : end ≡ length (frames entries)
     pub small : AreSmall entries
@@ -25,6 +31,10 @@ module _ {D : Type 0} (seen : D → List ℕ) (may_leave : D → List ℕ → Ty
   abbrev pub SettledEntriesStand : Type 0
   SettledEntriesStand = (journal : JournalState D) (entries : List (List ℕ)) → IsSettled journal entries → (c : List ℕ) → may_leave journal.disk c → StandsFor c entries
 
+  -- Each of them is a journal's.
+  abbrev pub SettledIsJournal : Type 0
+  SettledIsJournal = (journal : JournalState D) (entries : List (List ℕ)) → IsSettled journal entries → (c : List ℕ) → may_leave journal.disk c → IsJournal c
+
 -- the first of some entries with its length, the frames of the others, and a closed gate, 0
 abbrev pub behind_gate : List ℕ → List (List ℕ) → List ℕ
 behind_gate first others = (to_be_bytes w32 (length first) ++ first) ++ frames others ++ 0 ∷ []
@@ -34,6 +44,7 @@ module _ {D : Type 0} (seen : D → List ℕ) (may_leave : D → List ℕ → Ty
   pub record IsStaged (disk : D) (end : ℕ) (entries : List (List ℕ)) (first : List ℕ) (others : List (List ℕ)) : Type 0 where
     pub gate : ℕ
     pub junk : List ℕ
+    pub closed : IsClosed entries gate
     pub file : seen disk ≡ frames entries ++ gate ∷ (behind_gate first others ++ junk)
     pub place : end ≡ length (frames entries)
     pub small : AreSmall entries

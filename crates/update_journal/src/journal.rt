@@ -3,6 +3,7 @@
 ghost use Rattle.std.specs.Prelude.{◌≡◌, ◌⊎◌, ◌^◌, ◌<◌, ◌≤◌, ◌++◌, ◌∷◌, [], ℕ, List, length, Err, IfErr, OnErr, OnOk, IsTrue, IsFalse, true, false};
 ghost use Rattle.update_journal.specs.Frames.{AreTooLong, IsBeforeOrAfter, StandsFor};
 ghost use Rattle.update_journal.specs.Generations.{IsBeingReplaced, header};
+ghost use Rattle.update_journal.specs.JournalFile.{IsJournal, Mixes};
 ghost use Rattle.update_journal.specs.Read.{contents};
 ghost use Rattle.sqlite_disk.specs.Disk.{MoreFaults};
 ghost use Rattle.update_journal.specs.Errors.{is_of_disk};
@@ -85,6 +86,7 @@ impl<D: Disk> Journal<D> {
         ensures clean { D.is_clean self.new.disk ≡ D.is_clean self.old.disk }
         // Whatever the answer, a crash leaves the entries from before, with the new one or without.
         ensures crash { (entries : List (List ℕ)) → IsSettled D.seen D.may_leave self.old entries → (c : List ℕ) → D.may_leave self.new.disk c → IsBeforeOrAfter entries (entry.now ∷ []) c }
+        ensures journal { Mixes D.is_mixing → (entries : List (List ℕ)) → IsSettled D.seen D.may_leave self.old entries → (c : List ℕ) → D.may_leave self.new.disk c → IsJournal c }
     {
         self.add(alloc, entry, &[])
     }
@@ -104,6 +106,7 @@ impl<D: Disk> Journal<D> {
         ensures clean { D.is_clean self.new.disk ≡ D.is_clean self.old.disk }
         // Whatever the answer, a crash leaves the entries from before, with all of the new ones or with none.
         ensures crash { (before : List (List ℕ)) → IsSettled D.seen D.may_leave self.old before → (c : List ℕ) → D.may_leave self.new.disk c → IsBeforeOrAfter before (contents entries.now) c }
+        ensures journal { Mixes D.is_mixing → (before : List (List ℕ)) → IsSettled D.seen D.may_leave self.old before → (c : List ℕ) → D.may_leave self.new.disk c → IsJournal c }
     {
         if !self.is_open {
             return Err(JournalError::Shut);
@@ -127,6 +130,7 @@ impl<D: Disk> Journal<D> {
         ensures clean { D.is_clean self.new.disk ≡ D.is_clean self.old.disk }
         // Whatever the answer, a crash leaves the entries from before, or none.
         ensures crash { (entries : List (List ℕ)) → IsSettled D.seen D.may_leave self.old entries → (c : List ℕ) → D.may_leave self.new.disk c → StandsFor c entries ⊎ StandsFor c [] }
+        ensures journal { Mixes D.is_mixing → (entries : List (List ℕ)) → IsSettled D.seen D.may_leave self.old entries → (c : List ℕ) → D.may_leave self.new.disk c → IsJournal c }
     {
         if !self.is_ready() {
             return Err(JournalError::Shut);
@@ -164,6 +168,7 @@ impl<D: Disk> Journal<D> {
         ensures clean { D.is_clean self.new.disk ≡ D.is_clean self.old.disk }
         // Whatever the answer, a crash leaves the entries from before, or none, or all of the new ones.
         ensures crash { (before : List (List ℕ)) → IsSettled D.seen D.may_leave self.old before → (c : List ℕ) → D.may_leave self.new.disk c → IsBeingReplaced before (header generation ∷ contents entries.now) c }
+        ensures journal { Mixes D.is_mixing → (before : List (List ℕ)) → IsSettled D.seen D.may_leave self.old before → (c : List ℕ) → D.may_leave self.new.disk c → IsJournal c }
     {
         self.clear()?;
         self.add(alloc, &generation.to_be_bytes(), entries)?;
@@ -188,6 +193,7 @@ impl<D: Disk> Journal<D> {
         ensures too_long { result ≡ Err journal_error.TooLong → AreTooLong (first.now ∷ contents others.now) }
         ensures clean { D.is_clean self.new.disk ≡ D.is_clean self.old.disk }
         ensures crash { (entries : List (List ℕ)) → IsSettled D.seen D.may_leave self.old entries → (c : List ℕ) → D.may_leave self.new.disk c → IsBeforeOrAfter entries (first.now ∷ contents others.now) c }
+        ensures journal { Mixes D.is_mixing → (entries : List (List ℕ)) → IsSettled D.seen D.may_leave self.old entries → (c : List ℕ) → D.may_leave self.new.disk c → IsJournal c }
     {
         if !self.is_ready() {
             return Err(JournalError::Shut);

@@ -11,8 +11,8 @@ mod recovering;
 mod writing;
 
 pub use endings::{Ending, ending_at};
-pub use error::JournalError;
+pub use error::{JournalError, RecoverError};
 pub use generations::{generation, is_newer};
 pub use journal::Journal;
-pub use reading::{Recovered, read_entries};
+pub use reading::{Recovered, is_journal, read_entries};
 pub use recovering::recover;

@@ -1,9 +1,10 @@
 //! What is written of entries, and in which order.
 
-ghost use Rattle.std.specs.Prelude.{◌≡◌, ◌⊎◌, ◌^◌, ◌<◌, ◌++◌, ◌∷◌, [], List, ℕ, IfOk, IsErr, IsFalse, IsTrue, OnOk, length};
+ghost use Rattle.std.specs.Prelude.{◌≡◌, ◌⊎◌, ◌+◌, ◌^◌, ◌<◌, ◌++◌, ◌∷◌, [], List, ℕ, IfOk, IsErr, IsFalse, IsTrue, OnOk, length};
 ghost use Rattle.std.specs.Int.{w32, to_be_bytes};
-ghost use Rattle.sqlite_disk.specs.Disk.{CountsFault, Follows, Holds, Only, Torn};
+ghost use Rattle.sqlite_disk.specs.Disk.{CountsFault, Follows, Holds, Mixed, Only, Torn};
 ghost use Rattle.update_journal.specs.Frames.{AreSmall, IsBeforeOrAfter, IsSmall, StandsFor};
+ghost use Rattle.update_journal.specs.JournalFile.{IsJournal, Mixes};
 ghost use Rattle.update_journal.specs.Read.{contents};
 ghost use Rattle.update_journal.specs.Settled.{IsAtRest, IsOpened, IsStaged, behind_gate};
 
@@ -69,6 +70,7 @@ pub(crate) fn put<D: Disk>(disk: &mut D, at: usize, bytes: &[u8]) -> io::Result<
     ensures clean { D.is_clean disk.new ≡ D.is_clean disk.old }
     ensures faults { CountsFault result (D.faults disk.old) (D.faults disk.new) }
     ensures crash { Follows (Torn at (length bytes.now)) (D.may_leave disk.old) (D.may_leave disk.new) }
+    ensures mixed { IsTrue (D.is_mixing disk.old) → at + length bytes.now < 2 ^ 64 → Follows (Mixed at bytes.now) (D.may_leave disk.old) (D.may_leave disk.new) }
 {
     disk.write_at(at, bytes)?;
     disk.sync()?;
@@ -85,6 +87,7 @@ fn stage<D: Disk>(disk: &mut D, end: usize, bytes: &[u8]) -> io::Result<()>
     ensures faults { CountsFault result (D.faults disk.old) (D.faults disk.new) }
     // A crash leaves what was there before.
     ensures crash { (entries : List (List ℕ)) → IsAtRest D.seen D.may_leave disk.old end entries → (c : List ℕ) → D.may_leave disk.new c → StandsFor c entries }
+    ensures journal { (entries : List (List ℕ)) → IsAtRest D.seen D.may_leave disk.old end entries → (c : List ℕ) → D.may_leave disk.new c → IsJournal c }
 {
     put(disk, end + 1, bytes)?;
     Ok(())
@@ -99,6 +102,7 @@ fn open_gate<D: Disk>(disk: &mut D, end: usize) -> io::Result<()>
     ensures faults { CountsFault result (D.faults disk.old) (D.faults disk.new) }
     // A crash leaves what was there before, with these entries or without.
     ensures crash { (entries : List (List ℕ)) (first : List ℕ) (others : List (List ℕ)) → AreSmall (first ∷ others) → IsStaged D.seen D.may_leave disk.old end entries first others → (c : List ℕ) → D.may_leave disk.new c → IsBeforeOrAfter entries (first ∷ others) c }
+    ensures journal { Mixes D.is_mixing → (entries : List (List ℕ)) (first : List ℕ) (others : List (List ℕ)) → AreSmall (first ∷ others) → IsStaged D.seen D.may_leave disk.old end entries first others → (c : List ℕ) → D.may_leave disk.new c → IsJournal c }
 {
     put(disk, end, &[1])?;
     Ok(())
@@ -112,6 +116,7 @@ pub(crate) fn write<D: Disk>(disk: &mut D, end: usize, bytes: &[u8]) -> io::Resu
     ensures clean { D.is_clean disk.new ≡ D.is_clean disk.old }
     ensures faults { CountsFault result (D.faults disk.old) (D.faults disk.new) }
     ensures crash { (entries : List (List ℕ)) (first : List ℕ) (others : List (List ℕ)) → AreSmall (first ∷ others) → IsAtRest D.seen D.may_leave disk.old end entries → bytes.now ≡ behind_gate first others → (c : List ℕ) → D.may_leave disk.new c → IsBeforeOrAfter entries (first ∷ others) c }
+    ensures journal { Mixes D.is_mixing → (entries : List (List ℕ)) (first : List ℕ) (others : List (List ℕ)) → AreSmall (first ∷ others) → IsAtRest D.seen D.may_leave disk.old end entries → bytes.now ≡ behind_gate first others → (c : List ℕ) → D.may_leave disk.new c → IsJournal c }
 {
     stage(disk, end, bytes)?;
     open_gate(disk, end)?;
@@ -126,6 +131,7 @@ pub(crate) fn close_first<D: Disk>(disk: &mut D) -> io::Result<()>
     ensures faults { CountsFault result (D.faults disk.old) (D.faults disk.new) }
     // A crash leaves what was there before, or nothing.
     ensures crash { (end : ℕ) (entries : List (List ℕ)) → IsAtRest D.seen D.may_leave disk.old end entries → 0 < end → (c : List ℕ) → D.may_leave disk.new c → StandsFor c entries ⊎ StandsFor c [] }
+    ensures journal { Mixes D.is_mixing → (end : ℕ) (entries : List (List ℕ)) → IsAtRest D.seen D.may_leave disk.old end entries → 0 < end → (c : List ℕ) → D.may_leave disk.new c → IsJournal c }
 {
     put(disk, 0, &[0])?;
     Ok(())

@@ -5,13 +5,14 @@ use crate::zone::Zone;
 use durable_updates::{CompactError, JournalledZone, OpenError, RedoError, SnapshotError};
 use sqlite_disk::Files;
 use sqlite_std_file::{Unknown, open};
-use update_journal::JournalError;
+use update_journal::{JournalError, RecoverError};
 
 /// Why a journal is not opened.
 fn fault_of_opening(error: &OpenError) -> Fault {
     match error {
-        OpenError::Journal(JournalError::Memory) => Fault::Memory,
-        OpenError::Journal(_) => Fault::Unread,
+        OpenError::Journal(RecoverError::Memory) => Fault::Memory,
+        OpenError::Journal(RecoverError::NotAJournal) => Fault::OneIsNone,
+        OpenError::Journal(RecoverError::Disk(_)) => Fault::Unread,
         OpenError::Entries(RedoError::Memory) => Fault::Memory,
         OpenError::Entries(e) => Fault::Entries(*e),
     }

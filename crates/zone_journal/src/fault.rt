@@ -30,6 +30,12 @@ pub enum Fault {
     /// A file is not read, for another reason.
     #[error("the file cannot be read")]
     Unread,
+    /// A file is no journal's.
+    #[error("it is no journal")]
+    NotAJournal,
+    /// One of the two files of a journal is none's.
+    #[error("it is no journal, or the file '-wal' beside it is none")]
+    OneIsNone,
     /// A zone file is no text.
     #[error("the file is not UTF-8")]
     NotUtf8,

@@ -10,6 +10,9 @@
 //! and 5 where the journal has a fault or a file is not taken, which is told on the standard error.
 #![tactic(auto)]
 
+ghost use Rattle.std.specs.Prelude.{IfOk};
+ghost use Rattle.update_journal.specs.JournalFile.{IsJournal};
+
 mod checks;
 mod compaction;
 mod entries;
@@ -31,7 +34,7 @@ use std::alloc::{AllocError, Global};
 use std::process::ExitCode;
 use std::rt::{Env, Files};
 use std::{env, fs, io};
-use update_journal::{ending_at, generation, read_entries};
+use update_journal::{ending_at, generation, is_journal, read_entries};
 
 /// The version of this program.
 const VERSION: &str = "0.1.0";
@@ -145,6 +148,18 @@ fn bytes_of<R: Files + Alloc<A = Global>>(rt: &R, file: &str) -> Result<Vec<u8>,
     }
 }
 
+/// The bytes of a file of a journal.
+fn journal_of<R: Files + Alloc<A = Global>>(rt: &R, file: &str) -> Result<Vec<u8>, Fault>
+    ensures { IfOk result (λ bytes. IsJournal bytes.items) }
+{
+    let bytes = bytes_of(rt, file)?;
+    if is_journal(bytes.as_slice()) {
+        Ok(bytes)
+    } else {
+        Err(Fault::NotAJournal)
+    }
+}
+
 /// Prints an entry, in words or as JSON.
 fn print_one<R: Print + Alloc<A = Global>>(
     rt: &R,
@@ -189,7 +204,7 @@ fn list<R: Files + Print + Alloc<A = Global>>(
     file: &str,
     is_json: bool,
 ) -> Result<u8, Fault> {
-    let bytes = bytes_of(rt, file)?;
+    let bytes = journal_of(rt, file)?;
     let found = read_entries(rt.alloc(), bytes.as_slice())?;
     print_entries(rt, found.entries.as_slice(), is_json)?;
     Ok(0)
@@ -197,7 +212,7 @@ fn list<R: Files + Print + Alloc<A = Global>>(
 
 /// Checks a journal.
 fn check<R: Files + Print + Alloc<A = Global>>(rt: &R, file: &str) -> Result<u8, Fault> {
-    let bytes = bytes_of(rt, file)?;
+    let bytes = journal_of(rt, file)?;
     let found = read_entries(rt.alloc(), bytes.as_slice())?;
     let wrong = check_entries(rt, file, found.entries.as_slice())?;
     let ending = ending_at(bytes.as_slice(), found.end);
@@ -219,7 +234,7 @@ fn print_end<R: Files + Print + Eprint + Alloc<A = Global>>(
         Ok(zone) => zone,
         Err(fault) => return tell_of_file(rt, zone_file, fault),
     };
-    let bytes = match bytes_of(rt, file) {
+    let bytes = match journal_of(rt, file) {
         Ok(bytes) => bytes,
         Err(fault) => return tell_of_file(rt, file, fault),
     };
