@@ -1,9 +1,8 @@
 -- What a server keeps that compacts its journal now and then, and what a crash leaves of its two files.
-use Rattle.std.proofs.Common.{◌≡◌, ◌⊎◌, inl, inr, ◌<◌, ◌≤◌, ◌+◌, ◌^◌, ◌∙◌, ap, sym, subst, refl, ℕ, Bool, true, false, cond, not, IsTrue, List, [], ◌∷◌, ◌++◌, length, Option, Result, Ok, Err, OnErr, OnOk, arith}
+use Rattle.std.proofs.Common.{◌≡◌, ◌⊎◌, inl, inr, ◌<◌, ◌≤◌, ◌+◌, ◌^◌, ◌∙◌, ap, sym, subst, refl, ℕ, Bool, true, false, cond, not, IsTrue, List, [], ◌∷◌, ◌++◌, length, Result, Ok, Err, OnOk, arith}
 use Rattle.std.proofs.lemmas.Bool.{cases_lt}
 use Rattle.std.proofs.lemmas.List.{append-nil}
 use Rattle.std.proofs.lemmas.Nat.{from_be_bytes-to_be_bytes_8}
-use Rattle.wire_messages.specs.declared.rr.tsig.TSigResponseContext.{TSigResponseContext}
 use Rattle.hickory_base.specs.requests.Requests.{ReceivedRequest}
 use Rattle.hickory_base.specs.zone_store.ZoneAnswers.{MemoryZone}
 use Rattle.hickory_base.specs.declared.errors.UpdateFault.{UpdateFault}
@@ -21,19 +20,18 @@ use Rattle.update_journal.specs.Read.{contents}
 use Rattle.update_journal.specs.Settled.{IsSettled}
 use Rattle.update_journal.proofs.Pairs.{first_is, one_of_two, second_is}
 use Rattle.update_journal.proofs.Steps.{rests}
-use Rattle.durable_updates.specs.Batches.{Told, accepted, bytes_of}
-use Rattle.durable_updates.specs.CompactedRuns.{AreDisks, AreKept, CompactsOnce, IsLifeOfTwo, IsMadeBy, MayLeave, Mean, OnDisk, PairServer, RunOfTwo, SameSpare, ServesTwo, StandForRequests, StartsTwo, Turns, answered, answered_all, begun, between_calls, compacted, files_of, first_of, lived, opened, second_of, server_of, unborn, while_starting, within_batch, within_compaction, within_request}
+use Rattle.durable_updates.specs.Batches.{accepted, bytes_of}
+use Rattle.durable_updates.specs.CompactedRuns.{AreDisks, AreKept, CompactsOnce, IsLifeOfTwo, IsMadeBy, Mean, OnDisk, PairServer, RunOfTwo, SameSpare, ServesTwo, StandForRequests, StartsTwo, Turns, answered, answered_all, begun, between_calls, compacted, files_of, lived, opened, server_of, unborn, while_starting, within_batch, within_compaction, within_request}
 use Rattle.durable_updates.specs.Compactions.{Compacts, Files, Replaces, done, failed, fresh, undone}
 use Rattle.durable_updates.specs.Recorded.{IsHandedBack}
 use Rattle.durable_updates.specs.Recovering.{counting}
-use Rattle.durable_updates.specs.Redone.{Redone}
-use Rattle.durable_updates.specs.Runs.{AreRead, AtMostInDoubt, Life, MayStand, Server, ServesAll, ServesOne, after_answer, cut_short, doubted, unused}
+use Rattle.durable_updates.specs.Runs.{AreRead, AtMostInDoubt, Life, Server, after_answer, cut_short, doubted, unused}
 use Rattle.durable_updates.specs.Snapshots.{Recalls}
 use Rattle.durable_updates.specs.declared.compaction.CompactError.{CompactError}
 use Rattle.durable_updates.proofs.Accepted.{accepted_few, accepted_read}
 use Rattle.durable_updates.proofs.Compactions.{stand_for}
 use Rattle.durable_updates.proofs.Histories.{Took, bytes_more, few_after, few_doubted, stays, took_all, took_one, true_not_false}
-use Rattle.durable_updates.proofs.Made.{generation_stays, made_on, made_too, mean_more, mean_of, recalls_more, recalls_others}
+use Rattle.durable_updates.proofs.Made.{generation_stays, made_on, mean_more, mean_of, recalls_more, recalls_others}
 use Rattle.durable_updates.proofs.Recalled.{recalls_all}
 
 -- ---- which file counts

@@ -1,5 +1,5 @@
 -- Zones that requests make of a first one, up to the order of their records.
-use Rattle.std.proofs.Common.{◌≡◌, ◌⊎◌, inl, inr, ◌∙◌, ap, sym, subst, refl, ℕ, List, [], ◌∷◌, ◌++◌, length, None, Ok, Err, append_assoc, arith}
+use Rattle.std.proofs.Common.{◌≡◌, inl, inr, ◌∙◌, ap, sym, subst, refl, ℕ, List, [], ◌∷◌, ◌++◌, length, None, Ok, Err, append_assoc, arith}
 use Rattle.std.proofs.lemmas.List.{append-nil}
 use Rattle.std.proofs.lemmas.Bool.Decides.{nat_tests}
 use Rattle.std.specs.Prelude.{Bool, true, false, cond, nat_eq, take}
@@ -8,7 +8,7 @@ use Rattle.hickory_base.specs.requests.Requests.{ReceivedRequest}
 use Rattle.hickory_base.specs.requests.RequestReading.{message_of}
 use Rattle.hickory_base.specs.zone_store.ZoneAnswers.{MemoryZone}
 use Rattle.hickory_base.specs.zone_store.ZoneSets.{zone_records}
-use Rattle.hickory_store.specs.Identity.{SameZone, ttl_at}
+use Rattle.hickory_store.specs.Identity.{SameZone}
 use Rattle.hickory_store.specs.UpdateAnswers.{Outcome, applied}
 use Rattle.hickory_store.specs.UpdateLaws.{HasOneSoa, HoldsIn}
 use Rattle.hickory_store.specs.Prescan.{prescan_refusal}
@@ -21,7 +21,7 @@ use Rattle.durable_updates.specs.Redone.{Leaves, Makes, Redone, RedoesOne}
 use Rattle.durable_updates.specs.Runs.{AreRead}
 use Rattle.durable_updates.specs.Snapshots.{IsBase, IsPut, Recalls, compacted}
 use Rattle.durable_updates.proofs.Entries.{more}
-use Rattle.durable_updates.proofs.Recalled.{heads, not_both, not_read, one_split, plain, recalled_once, recalls_all, tails}
+use Rattle.durable_updates.proofs.Recalled.{heads, not_read, one_split, plain, recalled_once, recalls_all, tails}
 use Rattle.durable_updates.proofs.Sameness.{SameOutcome, applied_same, redone_once}
 
 -- ---- entries in two parts

@@ -1,17 +1,16 @@
 -- What a zone keeps leads from versions that it has had to the zone as it is.
-use Rattle.std.proofs.Common.{◌≡◌, ◌⊎◌, inl, inr, ap, refl, ℕ, Bool, true, false, List, ◌∷◌, Option, Result, Ok, Err}
+use Rattle.std.proofs.Common.{◌≡◌, inl, inr, ap, refl, ℕ, Bool, true, false, Option, Result, Ok, Err}
 use Rattle.std.specs.Prelude.{IsTrue}
 use Rattle.wire_messages.specs.declared.rr.tsig.TSigResponseContext.{TSigResponseContext}
 use Rattle.hickory_base.specs.requests.Requests.{ReceivedRequest}
-use Rattle.hickory_base.specs.zone_store.ZoneAnswers.{MemoryZone}
 use Rattle.hickory_base.specs.declared.errors.UpdateFault.{UpdateFault}
 use Rattle.hickory_store.specs.UpdatableZone.{UpdatableZone}
 use Rattle.hickory_store.specs.declared.sqlite.verifier.Verifier.{Ghosts}
 use Rattle.durable_updates.specs.DurableUpdates.{AnswersDurably}
 use Rattle.zone_differences.specs.Histories.{IsKeptUp}
-use Rattle.zone_differences.specs.Versions.{AllLead, RecordedLead}
+use Rattle.zone_differences.specs.Versions.{RecordedLead}
 use Rattle.incremental_zone.specs.IncrementalZones.{Updates, VersionedZone, now_of}
-use Rattle.incremental_zone.specs.Versions.{DifferencesLead, Serves, answered, begun}
+use Rattle.incremental_zone.specs.Versions.{DifferencesLead, answered, begun}
 
 module _ {V : Type 0} (by : Ghosts V) where
   -- an update that changed nothing

@@ -11,7 +11,6 @@ use Rattle.hickory_base.specs.declared.errors.UpdateFault.{UpdateFault}
 use Rattle.hickory_base.specs.declared.zone_store.lookup.ZoneTransfer.{ZoneTransfer}
 use Rattle.hickory_store.specs.Permission.{Permission, transfer_permission}
 use Rattle.hickory_store.specs.TransferAnswers.{transfer_or_code}
-use Rattle.hickory_store.specs.UpdatableZone.{UpdatableZone}
 use Rattle.hickory_store.specs.declared.sqlite.verifier.Verifier.{Ghosts}
 use Rattle.hickory_zone.specs.Handled.{held_serial, is_by_soa, names_zone}
 use Rattle.hickory_zone.specs.Replies.{zone_of}

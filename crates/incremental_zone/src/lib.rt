@@ -76,7 +76,7 @@ impl<V: Verifier, D: Disk + Drop> IncrementalZone<V, D> {
         // After a restart, what is read is what is on the disk.
         requires restarted { Only (D.seen first) (D.may_leave first) × Only (D.seen second) (D.may_leave second) }
         ensures followed { IfOk result (λ opened. AreFollowed D.Disk first second zone.zone opened.history (now_of opened)) }
-        ensures others { IfOk result (λ opened. opened ≡ record { kept = record { updatable = record zone { zone = now_of opened }; is_journalled = true }; history = opened.history }) }
+        ensures others { IfOk result (λ opened. opened.kept ≡ record { updatable = record zone { zone = now_of opened }; is_journalled = true }) }
         ensures err { IfErr result (λ e. IsHandedBack D.Disk first e.1 × IsHandedBack D.Disk second e.2) }
     {
         match JournalledZone::open_followed(alloc, zone, first, second, least) {

@@ -1,5 +1,5 @@
 -- Whoever applies the difference between two versions to the one has the other.
-use Rattle.std.proofs.Common.{◌≡◌, ◌∙◌, ap, sym, refl, ℕ, Bool, true, false, cond, not, ◌&&◌, ◌||◌, ◌++◌, [], ◌∷◌, List, filter, Option, Some, None}
+use Rattle.std.proofs.Common.{◌≡◌, ◌∙◌, ap, sym, refl, ℕ, Bool, true, false, cond, not, ◌&&◌, ◌||◌, [], ◌∷◌, Option, Some, None}
 use Rattle.std.specs.Prelude.{◌==◌}
 use Rattle.std.specs.List.{list_any}
 use Rattle.std.specs.Option.{is_some, option_or}
@@ -13,7 +13,7 @@ use Rattle.hickory_store.specs.Identity.{SameZone, same_record, ttl_at}
 use Rattle.hickory_store.specs.UpdateAnswers.{is_apex_soa}
 use Rattle.hickory_store.proofs.ApexNs.{Records, Resource}
 use Rattle.hickory_store.proofs.SameZones.{Identity, Respects, both_respect, name_respects, not_respects, same_itself, same_turned, same_via, some_ttl, ttl_append, ttl_filter, type_respects}
-use Rattle.zone_differences.specs.Differences.{AppliedLeads, AppliedRespects, IsDifference, applied, applied_all, is_changed, same_ttl, without}
+use Rattle.zone_differences.specs.Differences.{AppliedLeads, AppliedRespects, applied, is_changed, same_ttl, without}
 use Rattle.zone_differences.specs.declared.difference.Difference.{Difference}
 
 -- one TTL, or none

@@ -1,10 +1,10 @@
 -- What changed at some names is what changed, where all else stays.
 use Rattle.std.proofs.Common.{◌≡◌, ◌∙◌, ap, sym, refl, ℕ, Bool, true, false, cond, not, ◌&&◌, ◌||◌, ◌++◌, [], ◌∷◌, List, filter, Option, Some, None}
-use Rattle.std.specs.List.{flat_map, list_any}
+use Rattle.std.specs.List.{flat_map}
 use Rattle.std.specs.Option.{option_or}
 use Rattle.wire_names.specs.rr.domain.DomainName.{DomainName}
 use Rattle.hickory_base.specs.zone_store.ZoneRecords.{is_at, rrset}
-use Rattle.hickory_store.specs.Identity.{SameZone, same_record, ttl_at}
+use Rattle.hickory_store.specs.Identity.{SameZone, ttl_at}
 use Rattle.hickory_store.specs.NameUpdates.{of_name}
 use Rattle.hickory_store.specs.UpdateAnswers.{is_apex_soa}
 use Rattle.hickory_store.proofs.ApexNs.{Records, Resource}

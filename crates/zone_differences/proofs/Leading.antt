@@ -6,7 +6,7 @@ use Rattle.hickory_base.specs.zone_store.ZoneSets.{zone_records}
 use Rattle.hickory_store.specs.Identity.{SameZone, ttl_at}
 use Rattle.hickory_store.proofs.ApexNs.{Records}
 use Rattle.zone_differences.specs.Differences.{AppliedLeads, AppliedRespects, IsDifferenceOf, applied, applied_all}
-use Rattle.zone_differences.specs.Histories.{IsKeptUp, IsRecorded}
+use Rattle.zone_differences.specs.Histories.{IsRecorded}
 use Rattle.zone_differences.specs.Versions.{AllLead, LeadFrom, RecordedLead}
 use Rattle.zone_differences.specs.declared.difference.Difference.{Difference}
 

@@ -1,17 +1,16 @@
 -- An update leaves the names alone that it does not speak of, but for the apex.
-use Rattle.std.proofs.Common.{◌≡◌, ◌∙◌, ap, sym, refl, subst, ℕ, Bool, true, false, cond, ◌&&◌, ◌||◌, ◌++◌, [], ◌∷◌, List, filter, map, Option, Some, None, Result, Ok, Err}
+use Rattle.std.proofs.Common.{◌≡◌, ◌∙◌, ap, sym, refl, ℕ, Bool, true, false, cond, [], ◌∷◌, List, map, Option, Some, None, Ok, Err}
 use Rattle.std.specs.List.{AllByRecursion, list_any}
 use Rattle.wire_names.specs.rr.domain.DomainName.{DomainName}
-use Rattle.wire_names.specs.rr.domain.NameOrder.{name_eq}
 use Rattle.wire_names.proofs.lemmas.rr.domain.SameNames.{eq_from_same}
 use Rattle.hickory_base.specs.zone_store.ZoneAnswers.{MemoryZone}
 use Rattle.hickory_base.specs.zone_store.ZoneRecords.{is_at}
 use Rattle.hickory_base.specs.zone_store.ZoneSets.{zone_records}
 use Rattle.hickory_store.specs.Changes.{any_change, fold, is_type}
-use Rattle.hickory_store.specs.Identity.{SameZone, same_record, ttl_at}
+use Rattle.hickory_store.specs.Identity.{same_record, ttl_at}
 use Rattle.hickory_store.specs.NameUpdates.{of_name}
-use Rattle.hickory_store.specs.UpdateAnswers.{IsOutcome, applied, incremented, is_apex_soa, next_data, with_next_serial}
-use Rattle.hickory_store.proofs.ApexNs.{Records, Resource, and_left, names}
+use Rattle.hickory_store.specs.UpdateAnswers.{IsOutcome, incremented, is_apex_soa, next_data, with_next_serial}
+use Rattle.hickory_store.proofs.ApexNs.{Records, Resource, and_left}
 use Rattle.hickory_store.proofs.NamesApart.{fold_by_name}
 use Rattle.hickory_store.proofs.RecordByRecord.{itself}
 use Rattle.hickory_store.proofs.SameZones.{Identity, name_respects, ttl_filter}

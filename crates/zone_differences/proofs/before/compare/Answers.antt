@@ -1,7 +1,7 @@
 -- One name more.
 use Rattle.std.proofs.Common.{◌≡◌, ◌∙◌, ◌∷◌, ◌++◌, ◌+◌, List, arith, ap, sym, drop, append_assoc}
 use Rattle.std.specs.List.{flat_map}
-use Rattle.std.proofs.lemmas.List.{append-nil, drop_all, drop_more}
+use Rattle.std.proofs.lemmas.List.{drop_more}
 use Rattle.hickory_base.specs.zone_store.ZoneSets.{zone_records}
 use Rattle.zone_differences.specs.Standing.{came, went}
 use Rattle.zone_differences.specs.declared.names.NameRecords.{NameRecords}

@@ -1,7 +1,6 @@
 -- The set under the key of the SOA is that one record.
-use Rattle.std.proofs.Common.{◌≡◌, ◌∙◌, ◌∷◌, [], List, ap, arith, rules, sym}
+use Rattle.std.proofs.Common.{◌≡◌, ◌∙◌, ◌∷◌, [], ap, rules, sym}
 use Rattle.std.specs.Option.{option_copied}
-use Rattle.wire_names.specs.rr.domain.DomainName.{DomainName}
 use Rattle.hickory_base.specs.zone_store.ZoneRecords.{rrset}
 use Rattle.hickory_base.specs.zone_store.ZoneSets.{zone_records}
 use Rattle.hickory_store.proofs.ApexNs.{Records, Resource}

@@ -1,5 +1,5 @@
 -- The name is there in lower case.
-use Rattle.std.proofs.Common.{◌≡◌, ◌∙◌, List, ap, sym, true}
+use Rattle.std.proofs.Common.{◌∙◌, List, ap, sym}
 use Rattle.wire_names.specs.rr.domain.DomainName.{DomainName}
 use Rattle.wire_names.specs.rr.domain.NameOrder.{lower_name, name_eq}
 use Rattle.zone_differences.specs.Standing.{are_among}

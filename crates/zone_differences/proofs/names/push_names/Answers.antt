@@ -1,5 +1,5 @@
 -- One name more; and at the end all.
-use Rattle.std.proofs.Common.{◌≡◌, All, Bool, arith, rules, subst, take, true}
+use Rattle.std.proofs.Common.{◌≡◌, All, rules, subst, take, true}
 use Rattle.std.proofs.lemmas.List.{take_all}
 use Rattle.std.proofs.lemmas.List.Elements.{All-more, All-weaker}
 use Rattle.hickory_store.proofs.ApexNs.{Records, Resource}

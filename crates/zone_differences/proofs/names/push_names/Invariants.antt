@@ -1,5 +1,5 @@
 -- The names of the front are there.
-use Rattle.std.proofs.Common.{◌≡◌, All, Bool, true, take}
+use Rattle.std.proofs.Common.{◌≡◌, All, true, take}
 use Rattle.hickory_base.specs.zone_store.ZoneSets.{zone_records}
 use Rattle.zone_differences.specs.Standing.{AreStanding, are_among}
 use Rattle.zone_differences.proofs.names.push_names.Given as goal

@@ -1,5 +1,5 @@
 -- From among the newer ones on, or from among the older ones.
-use Rattle.std.proofs.Common.{◌≡◌, ◌∙◌, ◌++◌, [], List, ap, false, length, sym, true}
+use Rattle.std.proofs.Common.{◌≡◌, ◌∙◌, ◌++◌, List, ap, false, length, sym, true}
 use Rattle.std.specs.Prelude.{◌==◌}
 use Rattle.zone_differences.specs.Histories.{since}
 use Rattle.zone_differences.specs.declared.difference.Difference.{Difference}
