@@ -1,4 +1,4 @@
-use Rattle.std.proofs.Common.{◌≡◌, ℕ, arith}
+use Rattle.std.proofs.Common.{◌≡◌, arith}
 use Rattle.record_text.proofs.OneLength.{low_type_once}
 use Rattle.record_text.proofs.TypesOnce.{types_once}
 use Rattle.record_text.proofs.data.types.low_type.Goals as goal

@@ -1,6 +1,4 @@
-use Rattle.std.proofs.Common.{refl}
 use Rattle.std.proofs.lemmas.Result.{err_from_is_err_and}
-use Rattle.record_text.specs.TypeBitmaps.{bitmap, bitmap_len}
 use Rattle.record_text.proofs.data.types.put_low_types.Goals as goal
 
 pub returns-in_err-types-clause-refused : goal.returns-in_err-types-clause-refused

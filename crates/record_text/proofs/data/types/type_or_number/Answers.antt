@@ -1,5 +1,4 @@
-use Rattle.std.proofs.Common.{◌≡◌, ◌<◌, ℕ, sym, subst}
-use Rattle.text_words.specs.declared.words.Word.{Word}
+use Rattle.std.proofs.Common.{sym, subst}
 use Rattle.record_text.specs.RecordText.{SpellsLowType}
 use Rattle.record_text.specs.RecordText.SpellsLowType.{named, numbered}
 use Rattle.record_text.proofs.data.types.type_or_number.Goals as goal
