@@ -150,6 +150,7 @@ impl<V: Verifier, D: Disk + Drop> JournalledZone<V, D> {
         ensures followed { IfOk result (λ opened. AreFollowed D.Disk first second zone.zone opened.1 opened.0.zone) }
         ensures others { IfOk result (λ opened. opened.0 ≡ record zone { zone = opened.0.zone }) }
         ensures err { IfErr result (λ e. IsHandedBack D.Disk first e.1 × IsHandedBack D.Disk second e.2) }
+        ensures refused { IfErr result (λ e. IsTrue (is_no_journal e.0) → IsRefused D.Disk first e.1 ⊎ IsRefused D.Disk second e.2) }
     {
         let mut zone = zone;
         let mut first = first;

@@ -1,10 +1,11 @@
 //! A zone that takes dynamic updates (RFC 2136), and answers a client that has an earlier version of it by the differences since (RFC 1995).
 #![tactic(auto)]
 
-ghost use Rattle.std.specs.Prelude.{◌≡◌, IfErr, IfOk, IsTrue, None, [], false, true};
+ghost use Rattle.std.specs.Prelude.{◌≡◌, ◌⊎◌, IfErr, IfOk, IsTrue, None, [], false, true};
 ghost use Rattle.hickory_base.specs.declared.zone_store.lookup.LookupControlFlow.TheVariants.{Skip};
 ghost use Rattle.dynamic_zone.specs.DynamicZones.{LookedUp, Searched};
-ghost use Rattle.durable_updates.specs.Recorded.{IsHandedBack};
+ghost use Rattle.durable_updates.specs.OpenErrors.{is_no_journal};
+ghost use Rattle.durable_updates.specs.Recorded.{IsHandedBack, IsRefused};
 ghost use Rattle.durable_updates.specs.Versions.{AreFollowed};
 ghost use Rattle.sqlite_disk.specs.Disk.{Only};
 ghost use Rattle.incremental_zone.specs.IncrementalZones.{TransferGiven, Updates, now_of};
@@ -78,6 +79,7 @@ impl<V: Verifier, D: Disk + Drop> IncrementalZone<V, D> {
         ensures followed { IfOk result (λ opened. AreFollowed D.Disk first second zone.zone opened.history (now_of opened)) }
         ensures others { IfOk result (λ opened. opened.kept ≡ record { updatable = record zone { zone = now_of opened }; is_journalled = true }) }
         ensures err { IfErr result (λ e. IsHandedBack D.Disk first e.1 × IsHandedBack D.Disk second e.2) }
+        ensures refused { IfErr result (λ e. IsTrue (is_no_journal e.0) → IsRefused D.Disk first e.1 ⊎ IsRefused D.Disk second e.2) }
     {
         match JournalledZone::open_followed(alloc, zone, first, second, least) {
             Ok((opened, history)) => Ok(IncrementalZone {
