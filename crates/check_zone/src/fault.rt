@@ -1,5 +1,6 @@
 //! Why the program ends before anything is found.
 
+use record_printing::PrintError;
 use std::alloc::{AllocError, AllocFailed};
 use thiserror::Error;
 
@@ -15,6 +16,9 @@ pub enum Fault {
     /// Memory was refused.
     #[error("no memory")]
     Memory,
+    /// A record has data that no text stands for.
+    #[error("a record cannot be printed")]
+    Record,
     /// The output takes nothing.
     #[error("the output cannot be written")]
     Write,
@@ -27,6 +31,16 @@ impl Fault {
             Fault::Arguments | Fault::Origin => 2,
             Fault::Memory => 3,
             Fault::Write => 4,
+            Fault::Record => 5,
+        }
+    }
+}
+
+impl From<PrintError> for Fault {
+    fn from(error: PrintError) -> Fault {
+        match error {
+            PrintError::Memory => Fault::Memory,
+            _ => Fault::Record,
         }
     }
 }

@@ -1,7 +1,10 @@
-//! What is found, as lines.
+//! What is found, and the records of a zone, as lines.
 
+use crate::fault::Fault;
 use crate::places::{Place, Places};
-use std::{io, str};
+use record_printing::put_record;
+use std::alloc::{AllocError, Global};
+use std::str;
 use wire_messages::rr::record::Record;
 use wire_names::rr::domain::name::Name;
 use zone_check::{Finding, Severity};
@@ -48,26 +51,26 @@ impl Told<'_> {
     }
 }
 
-/// Prints the line of a finding of a record, the one of this number, from 0 on, which is told by its place, its name and its type.
-fn tell_of_record<R: Print>(
-    rt: &R,
+/// The line of a finding of a record, the one of this number, from 0 on, which is told by its place, its name and its type.
+fn line_of_record(
+    alloc: Global,
     told: &Told<'_>,
     number: usize,
     record: &Record,
     finding: Finding,
-) -> io::Result<()> {
+) -> Result<String, AllocError> {
     let word = word_of(finding.kind.severity());
     let name = &record.name;
     let record_type = record.rdata.record_type();
     let kind = finding.kind;
     match told.place_of(number) {
-        Some(place) => println!(rt;
+        Some(place) => format!(in alloc;
             "{}: line {}, column {}: {name} {record_type}: {word}: {kind}",
             told.name_at(place),
             place.line,
             place.column
         ),
-        None => println!(rt;
+        None => format!(in alloc;
             "{}: record {}: {name} {record_type}: {word}: {kind}",
             told.file,
             number.saturating_add(1)
@@ -75,23 +78,64 @@ fn tell_of_record<R: Print>(
     }
 }
 
-/// Prints the line of a finding.
-fn tell_finding<R: Print>(rt: &R, told: &Told<'_>, finding: Finding) -> io::Result<()> {
+/// The line of a finding.
+fn line_of(alloc: Global, told: &Told<'_>, finding: Finding) -> Result<String, AllocError> {
     if let Some(number) = finding.place
         && let Some(record) = told.records.get(number)
     {
-        return tell_of_record(rt, told, number, record, finding);
+        return line_of_record(alloc, told, number, record, finding);
     }
     let word = word_of(finding.kind.severity());
-    println!(rt; "{}: {}: {word}: {}", told.file, told.origin, finding.kind)
+    format!(in alloc; "{}: {}: {word}: {}", told.file, told.origin, finding.kind)
 }
 
-/// Prints a line for each finding, in their order.
-pub fn tell_findings<R: Print>(rt: &R, told: &Told<'_>, findings: &[Finding]) -> io::Result<()> {
+/// Prints a line for each finding, in their order: on the standard error where the records stand on the standard output.
+pub fn tell_findings<R: Print + Eprint + Alloc<A = Global>>(
+    rt: &R,
+    told: &Told<'_>,
+    findings: &[Finding],
+    with_records: bool,
+) -> Result<(), Fault> {
     for finding in findings {
-        tell_finding(rt, told, *finding)?;
+        let line = line_of(rt.alloc(), told, *finding)?;
+        let printed = if with_records {
+            eprintln!(rt; "{line}")
+        } else {
+            println!(rt; "{line}")
+        };
+        if printed.is_err() {
+            return Err(Fault::Write);
+        }
     }
     Ok(())
+}
+
+/// How many bytes of lines are gathered before they are printed.
+const BLOCK_LEN: usize = 65_536;
+
+/// Prints each record as a line of a zone file, in their order.
+pub fn print_records<R: Print + Alloc<A = Global>>(
+    rt: &R,
+    records: &[Record],
+) -> Result<(), Fault> {
+    let mut lines = String::new(rt.alloc());
+    for record in records {
+        put_record(rt.alloc(), record, &mut lines)?;
+        lines.push('\n')?;
+        if lines.len() >= BLOCK_LEN {
+            print_lines(rt, &lines)?;
+            lines.clear();
+        }
+    }
+    print_lines(rt, &lines)
+}
+
+/// Prints lines.
+fn print_lines<R: Print>(rt: &R, lines: &String) -> Result<(), Fault> {
+    match print!(rt; "{lines}") {
+        Ok(()) => Ok(()),
+        Err(_) => Err(Fault::Write),
+    }
 }
 
 /// The status of what is found: 0 where that is nothing, 1 where all are warnings, 5 where one is a fault.

@@ -1,5 +1,5 @@
-//! What is found of a zone file before it is served: `check_zone ORIGIN FILE [--previous FILE]` prints a line for each finding on the standard
-//! output. `check_zone --version` prints its name and version, and `check_zone --help` how it is started.
+//! What is found of a zone file before it is served: `check_zone ORIGIN FILE [--previous FILE] [--print]` prints a line for each finding on the
+//! standard output; under `--print` there the records, each as a line, and the findings on the standard error. `check_zone --version` prints its name and version, and `check_zone --help` how it is started.
 //!
 //! The status is 0 where nothing is found, 1 where all that is found are warnings, 2 for wrong arguments, 3 without memory, 4 where the output
 //! fails, and 5 where a fault is found or a file is not taken, which is told on the standard error.
@@ -12,16 +12,16 @@ mod places;
 
 use crate::fault::Fault;
 use crate::files::{FileFault, places_in, read_bytes, records_of};
-use crate::lines::{Told, status_of, tell_findings};
+use crate::lines::{Told, print_records, status_of, tell_findings};
 use clap::error::ErrorKind;
-use clap::{Arg, ArgMatches, Command, Error};
+use clap::{Arg, ArgAction, ArgMatches, Command, Error};
 use std::alloc::{AllocError, Global};
 use std::process::ExitCode;
 use std::rt::{Env, Files};
 use std::{env, io, str};
 use wire_names::error::NameError;
 use wire_names::rr::domain::name::Name;
-use zone_check::{apex_serial, check};
+use zone_check::{Finding, apex_serial, check};
 use zone_text::{IncludedError, ZoneFileError, ZoneFileFault, zone_file_faults};
 
 /// The version of this program.
@@ -37,12 +37,17 @@ fn command<'a>(alloc: Global) -> Result<Command<'a>, AllocError> {
         .long("previous")
         .value_name("FILE")
         .help("the zone file that is served today, whose serial must be below");
+    let print = Arg::new(alloc, "print")
+        .long("print")
+        .action(ArgAction::SetTrue)
+        .help("print each record as a line, and what is found on the standard error");
     Command::new(alloc, "check_zone")
         .version(VERSION)
         .about("Tells what is wrong with a zone before it is served")
         .arg(origin)?
         .arg(file)?
-        .arg(previous)
+        .arg(previous)?
+        .arg(print)
 }
 
 /// The name of the apex, with or without a dot at its end; the root is a dot alone.
@@ -140,12 +145,26 @@ fn tell_of_entries<R: Eprint + Alloc<A = Global>>(
     5
 }
 
-/// Prints what is found of a zone file, and gives the status.
+/// Prints what is found, behind the records where these are wanted.
+fn print_lines<R: Print + Eprint + Alloc<A = Global>>(
+    rt: &R,
+    told: &Told<'_>,
+    findings: &[Finding],
+    with_records: bool,
+) -> Result<(), Fault> {
+    if with_records {
+        print_records(rt, told.records)?;
+    }
+    tell_findings(rt, told, findings, with_records)
+}
+
+/// Prints what is found of a zone file, behind its records where these are wanted, and gives the status.
 fn print_findings<R: Files + Print + Eprint + Alloc<A = Global>>(
     rt: &R,
     origin: &Name,
     file: &str,
     previous: Option<u32>,
+    with_records: bool,
 ) -> u8 {
     let bytes = match read_bytes(rt, file) {
         Ok(bytes) => bytes,
@@ -167,9 +186,9 @@ fn print_findings<R: Files + Print + Eprint + Alloc<A = Global>>(
         records: records.as_slice(),
         places: &places,
     };
-    match tell_findings(rt, &told, findings.as_slice()) {
+    match print_lines(rt, &told, findings.as_slice(), with_records) {
         Ok(()) => status_of(findings.as_slice()),
-        Err(_) => tell(rt, Fault::Write),
+        Err(fault) => tell(rt, fault),
     }
 }
 
@@ -185,11 +204,12 @@ fn run_matches<R: Files + Print + Eprint + Alloc<A = Global>>(
         Ok(origin) => origin,
         Err(fault) => return tell(rt, fault),
     };
+    let with_records = matches.get_flag("print");
     let Some(previous) = matches.get_str("previous") else {
-        return print_findings(rt, &origin, file, None);
+        return print_findings(rt, &origin, file, None, with_records);
     };
     match serial_of(rt, &origin, previous) {
-        Ok(serial) => print_findings(rt, &origin, file, Some(serial)),
+        Ok(serial) => print_findings(rt, &origin, file, Some(serial), with_records),
         Err(status) => status,
     }
 }

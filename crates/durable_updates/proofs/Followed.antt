@@ -20,7 +20,7 @@ use Rattle.durable_updates.specs.Redone.{Redone}
 use Rattle.durable_updates.specs.Snapshots.{IsBase, Recalls}
 use Rattle.durable_updates.specs.Versions.{AreFollowed, AreLed, IsOnTheWay}
 use Rattle.durable_updates.specs.declared.recovering.TwoRecovered.{TwoRecovered}
-use Rattle.durable_updates.proofs.Compactions.{recovered as recovered_of}
+use Rattle.durable_updates.proofs.Compactions.{stand_for}
 use Rattle.durable_updates.proofs.Entries.{more}
 use Rattle.durable_updates.proofs.Recalled.{recalls_front}
 
@@ -92,6 +92,13 @@ module _ (entries requests earlier last : List (List ℕ)) (first base between :
 pub followed : {D : Type 0} (disks : DiskGhosts D) (first second : D) (found : TwoRecovered) (opened other : D) (base new : MemoryZone) (history : List Difference) → AreFound disks first second found opened other
     → Recalls (contents (counting found).items) base new → AreLed (λ done version. Recalls done base version) (contents (counting found).items) history new → AreFollowed disks first second base history new
 followed disks first second found opened other base new history are recalls led = record {
-  recovered = recovered_of disks first second found opened other base new are recalls;
+  recovered = record {
+    opened = opened;
+    other = other;
+    entries = contents (counting found).items;
+    stand = stand_for disks first second found opened other are;
+    recalled = recalls;
+    journals = λ a b. (are.first_recovers.journal a, are.second_recovers.journal b);
+  };
   led = led;
 }
