@@ -5,7 +5,7 @@ ghost use Rattle.sqlite_disk.specs.Disk.{Only};
 ghost use Rattle.served_zones.specs.ServedZones.{IsApexText};
 ghost use Rattle.zone_serve.specs.Journals.{AreJournalled, HasOpened, IsJournalledBy};
 
-use crate::damage::{Damage, find_damage};
+use crate::damage::{Damage, find_damage, is_none_at};
 use crate::fault::Fault;
 use crate::files::{FileFault, fault_of};
 use crate::server::apex_of;
@@ -33,6 +33,12 @@ pub enum JournalFileFault {
     /// A journal of SQLite's has the name of one beside it.
     #[error("a journal of SQLite stands beside it")]
     Rollback,
+    /// The file that stands there is no journal's, and is left as it is.
+    #[error("it is no journal")]
+    NotAJournal,
+    /// So is the file beside it.
+    #[error("the file '-wal' beside it is no journal")]
+    NotAJournalBeside,
     /// An entry is no update of the zone.
     #[error("{0} is no update of this zone")]
     Entry(Damage),
@@ -151,7 +157,7 @@ fn apex_for<D: Disk + Drop>(
     Ok(apex)
 }
 
-/// The fault of the journal at a path, with the entry at which it is damaged, if it is.
+/// The fault of the journal at a path, with the entry at which it is damaged, if it is, or the file that is none.
 fn with_place<R: Files + Alloc<A = Global>>(
     rt: &R,
     path: &str,
@@ -163,6 +169,10 @@ fn with_place<R: Files + Alloc<A = Global>>(
             Some(damage) => JournalFileFault::Entry(damage),
             None => fault,
         },
+        JournalFileFault::Journal(JournalFault::NotAJournal) if is_none_at(rt, path) => {
+            JournalFileFault::NotAJournal
+        }
+        JournalFileFault::Journal(JournalFault::NotAJournal) => JournalFileFault::NotAJournalBeside,
         _ => fault,
     }
 }
