@@ -1,4 +1,4 @@
-//! Where a journal is damaged.
+//! Where a journal is damaged, or is none.
 
 use crate::files::bytes_of;
 use hickory_server::proto::{LowerName, Name};
@@ -6,7 +6,7 @@ use journal_entries::{EntryPlace, first_wrong};
 use std::alloc::Global;
 use std::fmt;
 use std::rt::Files;
-use update_journal::{is_newer, read_entries};
+use update_journal::{is_journal, is_newer, read_entries};
 
 /// Where in its two files a journal has an entry that is no update of the zone.
 #[derive(Clone, Copy, Debug, PartialEq, Eq)]
@@ -50,4 +50,13 @@ pub fn find_damage<R: Files + Alloc<A = Global>>(
     let counting = if is_second { &second } else { &first };
     let entry = first_wrong(alloc, counting, &zone).ok()??;
     Some(Damage { entry, is_second })
+}
+
+/// Whether what stands at a path is no journal's file, as far as it can be read: of the two files of a journal that is refused it is this one, or else the one
+/// beside it.
+pub fn is_none_at<R: Files + Alloc<A = Global>>(rt: &R, path: &str) -> bool {
+    match bytes_of(rt, path) {
+        Ok(bytes) => !is_journal(&bytes),
+        Err(_) => false,
+    }
 }

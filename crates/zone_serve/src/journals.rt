@@ -1,15 +1,16 @@
 //! The journals of zones that take updates, from the arguments.
 
-ghost use Rattle.std.specs.Prelude.{◌≡◌, IfOk, IsTrue, OnOk};
+ghost use Rattle.std.specs.Prelude.{◌≡◌, ◌↔◌, IfOk, IsTrue, OnOk};
 ghost use Rattle.sqlite_disk.specs.Disk.{Only};
 ghost use Rattle.served_zones.specs.ServedZones.{IsApexText};
 ghost use Rattle.zone_serve.specs.Journals.{AreJournalled, HasOpened, IsJournalledBy};
+ghost use Rattle.zone_serve.specs.Telling.{IsDue};
 
-use crate::damage::{Damage, find_damage};
+use crate::damage::{Damage, find_damage, is_none_at};
 use crate::fault::Fault;
 use crate::files::{FileFault, fault_of};
 use crate::server::apex_of;
-use crate::serving::Watch;
+use crate::serving::{Watch, now};
 use hickory_server::proto::Name;
 use serve_options::arguments::ZoneArgument;
 use served_updates::journals::{JournalFault, Opened, has_updates, is_shut, open_journal};
@@ -18,7 +19,7 @@ use signed_server::{LeftToServer, SignedServer};
 use sqlite_disk::{Disk, Files as TwoFiles};
 use sqlite_std_file::{File, OpenError, Unknown, open};
 use std::alloc::Global;
-use std::rt::Files;
+use std::rt::{Clock, Files};
 use thiserror::Error;
 
 /// Why the journal in a file is not opened.
@@ -33,6 +34,12 @@ pub enum JournalFileFault {
     /// A journal of SQLite's has the name of one beside it.
     #[error("a journal of SQLite stands beside it")]
     Rollback,
+    /// The file that stands there is no journal's, and is left as it is.
+    #[error("it is no journal")]
+    NotAJournal,
+    /// So is the file beside it.
+    #[error("the file '-wal' beside it is no journal")]
+    NotAJournalBeside,
     /// An entry is no update of the zone.
     #[error("{0} is no update of this zone")]
     Entry(Damage),
@@ -88,8 +95,8 @@ pub struct Journalled<'a> {
     apex: Name,
     /// The file of the journal.
     file: &'a str,
-    /// Whether it was told that the journal takes no updates any more.
-    is_told: bool,
+    /// When it was told last that the journal takes no updates any more, in seconds since 1970, if it was.
+    told: Option<u64>,
 }
 
 /// Opens the journal at a path for the zone of this apex.
@@ -151,7 +158,7 @@ fn apex_for<D: Disk + Drop>(
     Ok(apex)
 }
 
-/// The fault of the journal at a path, with the entry at which it is damaged, if it is.
+/// The fault of the journal at a path, with the entry at which it is damaged, if it is, or the file that is none.
 fn with_place<R: Files + Alloc<A = Global>>(
     rt: &R,
     path: &str,
@@ -163,12 +170,16 @@ fn with_place<R: Files + Alloc<A = Global>>(
             Some(damage) => JournalFileFault::Entry(damage),
             None => fault,
         },
+        JournalFileFault::Journal(JournalFault::NotAJournal) if is_none_at(rt, path) => {
+            JournalFileFault::NotAJournal
+        }
+        JournalFileFault::Journal(JournalFault::NotAJournal) => JournalFileFault::NotAJournalBeside,
         _ => fault,
     }
 }
 
 /// Opens the journal of an argument, the one at this place among them.
-fn open_one<'a, R: Files + Eprint + Alloc<A = Global>, D: Disk + Drop, F: JournalFiles<D>>(
+fn open_one<'a, R: Clock + Files + Eprint + Alloc<A = Global>, D: Disk + Drop, F: JournalFiles<D>>(
     rt: &R,
     files: &F,
     argument: ZoneArgument<'a>,
@@ -185,11 +196,12 @@ fn open_one<'a, R: Files + Eprint + Alloc<A = Global>, D: Disk + Drop, F: Journa
     match open_at(alloc, files, file, zones, &apex) {
         Ok(opened) => {
             tell_opened(rt, file, opened);
-            Ok(Journalled {
-                apex,
-                file,
-                is_told: !opened.takes_updates,
-            })
+            let told = if opened.takes_updates {
+                None
+            } else {
+                Some(moment(rt))
+            };
+            Ok(Journalled { apex, file, told })
         }
         Err(JournalFileFault::Memory) => Err(Fault::Memory),
         Err(fault) => Err(Fault::Journal {
@@ -200,7 +212,12 @@ fn open_one<'a, R: Files + Eprint + Alloc<A = Global>, D: Disk + Drop, F: Journa
 }
 
 /// Opens the journals of the arguments, in their order, each for its zone, and tells where a journal has another zone than the file.
-pub fn open_journals<'a, R: Files + Eprint + Alloc<A = Global>, D: Disk + Drop, F: JournalFiles<D>>(
+pub fn open_journals<
+    'a,
+    R: Clock + Files + Eprint + Alloc<A = Global>,
+    D: Disk + Drop,
+    F: JournalFiles<D>,
+>(
     rt: &R,
     files: &F,
     arguments: &[ZoneArgument<'a>],
@@ -217,7 +234,7 @@ pub fn open_journals<'a, R: Files + Eprint + Alloc<A = Global>, D: Disk + Drop, 
     Ok(opened)
 }
 
-/// Tells of journals that take no updates any more, each once.
+/// Tells of journals that take no updates any more, of each at most once a minute.
 #[derive(Drop)]
 pub struct JournalWatch<'r, 'a> {
     /// The runtime.
@@ -226,18 +243,34 @@ pub struct JournalWatch<'r, 'a> {
     pub journals: Vec<Journalled<'a>>,
 }
 
-/// Tells of one journal.
-fn look_at<R: Eprint + Alloc<A = Global>, D: Disk + Drop>(
+/// Whether what was last told at a moment, if it was, is to be told again: a minute later, or where the clock was set back.
+fn is_due(told: Option<u64>, now: u64) -> bool
+    ensures { IsTrue result ↔ IsDue told now }
+{
+    match told {
+        None => true,
+        Some(last) => now < last || now - last >= 60,
+    }
+}
+
+/// The moment, in seconds since 1970; 0 where the system tells none.
+fn moment<R: Clock>(rt: &R) -> u64 {
+    now(rt).unwrap_or(0)
+}
+
+/// Tells of one journal, if it is due.
+fn look_at<R: Clock + Eprint + Alloc<A = Global>, D: Disk + Drop>(
     rt: &R,
     zones: &Zones<D>,
     journal: &mut Journalled<'_>,
 ) {
-    if journal.is_told {
+    let Ok(true) = is_shut(rt.alloc(), zones, &journal.apex) else {
         return;
-    }
-    if let Ok(true) = is_shut(rt.alloc(), zones, &journal.apex) {
+    };
+    let now = moment(rt);
+    if is_due(journal.told, now) {
         tell_shut(rt, journal.file);
-        journal.is_told = true;
+        journal.told = Some(now);
     }
 }
 
