@@ -1,6 +1,6 @@
 #!/usr/bin/env python3
-"""Makes the journals of cases/zone_journal/files and cases/zone_serve/files, and those that cases of tests_zones and zone_serve find: frames of requests, and a gate behind
-them.
+"""Makes the journals of cases/zone_journal/files and cases/zone_serve/files, and those that cases of tests_zones, zone_journal and zone_serve find: frames of
+requests, and a gate behind them.
 
     cases/journal_files.py
 
@@ -50,13 +50,22 @@ TAKEN = update("example.com", [record("www.example.com", A, NONE, 0, bytes([192,
 OTHER = update("example.net", [record("www.example.net", A, IN, 300, bytes([192, 0, 2, 1]))])
 QUERY = update("example.com", [], opcode=0)
 
-SOA_DATA = name("ns1.example.com") + name("hostmaster.example.com") + struct.pack(">IIIII", 9, 7200, 900, 1209600, 3600)
-SNAPSHOT = [
-    said(record("example.com", NS, IN, 3600, name("ns1.example.com"))),
-    said(record("example.com", SOA, IN, 3600, SOA_DATA)),
-    said(record("ns1.example.com", A, IN, 3600, bytes([192, 0, 2, 53]))),
-    said(record("quoted.example.com", TXT, IN, 60, b"\3a\"b\1\\")),
-]
+
+def snapshot(serial):
+    """The entries of a zone of this serial."""
+    data = name("ns1.example.com") + name("hostmaster.example.com") + struct.pack(">IIIII", serial, 7200, 900, 1209600, 3600)
+    return [
+        said(record("example.com", NS, IN, 3600, name("ns1.example.com"))),
+        said(record("example.com", SOA, IN, 3600, data)),
+        said(record("ns1.example.com", A, IN, 3600, bytes([192, 0, 2, 53]))),
+        said(record("quoted.example.com", TXT, IN, 60, b"\3a\"b\1\\")),
+    ]
+
+
+def compacted(serial):
+    """A journal of a zone that had this serial when it was compacted, and an update behind that."""
+    return journal([(7).to_bytes(8, "big"), *snapshot(serial), b"", TWO])
+
 
 # Fronts of files that are no journals: of SQLite's format 3 (its "Database File Format", section 1.3), and of PNG (RFC 2083 sections 3.1 and 4.1.1).
 DATABASE = b"SQLite format 3\0" + struct.pack(">HBBBBBB", 512, 1, 1, 0, 64, 32, 32) + bytes(488)
@@ -72,7 +81,7 @@ FILES = {
     "no_gate.journal": journal([ADDED], b""),
     "open.journal": journal([ADDED], b"\1"),
     "generation.journal": journal([(7).to_bytes(8, "big"), ADDED]),
-    "compacted.journal": journal([(7).to_bytes(8, "big"), *SNAPSHOT, b"", TWO]),
+    "compacted.journal": compacted(9),
     "generation_late.journal": journal([ADDED, (7).to_bytes(8, "big")]),
     "other_zone.journal": journal([ADDED, OTHER]),
     "query.journal": journal([QUERY, ADDED]),
@@ -121,7 +130,18 @@ FOUND_BY_A_SERVER = {
     "journal_of_a_gate.journal": FILES["opened_alone.journal"],
 }
 
-FOLDERS = (("zone_journal/files", FILES), ("zone_serve/files", SERVED), ("tests_zones", FOUND), ("zone_serve", FOUND_BY_A_SERVER))
+# What cases of zone_journal find as their journal, into which a zone file is imported.
+IMPORTED = {
+    **{f"import_{it}.journal": compacted(9) for it in (
+        "edited", "edited_with_a_dot", "edited_with_others", "edited_next", "edited_furthest", "next_serial", "same", "same_earlier", "same_next_serial",
+        "same_later", "same_serial", "too_far", "wrong", "includes_wrong", "no_soa", "zone_absent", "other_zone", "no_servers", "origin_no_name")},
+    **{f"import_{it}.journal": compacted(2**32 - 2) for it in ("edited_wrapped", "next_serial_wraps")},
+    "import_not_compacted.journal": FILES["three.journal"],
+    "import_empty.journal": b"",
+    "import_damaged.journal": journal([(7).to_bytes(8, "big"), *snapshot(9), b"", b"no message"]),
+}
+
+FOLDERS = (("zone_journal/files", FILES), ("zone_serve/files", SERVED), ("tests_zones", FOUND), ("zone_journal", IMPORTED), ("zone_serve", FOUND_BY_A_SERVER))
 
 
 def main():

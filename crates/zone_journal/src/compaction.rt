@@ -1,14 +1,24 @@
 //! Compacting a journal in its two files.
 
-use crate::fault::Fault;
+use crate::fault::{Fault, fault_of_file};
 use crate::zone::Zone;
 use durable_updates::{CompactError, JournalledZone, OpenError, RedoError, SnapshotError};
 use sqlite_disk::Files;
-use sqlite_std_file::{Unknown, open};
+use sqlite_std_file::{OpenError as FilesError, Unknown, open};
 use update_journal::{JournalError, RecoverError};
 
+/// Why the two files of a journal are not opened.
+pub fn fault_of_files(error: &FilesError) -> Fault {
+    match error {
+        FilesError::OutOfMemory => Fault::Memory,
+        FilesError::Busy => Fault::InUse,
+        FilesError::HotJournal => Fault::Rollback,
+        FilesError::Io(e) => fault_of_file(e),
+    }
+}
+
 /// Why a journal is not opened.
-fn fault_of_opening(error: &OpenError) -> Fault {
+pub fn fault_of_opening(error: &OpenError) -> Fault {
     match error {
         OpenError::Journal(RecoverError::Memory) => Fault::Memory,
         OpenError::Journal(RecoverError::NotAJournal) => Fault::OneIsNone,
@@ -21,7 +31,7 @@ fn fault_of_opening(error: &OpenError) -> Fault {
 /// Why a journal is not compacted.
 fn fault_of_compaction(error: &CompactError) -> Fault {
     match error {
-        CompactError::OneFile => Fault::Locked,
+        CompactError::OneFile => Fault::NotWritten,
         CompactError::Zone(SnapshotError::Memory) => Fault::Memory,
         CompactError::Zone(SnapshotError::Unreadable) => Fault::NoSnapshot,
         CompactError::Journal(JournalError::Memory) => Fault::Memory,
@@ -31,10 +41,10 @@ fn fault_of_compaction(error: &CompactError) -> Fault {
 
 /// Compacts the journal in a file and the one beside it, whose entries are done to this zone.
 pub fn compact(rt: &HostRuntime, file: &str, zone: Zone) -> Result<(), Fault> {
-    let Ok(files) = open(rt, file, Unknown) else {
-        return Err(Fault::Locked);
+    let Files { db, log } = match open(rt, file, Unknown) {
+        Ok(files) => files,
+        Err(error) => return Err(fault_of_files(&error)),
     };
-    let Files { db, log } = files;
     let mut zone = match JournalledZone::open_two(rt.alloc(), zone, db, log) {
         Ok(zone) => zone,
         Err((error, _, _)) => return Err(fault_of_opening(&error)),

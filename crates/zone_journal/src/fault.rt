@@ -1,7 +1,7 @@
 //! Why the program ends before it has told what it was asked for.
 
 use durable_updates::RedoError;
-use hickory_server::store::file::ZoneError;
+use hickory_server::store::file::{RecordsError, ZoneError};
 use std::alloc::{AllocError, AllocFailed};
 use std::io;
 use thiserror::Error;
@@ -36,24 +36,47 @@ pub enum Fault {
     /// One of the two files of a journal is none's.
     #[error("it is no journal, or the file '-wal' beside it is none")]
     OneIsNone,
-    /// A zone file is no text.
-    #[error("the file is not UTF-8")]
-    NotUtf8,
+    /// A file that a zone file includes is none of one, which was told.
+    #[error("a file that it includes is not taken")]
+    Included,
     /// A zone file has no zone.
     #[error("{0}")]
     Zone(ZoneError),
     /// The zone had this serial at no entry.
     #[error("the zone has not this serial, before or behind any entry")]
     NoSerial,
-    /// The files of a journal are not opened.
-    #[error("the files are not opened: one of them is no file, or is in use")]
-    Locked,
+    /// Another process has the files of a journal open.
+    #[error("the journal is in use")]
+    InUse,
+    /// A journal of SQLite's has the name of one beside it.
+    #[error("a journal of SQLite stands beside it")]
+    Rollback,
     /// The zone has no snapshot.
     #[error("the zone does not read back as it is")]
     NoSnapshot,
     /// The snapshot was not written.
     #[error("the snapshot is not written")]
     NotWritten,
+    /// The journal does not begin with a snapshot.
+    #[error("the journal does not begin with a snapshot: compact it first")]
+    NotCompacted,
+    /// The serial of a zone file is not above that of the zone.
+    #[error("the serial {other} is not above that of the zone, {zone}")]
+    NotAbove {
+        /// The serial of the zone.
+        zone: u32,
+        /// The serial of the file.
+        other: u32,
+    },
+    /// A record has no room in a request.
+    #[error("a record does not fit a request for an update")]
+    RecordTooLong,
+    /// No updates lead to the zone.
+    #[error("no updates lead to this zone")]
+    Unreached,
+    /// The updates were not written.
+    #[error("the updates are not written")]
+    UpdatesNotWritten,
     /// An entry is no update of the zone.
     #[error("{0}")]
     Entries(RedoError),
@@ -92,11 +115,11 @@ impl From<RedoError> for Fault {
     }
 }
 
-impl From<ZoneError> for Fault {
-    fn from(e: ZoneError) -> Fault {
+impl From<RecordsError> for Fault {
+    fn from(e: RecordsError) -> Fault {
         match e {
-            ZoneError::Memory => Fault::Memory,
-            other => Fault::Zone(other),
+            RecordsError::Memory => Fault::Memory,
+            other => Fault::Zone(ZoneError::Records(other)),
         }
     }
 }

@@ -3,7 +3,8 @@
 //! `zone_journal list FILE` prints its entries with the records of their updates, `zone_journal check FILE` whether it is whole, and
 //! `zone_journal zone ORIGIN FILE --zone-file ZONE` the records of the zone at its end, or at a serial behind `--serial`; with `--json`
 //! `list` prints an object of JSON for each entry. These write no file, and lock none. `zone_journal compact ORIGIN FILE --zone-file ZONE`
-//! locks FILE and FILE-wal, the two files of a journal, and compacts it. `zone_journal --version` prints its name and version, and
+//! locks FILE and FILE-wal, the two files of a journal, and compacts it, and `zone_journal import ORIGIN FILE --zone-file ZONE` turns its zone into the one of
+//! ZONE, as one update. `zone_journal --version` prints its name and version, and
 //! `zone_journal --help` how it is started.
 //!
 //! The status is 0, 1 where bytes behind the entries count for nothing, 2 for wrong arguments, 3 without memory, 4 where the output fails,
@@ -17,15 +18,19 @@ mod checks;
 mod compaction;
 mod entries;
 mod fault;
+mod importing;
 mod json;
 mod zone;
+mod zone_file;
 
 use crate::checks::{check_entries, print_ending, status_of};
 use crate::compaction::compact;
 use crate::entries::print_entry;
 use crate::fault::{Fault, fault_of_file};
+use crate::importing::{empty_zone, import_zone, print_imported};
 use crate::json::print_object;
 use crate::zone::{print_zone, with_entries, zone_of_file};
+use crate::zone_file::read_zone_of;
 use clap::error::ErrorKind;
 use clap::{Arg, ArgAction, ArgMatches, Command, Error};
 use hickory_wire::{Name, NameError};
@@ -95,6 +100,25 @@ fn compact_command<'a>(alloc: Global) -> Result<Command<'a>, AllocError> {
         .arg(zone_file_argument(alloc))
 }
 
+/// The command that imports a zone file.
+fn import_command<'a>(alloc: Global) -> Result<Command<'a>, AllocError> {
+    let zone_file = Arg::new(alloc, "zone-file")
+        .long("zone-file")
+        .value_name("ZONE")
+        .required(true)
+        .help("the zone file that the zone is to be as");
+    let next_serial = Arg::new(alloc, "next-serial")
+        .long("next-serial")
+        .action(ArgAction::SetTrue)
+        .help("the next serial of the zone, in the place of the file's");
+    Command::new(alloc, "import")
+        .about("Turns its zone into the one of a zone file, as one update")
+        .arg(origin_argument(alloc))?
+        .arg(journal_argument(alloc))?
+        .arg(zone_file)?
+        .arg(next_serial)
+}
+
 /// The arguments that the program takes.
 fn command<'a>(alloc: Global) -> Result<Command<'a>, AllocError> {
     let check = Command::new(alloc, "check")
@@ -107,7 +131,8 @@ fn command<'a>(alloc: Global) -> Result<Command<'a>, AllocError> {
         .subcommand(list_command(alloc)?)?
         .subcommand(check)?
         .subcommand(zone_command(alloc)?)?
-        .subcommand(compact_command(alloc)?)
+        .subcommand(compact_command(alloc)?)?
+        .subcommand(import_command(alloc)?)
 }
 
 /// The name of the apex, with or without a dot at its end; the root is a dot alone.
@@ -301,6 +326,47 @@ fn run_compact(rt: &HostRuntime, file: &str, matches: &ArgMatches<'_>) -> u8 {
     }
 }
 
+/// Turns the zone of a journal into the one of a zone file, and gives the status.
+fn import_file(
+    rt: &HostRuntime,
+    origin: &Name,
+    file: &str,
+    zone_file: &str,
+    takes_next: bool,
+) -> u8 {
+    let other = match read_zone_of(rt, origin, zone_file) {
+        Ok(other) => other,
+        Err(fault) => return tell_of_file(rt, zone_file, fault),
+    };
+    // A journal that is not there is not made.
+    if let Err(fault) = bytes_of(rt, file) {
+        return tell_of_file(rt, file, fault);
+    }
+    let Ok(empty) = empty_zone(rt.alloc(), origin) else {
+        return tell(rt, Fault::Memory);
+    };
+    match import_zone(rt, file, empty, &other, takes_next) {
+        Ok((serial, done)) => match print_imported(rt, file, serial, done) {
+            Ok(()) => 0,
+            Err(_) => tell(rt, Fault::Write),
+        },
+        Err(fault) => tell_of_file(rt, file, fault),
+    }
+}
+
+/// Imports the zone file that the words of its command name, and gives the status.
+fn run_import(rt: &HostRuntime, file: &str, matches: &ArgMatches<'_>) -> u8 {
+    let (Some(text), Some(zone_file)) = (matches.get_str("ORIGIN"), matches.get_str("zone-file"))
+    else {
+        return tell(rt, Fault::Arguments);
+    };
+    let takes_next = matches.get_flag("next-serial");
+    match apex_of(rt.alloc(), text) {
+        Ok(origin) => import_file(rt, &origin, file, zone_file, takes_next),
+        Err(fault) => tell(rt, fault),
+    }
+}
+
 /// Runs the program with these words, and gives its status.
 fn run_matches(rt: &HostRuntime, matches: &ArgMatches<'_>) -> u8 {
     let Some((name, matches)) = matches.subcommand() else {
@@ -314,6 +380,9 @@ fn run_matches(rt: &HostRuntime, matches: &ArgMatches<'_>) -> u8 {
     }
     if name == "compact" {
         return run_compact(rt, file, matches);
+    }
+    if name == "import" {
+        return run_import(rt, file, matches);
     }
     let told = if name == "list" {
         list(rt, file, matches.get_flag("json"))

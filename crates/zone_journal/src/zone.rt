@@ -1,39 +1,26 @@
 //! The zone at the end of a journal.
 
-use crate::fault::{Fault, fault_of_file};
+use crate::fault::Fault;
+use crate::zone_file::read_zone_of;
 use durable_updates::{recall, recall_to};
-use hickory_base::zone_store::{AxfrPolicy, RecordSet, ZoneType};
+use hickory_base::zone_store::{AxfrPolicy, RecordSet};
 use hickory_server::server::NoKeys;
-use hickory_server::store::file::read_zone;
 use hickory_store::sqlite::SqliteZoneHandler;
 use hickory_wire::Name;
 use std::alloc::Global;
+use std::io;
 use std::rt::Files;
-use std::{fs, io, str};
 
 /// A zone that nobody may change by a request, for the entries of a journal.
 pub type Zone = SqliteZoneHandler<NoKeys>;
 
 /// The zone of a zone file.
-pub fn zone_of_file<R: Files + Alloc<A = Global>>(
+pub fn zone_of_file<R: Files + Eprint + Alloc<A = Global>>(
     rt: &R,
     origin: &Name,
     file: &str,
 ) -> Result<Zone, Fault> {
-    let bytes = match fs::read(rt, file) {
-        Ok(bytes) => bytes,
-        Err(e) => return Err(fault_of_file(&e)),
-    };
-    let Ok(text) = str::from_utf8(bytes.as_slice()) else {
-        return Err(Fault::NotUtf8);
-    };
-    let zone = read_zone(
-        rt.alloc(),
-        text,
-        origin,
-        ZoneType::Primary,
-        AxfrPolicy::Deny,
-    )?;
+    let zone = read_zone_of(rt, origin, file)?;
     Ok(SqliteZoneHandler::new(zone, AxfrPolicy::Deny, false, NoKeys))
 }
 
