@@ -124,7 +124,7 @@ struct source source_of(const struct sockaddr_storage *address);
 /* relay.c: where zones have journals, begin starts the process that answers, once the one before has ended, and waits
  * until it does: 0, or -1 with a line on the standard error. leave has nobody but the worker ask it. answer,
  * answer_stream and take are those of zone_service.h, by that process where there is one; with it, take may find that
- * nothing waits any more. relay_statistics has its statistics told: how many bytes they are. */
+ * nothing waits any more. */
 extern pid_t serving; /* that process, or 0; whoever waits for its end sets it to 0 */
 int relay_begin(void);
 void relay_leave(void);
@@ -133,7 +133,6 @@ uint32_t answer(const uint8_t *message, size_t len, const struct source *source,
 uint32_t answer_stream(const uint8_t *bytes, size_t len, const struct source *source, uint8_t *out, size_t room,
                        size_t *taken, size_t *written, size_t *waiting);
 size_t take(uint8_t *out, size_t room, size_t *waiting);
-size_t relay_statistics(uint8_t *out, size_t room);
 
 /* udp.c: answers what waits at a socket. */
 void udp_ready(struct watch *socket);

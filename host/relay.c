@@ -152,15 +152,3 @@ size_t take(uint8_t *out, size_t room, size_t *waiting) {
     *waiting = is_pending;
     return written;
 }
-
-size_t relay_statistics(uint8_t *out, size_t room) {
-    struct pollfd told = {.fd = asked, .events = POLLIN};
-    size_t len = 0;
-    ask("statistics\n", 11);
-    if (poll(&told, 1, 1000) != 1)
-        return 0;
-    for (hear(); is_pending; hear())
-        if (len < room)
-            len += (size_t)snprintf((char *)out + len, room - len, "%s\n", line);
-    return len < room ? len : 0;
-}

@@ -1,5 +1,5 @@
 /* What all workers have counted, in memory that they share, so that it outlasts each of them; and the Unix socket where
- * it is told, or what the process counted that answers for them. */
+ * it is told. */
 #include "host.h"
 
 #define COUNTERS (sizeof(struct zone_service_counters) / sizeof(uint64_t))
@@ -43,10 +43,7 @@ void statistics_tell(struct watch *listener) {
         sums[i] = __atomic_load_n(&totals[i], __ATOMIC_RELAXED);
     if (fd < 0)
         return;
-    if (given("--journal") != NULL)
-        len = relay_statistics(text, sizeof text);
-    else
-        zone_service_statistics((struct zone_service_counters *)sums, text, sizeof text, &len);
+    zone_service_statistics((struct zone_service_counters *)sums, text, sizeof text, &len);
     send(fd, text, len, MSG_NOSIGNAL);
     close(fd);
 }

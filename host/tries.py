@@ -766,7 +766,7 @@ def try_one_writer(folder, port):
         want(f"a file that cannot be a journal is told: {what}", status_is == 1 and f"zone_serve: {path}: {says}\n" in said)
     status_is, said = told([*here, *kept.words[:2], *kept.words[-4:]])
     want("a journal of a zone without rules is told", status_is == 1 and "there is no --allow-update of this zone" in said)
-    for option, value in (("--query-log", kept.folder + "/queries"), ("--rate-limit", "5")):
+    for option, value in (("--statistics", kept.folder + "/socket"), ("--query-log", kept.folder + "/queries"), ("--rate-limit", "5")):
         status_is, said = told([*here, *kept.words, option, value])
         want(f"{option} beside a journal is refused, and told", status_is == 2 and "--journal has zone_serve answer, which has no" in said)
     for path, says in ((kept.folder + "/none", "No such file"), ("/bin/true", "zone_serve does not begin"), ("/bin/false", "zone_serve does not begin")):
@@ -796,43 +796,6 @@ def try_journal_configuration(folder, port):
     open(config, "w").write(zone + rule)
     want("and one again", kept.reload() and len(children(kept.host.pid)) == 2 and kept.has({"first", "second", "fourth"}) == {"first", "second"})
     want("it ends", kept.end())
-
-
-SLOW_ZONE_SERVE = """#!/usr/bin/env python3
-import os, sys, time
-for line in sys.stdin:
-    words = line.split()
-    if words == ["statistics"]:
-        time.sleep(2 if os.path.exists(sys.argv[0] + ".slow") else 0)
-        print('# TYPE zoned_queries_total counter\\nzoned_queries_total{transport="udp"} 7\\nzoned_sent_bytes_total 49\\n', flush=True)
-    elif (message := bytes.fromhex(words[2]))[2] & 128:
-        print("response", flush=True)
-    else:
-        print((message[:2] + b"\\x84\\0" + message[4:6] + b"\\0\\1\\0\\0\\0\\0" + message[12:]).hex() + "c00c000100010000003c0004c0000201\\n", flush=True)
-"""
-
-
-def try_journal_statistics(folder, port):
-    """What is told of a server with a journal is what its zone_serve tells, here one that may be slow; and nothing where that tells nothing for a second."""
-    kept, path = Kept(folder, port), os.path.join(folder, "journal_statistics")
-    program = os.path.join(kept.folder, "slow_zone_serve")
-    with open(program, "w") as it:
-        it.write(SLOW_ZONE_SERVE)
-    os.chmod(program, 0o755)
-    kept.words += ["--statistics", path, "--zone-serve", program]
-    tells = {'zoned_queries_total{transport="udp"}': 7, "zoned_sent_bytes_total": 49}
-    want("a server with a journal and statistics is ready", kept.start())
-    want("what it tells is what its zone_serve tells, once for each that asks", [statistics(path) for _ in range(3)] == [tells] * 3)
-    open(program + ".slow", "w").close()
-    begun = time.time()
-    want("where that tells nothing for a second, nothing is told", statistics(path) == {} and 0.9 < time.time() - begun < 1.9)
-    os.remove(program + ".slow")
-    want("and the next query has its reply", answers(udp(query("www.example.com"), 5, port)) == 1)
-    want("and who asks next is told", statistics(path) == tells)
-    with tcp(port) as s, s.makefile("rb") as f:
-        s.sendall(20 * frame(query("www.example.com")))
-        want("and messages of a connection have theirs", all(read(f)[-4:] == bytes([192, 0, 2, 1]) for _ in range(20)))
-    want("and it ends", "ended" not in kept.said() and kept.end())
 
 
 def try_journal_limit(folder, port):
@@ -1172,7 +1135,6 @@ def main():
     try_joined(folder, PORT + 2)
     try_configuration(folder, zone, PORT + 2)
     try_keys(folder, zone, PORT + 2)
-    try_journal_statistics(folder, PORT + 4)
     if os.path.exists(ZONE_SERVE):
         for it in (try_journal, try_relayed, try_one_writer, try_journal_configuration, try_journal_limit, try_journal_full, try_journal_kills):
             it(folder, PORT + 4)
