@@ -135,18 +135,13 @@ pub fn incremental(
     server_of(alloc, &apex, IncrementalZone::new(alloc, kept, LIMIT))
 }
 
-/// A file and the one beside it.
-fn files(rt: &HostRuntime, path: &str) -> Result<Files<File>, Fault> {
-    match open(rt, path, Unknown) {
-        Ok(files) => Ok(files),
-        Err(_) => Err(Fault::Line),
-    }
-}
-
 /// The zone `example.com` with its journal in a file and the one beside it.
 fn opened(rt: &HostRuntime, apex: &Name, path: &str) -> Result<DurableZone<Trusting, File>, Fault> {
     let zone = updatable(rt.alloc(), apex)?;
-    let Files { db, log } = files(rt, path)?;
+    let Ok(files) = open(rt, path, Unknown) else {
+        return Err(Fault::Line);
+    };
+    let Files { db, log } = files;
     match DurableZone::open(rt.alloc(), zone, db, log) {
         Ok(zone) => Ok(zone),
         Err(_) => Err(Fault::Line),
@@ -160,7 +155,10 @@ fn opened_followed(
     path: &str,
 ) -> Result<IncrementalZone<Trusting, File>, Fault> {
     let zone = updatable(rt.alloc(), apex)?;
-    let Files { db, log } = files(rt, path)?;
+    let Ok(files) = open(rt, path, Unknown) else {
+        return Err(Fault::Line);
+    };
+    let Files { db, log } = files;
     match IncrementalZone::open(rt.alloc(), zone, db, log, LIMIT) {
         Ok(zone) => Ok(zone),
         Err(_) => Err(Fault::Line),
