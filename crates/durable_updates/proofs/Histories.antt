@@ -30,11 +30,11 @@ bytes_more entries first others = ap (λ (l : List (List ℕ)). entries ++ l) (e
     each [] = refl
     each (q ∷ first) = ap (λ (l : List (List ℕ)). q.bytes ∷ l) (each first)
 
-front_read : (first others : List ReceivedRequest) → AreRead (first ++ others) → AreRead first
+pub front_read : (first others : List ReceivedRequest) → AreRead (first ++ others) → AreRead first
 front_read [] others read = tt
 front_read (q ∷ first) others read = (read.0, front_read first others read.1)
 
-back_read : (first others : List ReceivedRequest) → AreRead (first ++ others) → AreRead others
+pub back_read : (first others : List ReceivedRequest) → AreRead (first ++ others) → AreRead others
 back_read [] others read = read
 back_read (q ∷ first) others read = back_read first others read.1
 
@@ -161,7 +161,7 @@ module _ {V D : Type 0} (by : Ghosts V) (disks : DiskGhosts D) where
         })
         by_journal (inr f) (inr failed) = true_not_false old.journal.is_open failed.0 f.shut
 
-    step_on : {T : Type 0} (life : Life) (requests : List ReceivedRequest) (written : Result T UpdateFault) (old new : Server V D)
+    pub step_on : {T : Type 0} (life : Life) (requests : List ReceivedRequest) (written : Result T UpdateFault) (old new : Server V D)
         → InStep base before life old → Took requests written old new → InStep base before (after_answer life requests written new.journal.is_open) new
     step_on life requests (Ok told) old new step took = taken life requests told old new step took new.journal.is_open
     step_on life requests (Err fault) old new step took = denied life requests fault old new step took new.journal.is_open refl

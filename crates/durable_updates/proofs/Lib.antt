@@ -10,3 +10,5 @@ pub mod Compactions
 pub mod Made
 pub mod CompactedRuns
 pub mod Followed
+pub mod HeldBatches
+pub mod HeldZones

@@ -3,6 +3,8 @@ pub mod Commits
 pub mod CompactedRuns
 pub mod Compactions
 pub mod DurableUpdates
+pub mod Held
+pub mod Holding
 pub mod Journalling
 pub mod OpenErrors
 pub mod Recorded

@@ -94,8 +94,9 @@ fn judge_all<V: Verifier>(
     Ok(Batch { answers, entries })
 }
 
-/// Adds entries to the journal, all or none. Where the journal refuses them, that is ServFail, and `Memory` where memory was refused.
-fn write_all<D: Disk>(
+/// Adds the entries of updates that were made in memory to the journal, all or none, with two syncs; none where there are none. Where the journal refuses them,
+/// that is ServFail, and `Memory` where memory was refused: then none of these updates is to be acknowledged, and the zone in memory is ahead of its journal.
+pub fn write_held<D: Disk>(
     journal: &mut Journal<D>,
     alloc: Global,
     entries: &[Vec<u8>],
@@ -161,7 +162,7 @@ fn commit<V: Verifier, D: Disk>(
         mut answers,
         entries,
     } = batch;
-    match write_all(journal, alloc, &entries) {
+    match write_held(journal, alloc, &entries) {
         Ok(()) => answers,
         Err(fault) => {
             restore(zone, before);

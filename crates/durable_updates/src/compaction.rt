@@ -18,6 +18,9 @@ pub enum CompactError {
     /// It was opened in one file, and has no second one.
     #[error("the journal has one file")]
     OneFile,
+    /// Updates are held that are not written yet. Nothing was written.
+    #[error("updates are held")]
+    Held,
     /// The zone has no snapshot. Nothing was written.
     #[error("{0}")]
     Zone(SnapshotError),

@@ -1,6 +1,6 @@
 //! A zone handler whose updates are on the disk before they are answered.
 
-ghost use Rattle.std.specs.Prelude.{◌≡◌, ◌⊎◌, IfErr, IfOk, IsTrue, None, false};
+ghost use Rattle.std.specs.Prelude.{◌≡◌, ◌⊎◌, IfErr, IfOk, IfSome, IsTrue, None, false};
 ghost use Rattle.hickory_base.specs.zone_store.ZoneAnswers.{LookedUp};
 ghost use Rattle.hickory_base.specs.declared.zone_store.lookup.LookupControlFlow.TheVariants.{Skip};
 ghost use Rattle.hickory_store.specs.Permission.{transfer_permission};
@@ -273,16 +273,26 @@ impl<V: Verifier, D: Disk + Drop> JournalledZone<V, D> {
         Ok(true)
     }
 
+    /// The zone, its journal, and the spare file, if there is one.
+    pub(crate) fn into_whole(self) -> (SqliteZoneHandler<V>, Journal<D>, Option<Spare<D>>)
+        ensures zone { result.0 ≡ self }
+        ensures durable { IsDurable D.Disk result.0.zone result.1 }
+        ensures spare { IfSome result.2 (λ s. IsSpare D.Disk s.journal) }
+    {
+        let JournalledZone {
+            zone,
+            journal,
+            spare,
+        } = self;
+        (zone, journal, spare)
+    }
+
     /// The zone and its journal, as they are after whatever was asked of the handler.
     pub fn into_parts(self) -> (SqliteZoneHandler<V>, Journal<D>)
         ensures zone { result.0 ≡ self }
         ensures durable { IsDurable D.Disk result.0.zone result.1 }
     {
-        let JournalledZone {
-            zone,
-            journal,
-            spare: _,
-        } = self;
+        let (zone, journal, _) = self.into_whole();
         (zone, journal)
     }
 }

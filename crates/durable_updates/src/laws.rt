@@ -7,6 +7,7 @@ ghost use Rattle.hickory_store.specs.Identity.{SameZone};
 ghost use Rattle.hickory_store.specs.UpdateLaws.{HasOneSoa, HoldsIn};
 ghost use Rattle.durable_updates.specs.CompactedRuns.{CompactedRunsAreKept};
 ghost use Rattle.durable_updates.specs.Compactions.{CompactionIsKept, fresh};
+ghost use Rattle.durable_updates.specs.Held.{HeldAreABatch, UnwrittenAreABatch};
 ghost use Rattle.durable_updates.specs.Redone.{Redone, RedoesOne};
 ghost use Rattle.durable_updates.specs.Runs.{RunsAreKept};
 ghost use Rattle.durable_updates.specs.Snapshots.{IsSnapshot, Recalls};
@@ -68,3 +69,10 @@ pub fn compacted_runs_are_kept<V: Verifier, D: Disk>()
     identities();
     record_comparisons();
 }
+
+/// Updates that are held and then written together are one batch of a run: so `runs_are_kept` and `compacted_runs_are_kept` speak of them too. Where they are not
+/// written, and nobody is answered, that is a batch which is not written.
+pub fn held_are_a_batch<V: Verifier, D: Disk>()
+    ensures written { HeldAreABatch V.Verifier D.Disk }
+    ensures unwritten { UnwrittenAreABatch V.Verifier D.Disk }
+{}

@@ -107,6 +107,7 @@ fn compaction(done: Result<bool, CompactError>) -> &'static str {
         Ok(true) => "compacted",
         Ok(false) => "short enough",
         Err(CompactError::OneFile) => "one file",
+        Err(CompactError::Held) => "held",
         Err(CompactError::Zone(_)) => "no snapshot",
         Err(CompactError::Journal(_)) => "not compacted",
     }

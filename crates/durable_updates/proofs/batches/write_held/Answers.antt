@@ -4,7 +4,7 @@ use Rattle.std.specs.declared.alloc.Global.{Global}
 use Rattle.update_journal.specs.Read.{contents}
 use Rattle.durable_updates.proofs.Judging.{empty_of}
 use Rattle.durable_updates.proofs.Untouched.{nothing_added}
-use Rattle.durable_updates.proofs.batches.write_all.Goals as goal
+use Rattle.durable_updates.proofs.batches.write_held.Goals as goal
 
 pub returns-then-is_empty-clause-journals : goal.returns-then-is_empty-clause-journals
 returns-then-is_empty-clause-journals g c =

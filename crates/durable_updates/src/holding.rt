@@ -1,0 +1,181 @@
+//! A zone with a journal that may hold updates, to have them written together.
+
+ghost use Rattle.std.specs.Prelude.{◌≡◌, ◌++◌, ◌∷◌, [], OnErr, OnOk, false, not, true};
+ghost use Rattle.hickory_store.specs.UpdateAnswers.{AnswersUpdate};
+ghost use Rattle.update_journal.specs.Read.{contents};
+ghost use Rattle.durable_updates.specs.Batches.{bytes_of, if_accepted};
+ghost use Rattle.durable_updates.specs.DurableUpdates.{AnswersDurably};
+ghost use Rattle.durable_updates.specs.Recorded.{IsDurable};
+
+use crate::batches::{UpdateAnswer, write_held};
+use crate::compaction::{CompactError, Spare, compact_into};
+use crate::handler::JournalledZone;
+use crate::updating::update_durably;
+use hickory_base::errors::UpdateFault;
+use hickory_base::server::Request;
+use hickory_base::zone_store::ZoneHandler;
+use hickory_store::sqlite::{SqliteZoneHandler, Verifier};
+use hickory_wire::ResponseCode;
+use sqlite_disk::Disk;
+use std::alloc::{AllocError, Global};
+use std::marker::Model;
+use update_journal::Journal;
+
+/// Puts the bytes of a request last among entries.
+fn put_entry(
+    alloc: Global,
+    request: &Request,
+    entries: &mut Vec<Vec<u8>>,
+) -> Result<(), AllocError>
+    ensures put { OnOk result (contents entries.new.items ≡ contents entries.old.items ++ request.now.bytes ∷ []) }
+    ensures kept { OnErr result (contents entries.new.items ≡ contents entries.old.items) }
+{
+    let entry = Vec::from_slice(alloc, request.as_slice())?;
+    match entries.push(entry) {
+        Ok(()) => Ok(()),
+        Err(_) => Err(AllocError),
+    }
+}
+
+/// Makes an update in memory, as `SqliteZoneHandler::update` does, and puts the bytes of its request last among the entries that are to be written, where it is
+/// made. Nobody is to be answered before these are written, by `write_held`.
+pub fn update_held<V: Verifier>(
+    zone: &mut SqliteZoneHandler<V>,
+    alloc: Global,
+    request: &Request,
+    now: u64,
+    entries: &mut Vec<Vec<u8>>,
+) -> UpdateAnswer
+    ensures answers { AnswersUpdate V.Verifier zone.old request.now now result.0 result.1 zone.new }
+    ensures entries { contents entries.new.items ≡ contents entries.old.items ++ bytes_of (if_accepted result.0 request.now []) }
+{
+    if put_entry(alloc, request, entries).is_err() {
+        return (Err(UpdateFault::Memory), None);
+    }
+    let (answer, context) = zone.update(alloc, request, now);
+    if answer.is_err() {
+        entries.pop();
+    }
+    (answer, context)
+}
+
+/// A zone that takes dynamic updates (RFC 2136) and has a journal, as [`JournalledZone`] has, and may hold updates: from `hold` on they are judged and made in
+/// memory, one after the other, and `settle` writes all together, with two syncs. Whoever holds updates gives no answer before they are settled, not to a query
+/// either: until then the zone in memory is ahead of the one on the disk.
+///
+/// A contract sees the zone in memory, and whether it holds updates. What it keeps with its journal is `IsDurable` where it holds none, whatever is asked of it.
+#[derive(Drop)]
+pub struct HoldingZone<V: Verifier, D: Disk + Drop> {
+    zone: SqliteZoneHandler<V>,
+    journal: Journal<D>,
+    spare: Option<Spare<D>>,
+    held: Option<Vec<Vec<u8>>>,
+}
+
+impl<V: Verifier, D: Disk + Drop> Model for HoldingZone<V, D> {
+    ghost use Rattle.std.specs.Prelude.{IfSome, option_map};
+    ghost use Rattle.std.specs.Option.{is_some};
+    ghost use Rattle.update_journal.specs.Read.{contents};
+    ghost use Rattle.durable_updates.specs.Holding.{IsKeptBut, ZoneInMemory};
+    ghost use Rattle.durable_updates.specs.Recorded.{IsSpare};
+
+    ghost Value = { ZoneInMemory V };
+
+    ghost view = { λ handler. record { updatable = handler.zone; holds = is_some handler.held } };
+
+    ghost invariant = { λ handler. IsKeptBut D.Disk handler.zone.zone handler.journal (option_map (λ entries. contents entries.items) handler.held) × IfSome handler.spare (λ s. IsSpare D.Disk s.journal) };
+}
+
+impl<V: Verifier, D: Disk + Drop> HoldingZone<V, D> {
+    /// A zone that holds no updates.
+    pub fn new(zone: JournalledZone<V, D>) -> HoldingZone<V, D>
+        ensures { result ≡ record { updatable = zone; holds = false } }
+    {
+        let (zone, journal, spare) = zone.into_whole();
+        HoldingZone {
+            zone,
+            journal,
+            spare,
+            held: None,
+        }
+    }
+
+    /// The zone in memory, without its journal.
+    pub fn zone(&self) -> &SqliteZoneHandler<V>
+        ensures { result.now ≡ self.now.updatable }
+    {
+        &self.zone
+    }
+
+    /// Whether the journal takes entries. Once it does not, every update is ServFail, be it held or not, until the zone is recovered from the file.
+    pub fn takes_updates(&self) -> bool {
+        self.journal.is_open()
+    }
+
+    /// Has updates held from now on, until they are settled. A journal that takes no entries has none held: each update is ServFail as ever. It takes no memory.
+    pub fn hold(&mut self, alloc: Global)
+        ensures zone { self.new.updatable ≡ self.old.updatable }
+        ensures kept { self.old.holds ≡ true → self.new.holds ≡ true }
+    {
+        if self.held.is_none() && self.journal.is_open() {
+            self.held = Some(Vec::new(alloc));
+        }
+    }
+
+    /// Writes the updates that are held, all or none, with two syncs; none where there are none. Whether that is done: from then on none is held. Where it is
+    /// not, they are held still, so that the zone in memory is ahead: it is to be recovered from its files, and none of these updates is to be acknowledged.
+    /// A crash at any moment leaves all of them on the disk, or none.
+    pub fn settle(&mut self, alloc: Global) -> bool
+        ensures zone { self.new.updatable ≡ self.old.updatable }
+        ensures holds { self.new.holds ≡ not result }
+    {
+        let Some(entries) = &self.held else {
+            return true;
+        };
+        if write_held(&mut self.journal, alloc, entries).is_err() {
+            return false;
+        }
+        self.held = None;
+        true
+    }
+
+    /// Makes an update. Where updates are held, it waits to be written; else it is on the disk before the answer, as `update_durably` says.
+    pub fn update(&mut self, alloc: Global, request: &Request, now: u64) -> UpdateAnswer
+        ensures answers { AnswersDurably (Unit {0}) V.Verifier self.old.updatable request.now now result.0 result.1 self.new.updatable }
+        ensures kept { OnErr result.0 (self.new ≡ self.old) }
+        ensures holds { self.new.holds ≡ self.old.holds }
+    {
+        match &mut self.held {
+            None => update_durably(&mut self.zone, &mut self.journal, alloc, request, now),
+            Some(_) if !self.journal.is_open() => {
+                (Err(UpdateFault::Code(ResponseCode::SERV_FAIL)), None)
+            }
+            Some(entries) => update_held(&mut self.zone, alloc, request, now, entries),
+        }
+    }
+
+    /// Compacts the journal, as [`JournalledZone::compact`] does. Where updates are held, that is the error `Held`, and nothing is written.
+    pub fn compact(&mut self, alloc: Global) -> Result<(), CompactError>
+        ensures stays { self.new ≡ self.old }
+        ensures held { self.old.holds ≡ true → result ≡ Err CompactError.Held }
+    {
+        if self.held.is_some() {
+            return Err(CompactError::Held);
+        }
+        compact_into(&self.zone, &mut self.journal, &mut self.spare, alloc)
+    }
+
+    /// The zone in memory and its journal, as they are after whatever was asked of the handler: where no updates are held, the journal keeps the zone.
+    pub fn into_parts(self) -> (SqliteZoneHandler<V>, Journal<D>)
+        ensures zone { result.0 ≡ self.updatable }
+        ensures durable { self.holds ≡ false → IsDurable D.Disk result.0.zone result.1 }
+    {
+        let HoldingZone {
+            zone,
+            journal,
+            spare: _,
+            held: _,
+        } = self;
+        (zone, journal)
+    }
+}

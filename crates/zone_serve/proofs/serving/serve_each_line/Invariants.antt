@@ -1,9 +1,0 @@
--- The lines so far are served.
-use Rattle.zone_serve.specs.Served.{Stays, service_of}
-use Rattle.zone_serve.proofs.ServedLines.{LinesSoFar}
-use Rattle.zone_serve.proofs.serving.serve_each_line.Given as goal
-
-abbrev pub invariant-loop-number : goal.invariant-loop-number
-invariant-loop-number g l = Stays l.fn.server l.server
-    × LinesSoFar (service_of g.H.ZoneHandler g.S.ReplySigner.signature_for l.fn.server)
-    (g.R.Read.remaining l.initial.reader) (g.R.Read.remaining l.reader) (g.W.Write.contents l.initial.writer) (g.W.Write.contents l.writer) l.server.server.catalog.zones
