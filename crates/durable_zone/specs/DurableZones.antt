@@ -10,20 +10,21 @@ use Rattle.durable_updates.specs.DurableUpdates.{AnswersDurably}
 use Rattle.durable_zone.specs.declared.kept.Kept.{Kept}
 use Rattle.durable_zone.specs.declared.kept.Kept.TheVariants.{Journal, Memory}
 
--- a zone that takes updates, and whether it has a journal
+-- a zone that takes updates, as it is in memory; whether it has a journal, and whether it holds updates that wait to be written to that
 pub record KeptZone (V : Type 0) : Type 0 where
   pub updatable : UpdatableZone V
   pub is_journalled : Bool
+  pub holds : Bool
 
 abbrev pub kept_zone : {V D : Type 0} → Kept V D → KeptZone V
-kept_zone (Memory zone) = record { updatable = zone; is_journalled = false }
-kept_zone (Journal zone) = record { updatable = zone; is_journalled = true }
+kept_zone (Memory zone) = record { updatable = zone; is_journalled = false; holds = false }
+kept_zone (Journal zone) = record { updatable = zone.updatable; is_journalled = true; holds = zone.holds }
 
 -- What an update is answered, and the zone after it: what a zone in memory alone answers (RFC 2136 section 3), or, with a journal, ServFail and nothing
--- changed. Whether it has a journal stays so.
+-- changed. Whether it has a journal stays so, and whether it holds updates.
 abbrev pub Updates : {V : Type 0} → Ghosts V → KeptZone V → ReceivedRequest → ℕ → Result Bool UpdateFault → Option TSigResponseContext → KeptZone V → Type 0
 Updates by old request now answer context new =
-    AnswersDurably (IsTrue old.is_journalled) by old.updatable request now answer context new.updatable × (new.is_journalled ≡ old.is_journalled)
+    AnswersDurably (IsTrue old.is_journalled) by old.updatable request now answer context new.updatable × (new.is_journalled ≡ old.is_journalled) × (new.holds ≡ old.holds)
 
 -- ---- laws
 

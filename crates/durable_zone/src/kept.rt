@@ -1,10 +1,10 @@
 //! What keeps a zone: memory alone, or a journal too.
 
-ghost use Rattle.std.specs.Prelude.{◌≡◌, IfSome, OnErr, false, is_some, true};
+ghost use Rattle.std.specs.Prelude.{◌≡◌, IfSome, OnErr, false, is_some, not, true};
 ghost use Rattle.durable_updates.specs.Recorded.{IsDurable};
 ghost use Rattle.durable_zone.specs.DurableZones.{Updates, kept_zone};
 
-use durable_updates::{CompactError, JournalledZone};
+use durable_updates::{CompactError, HoldingZone};
 use hickory_base::errors::UpdateFault;
 use hickory_base::server::Request;
 use hickory_base::zone_store::ZoneHandler;
@@ -20,7 +20,7 @@ pub(crate) enum Kept<V: Verifier, D: Disk + Drop> {
     /// Memory alone.
     Memory(SqliteZoneHandler<V>),
     /// A journal too.
-    Journal(JournalledZone<V, D>),
+    Journal(HoldingZone<V, D>),
 }
 
 impl<V: Verifier, D: Disk + Drop> Kept<V, D> {
@@ -60,6 +60,27 @@ impl<V: Verifier, D: Disk + Drop> Kept<V, D> {
         }
     }
 
+    /// Has updates held from now on, where there is a journal that takes entries.
+    pub(crate) fn hold(&mut self, alloc: Global)
+        ensures held { kept_zone self.new ≡ record (kept_zone self.old) { holds = (kept_zone self.new).holds } }
+        ensures kept { (kept_zone self.old).holds ≡ true → (kept_zone self.new).holds ≡ true }
+    {
+        match self {
+            Kept::Memory(_) => {}
+            Kept::Journal(zone) => zone.hold(alloc),
+        }
+    }
+
+    /// Writes the updates that are held; whether none is held any more.
+    pub(crate) fn settle(&mut self, alloc: Global) -> bool
+        ensures { kept_zone self.new ≡ record (kept_zone self.old) { holds = not result } }
+    {
+        match self {
+            Kept::Journal(zone) => zone.settle(alloc),
+            _ => true,
+        }
+    }
+
     /// Compacts the journal, if there is one.
     pub(crate) fn compact(&mut self, alloc: Global) -> Result<(), CompactError>
         ensures { kept_zone self.new ≡ kept_zone self.old }
@@ -74,7 +95,7 @@ impl<V: Verifier, D: Disk + Drop> Kept<V, D> {
     pub(crate) fn into_parts(self) -> (SqliteZoneHandler<V>, Option<Journal<D>>)
         ensures zone { result.0 ≡ (kept_zone self).updatable }
         ensures journal { is_some result.1 ≡ (kept_zone self).is_journalled }
-        ensures durable { IfSome result.1 (IsDurable D.Disk result.0.zone) }
+        ensures durable { IfSome result.1 (λ journal. (kept_zone self).holds ≡ false → IsDurable D.Disk result.0.zone journal) }
     {
         match self {
             Kept::Memory(zone) => (zone, None),

@@ -2,7 +2,7 @@
 //! authoritative server does (RFC 1034 section 4.3.2).
 #![tactic(auto)]
 
-ghost use Rattle.std.specs.Prelude.{◌≡◌, ◌⊎◌, IfErr, IfOk, IfSome, IsTrue, None, false, is_some, true};
+ghost use Rattle.std.specs.Prelude.{◌≡◌, ◌⊎◌, IfErr, IfOk, IfSome, IsTrue, None, false, is_some, not, true};
 ghost use Rattle.hickory_base.specs.declared.zone_store.lookup.LookupControlFlow.TheVariants.{Skip};
 ghost use Rattle.hickory_store.specs.Permission.{transfer_permission};
 ghost use Rattle.dynamic_zone.specs.DynamicZones.{LookedUp, Searched, TransferAnswered};
@@ -15,7 +15,7 @@ mod kept;
 pub mod laws;
 
 use crate::kept::Kept;
-use durable_updates::{CompactError, JournalledZone, OpenError};
+use durable_updates::{CompactError, HoldingZone, JournalledZone, OpenError};
 use dynamic_zone::{Overview, has_changed, read_sets, transfer};
 use hickory_base::errors::{LookupError, UpdateFault};
 use hickory_base::server::{Request, RequestInfo};
@@ -62,16 +62,16 @@ impl<V: Verifier, D: Disk + Drop> DurableZone<V, D> {
 
     /// A zone without a journal: its updates last as long as it does. It takes no memory.
     pub fn in_memory(zone: SqliteZoneHandler<V>) -> DurableZone<V, D>
-        ensures { result ≡ record { updatable = zone; is_journalled = false } }
+        ensures { result ≡ record { updatable = zone; is_journalled = false; holds = false } }
     {
         DurableZone::of(Kept::Memory(zone))
     }
 
     /// A zone with its journal. It takes no memory.
     pub fn journalled(zone: JournalledZone<V, D>) -> DurableZone<V, D>
-        ensures { result ≡ record { updatable = zone; is_journalled = true } }
+        ensures { result ≡ record { updatable = zone; is_journalled = true; holds = false } }
     {
-        DurableZone::of(Kept::Journal(zone))
+        DurableZone::of(Kept::Journal(HoldingZone::new(zone)))
     }
 
     /// Opens the journal that two files are in turns, as [`JournalledZone::open_two`] does: the zone is the one that their entries make of `zone`, and of a
@@ -86,7 +86,7 @@ impl<V: Verifier, D: Disk + Drop> DurableZone<V, D> {
         // After a restart, what is read is what is on the disk.
         requires restarted { Only (D.seen first) (D.may_leave first) × Only (D.seen second) (D.may_leave second) }
         ensures recovered { IfOk result (λ opened. AreRecovered D.Disk first second zone.zone opened.updatable.zone) }
-        ensures others { IfOk result (λ opened. opened ≡ record { updatable = record zone { zone = opened.updatable.zone }; is_journalled = true }) }
+        ensures others { IfOk result (λ opened. opened ≡ record { updatable = record zone { zone = opened.updatable.zone }; is_journalled = true; holds = false }) }
         ensures err { IfErr result (λ e. IsHandedBack D.Disk first e.1 × IsHandedBack D.Disk second e.2) }
         ensures refused { IfErr result (λ e. IsTrue (is_no_journal e.0) → IsRefused D.Disk first e.1 ⊎ IsRefused D.Disk second e.2) }
     {
@@ -111,18 +111,35 @@ impl<V: Verifier, D: Disk + Drop> DurableZone<V, D> {
         self.kept.takes_updates()
     }
 
-    /// Compacts the journal, as [`JournalledZone::compact`] does. Without a journal there is nothing to do.
+    /// Has updates held from now on, until they are settled, as [`HoldingZone::hold`] does: whoever calls it gives no answer of the zone before that. Without a
+    /// journal, or with one that takes no entries, none is held. It takes no memory.
+    pub fn hold(&mut self, alloc: Global)
+        ensures held { self.new ≡ record self.old { holds = self.new.holds } }
+        ensures kept { self.old.holds ≡ true → self.new.holds ≡ true }
+    {
+        self.kept.hold(alloc)
+    }
+
+    /// Writes the updates that are held, all or none, as [`HoldingZone::settle`] does; whether none is held any more. Where it is false the zone in memory is
+    /// ahead of the journal, and is to be opened anew.
+    pub fn settle(&mut self, alloc: Global) -> bool
+        ensures { self.new ≡ record self.old { holds = not result } }
+    {
+        self.kept.settle(alloc)
+    }
+
+    /// Compacts the journal, as [`HoldingZone::compact`] does. Without a journal there is nothing to do.
     pub fn compact(&mut self, alloc: Global) -> Result<(), CompactError>
         ensures { self.new ≡ self.old }
     {
         self.kept.compact(alloc)
     }
 
-    /// The zone, and its journal, if it has one, as they are after whatever was asked of the handler.
+    /// The zone, and its journal, if it has one, as they are after whatever was asked of the handler: where no updates are held, the journal keeps the zone.
     pub fn into_parts(self) -> (SqliteZoneHandler<V>, Option<Journal<D>>)
         ensures zone { result.0 ≡ self.updatable }
         ensures journal { is_some result.1 ≡ self.is_journalled }
-        ensures durable { IfSome result.1 (IsDurable D.Disk result.0.zone) }
+        ensures durable { IfSome result.1 (λ journal. self.holds ≡ false → IsDurable D.Disk result.0.zone journal) }
     {
         self.kept.into_parts()
     }

@@ -1,7 +1,7 @@
 //! A zone that takes dynamic updates (RFC 2136), and answers a client that has an earlier version of it by the differences since (RFC 1995).
 #![tactic(auto)]
 
-ghost use Rattle.std.specs.Prelude.{◌≡◌, ◌⊎◌, IfErr, IfOk, IsTrue, None, [], false, true};
+ghost use Rattle.std.specs.Prelude.{◌≡◌, ◌⊎◌, IfErr, IfOk, IsTrue, None, [], false, not, true};
 ghost use Rattle.hickory_base.specs.declared.zone_store.lookup.LookupControlFlow.TheVariants.{Skip};
 ghost use Rattle.dynamic_zone.specs.DynamicZones.{LookedUp, Searched};
 ghost use Rattle.durable_updates.specs.OpenErrors.{is_no_journal};
@@ -77,7 +77,7 @@ impl<V: Verifier, D: Disk + Drop> IncrementalZone<V, D> {
         // After a restart, what is read is what is on the disk.
         requires restarted { Only (D.seen first) (D.may_leave first) × Only (D.seen second) (D.may_leave second) }
         ensures followed { IfOk result (λ opened. AreFollowed D.Disk first second zone.zone opened.history (now_of opened)) }
-        ensures others { IfOk result (λ opened. opened.kept ≡ record { updatable = record zone { zone = now_of opened }; is_journalled = true }) }
+        ensures others { IfOk result (λ opened. opened.kept ≡ record { updatable = record zone { zone = now_of opened }; is_journalled = true; holds = false }) }
         ensures err { IfErr result (λ e. IsHandedBack D.Disk first e.1 × IsHandedBack D.Disk second e.2) }
         ensures refused { IfErr result (λ e. IsTrue (is_no_journal e.0) → IsRefused D.Disk first e.1 ⊎ IsRefused D.Disk second e.2) }
     {
@@ -95,6 +95,21 @@ impl<V: Verifier, D: Disk + Drop> IncrementalZone<V, D> {
         ensures { result.now ≡ self.now.kept }
     {
         &self.zone
+    }
+
+    /// Has updates held from now on, until they are settled, as [`DurableZone::hold`] does.
+    pub fn hold(&mut self, alloc: Global)
+        ensures held { self.new ≡ record self.old { kept = record self.old.kept { holds = self.new.kept.holds } } }
+        ensures kept { self.old.kept.holds ≡ true → self.new.kept.holds ≡ true }
+    {
+        self.zone.hold(alloc)
+    }
+
+    /// Writes the updates that are held, all or none, as [`DurableZone::settle`] does; whether none is held any more.
+    pub fn settle(&mut self, alloc: Global) -> bool
+        ensures { self.new ≡ record self.old { kept = record self.old.kept { holds = not result } } }
+    {
+        self.zone.settle(alloc)
     }
 
     /// Compacts the journal of the zone, as [`DurableZone::compact`] does. The differences stay.

@@ -1,3 +1,4 @@
+mod HeldZones
 mod Rules
 mod Searching
 mod Served

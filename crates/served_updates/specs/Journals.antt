@@ -1,5 +1,5 @@
 -- The journals of zones that are served.
-use Rattle.std.specs.Prelude.{◌≡◌, ◌∷◌, Option, Some, None, true, List}
+use Rattle.std.specs.Prelude.{◌≡◌, ◌∷◌, Option, Some, None, true, false, List}
 use Rattle.either.specs.declared.Either.TheVariants.{Left}
 use Rattle.sqlite_disk.specs.declared.Disk.{Ghosts as DiskGhosts}
 use Rattle.tsig.specs.declared.verifier.TsigVerifier.{TsigVerifier}
@@ -15,7 +15,7 @@ module _ {D : Type 0} (disks : DiskGhosts D) (first second : D) where
   -- it from versions that the journal tells of. Nothing else of the handler changes.
   pub record IsJournalled {V : Type 0} (old new : UpdatedZone V D) : Type 0 where
     pub followed : AreFollowed disks first second old.zone.kept.updatable.zone new.zone.history new.zone.kept.updatable.zone
-    pub others : new ≡ record old { zone = record { kept = record { updatable = record old.zone.kept.updatable { zone = new.zone.kept.updatable.zone }; is_journalled = true }; history = new.zone.history } }
+    pub others : new ≡ record old { zone = record { kept = record { updatable = record old.zone.kept.updatable { zone = new.zone.kept.updatable.zone }; is_journalled = true; holds = false }; history = new.zone.history } }
 
   -- So is the first handler of a chain, which is the one that takes updates.
   pub record HasJournal (old new : UpdatedChain D) : Type 0 where

@@ -1,4 +1,5 @@
 pub mod Grants
+pub mod Holding
 pub mod JournalFaults
 pub mod Journals
 pub mod Moved

@@ -35,7 +35,7 @@ updatable keys zone = record { zone = zone; axfr_policy = AllowAll; allow_update
 -- The zone takes updates by these keys and rules, in memory alone, beside the zone above it; no earlier version of it is known.
 abbrev pub TakesUpdates : {D : Type 0} → List Key → List Rule → ZoneWithParent → UpdatedHandler D → Type 0
 TakesUpdates {D} keys rules both handler = (zone : UpdatedZone TsigVerifier D) × (handler ≡ Left zone)
-    × (zone.zone ≡ record { kept = record { updatable = updatable keys both.zone.value; is_journalled = false }; history = [] })
+    × (zone.zone ≡ record { kept = record { updatable = updatable keys both.zone.value; is_journalled = false; holds = false }; history = [] })
     × (zone.parent ≡ both.parent) × (zone.policy ≡ rules)
 
 -- A handler of a zone that has these rules: where it has one, the zone takes updates, and without a rule the handler stays as it is, as a list of blocked names

@@ -91,11 +91,12 @@ abbrev pub ChangesAreGranted : {V : Type 0} → Type 0 → Ghosts V → Type 0
 ChangesAreGranted {V} D by = (old new : UpdatedZone V D) (request : ReceivedRequest) (now : ℕ) (answer : Result Bool UpdateFault) (context : Option TSigResponseContext)
     → Updates by old request now answer context new → new ≢ old → IsGrantedTo old request
 
--- No update changes the rules, nor the zone above, nor whether there is a journal.
+-- No update changes the rules, nor the zone above, nor whether there is a journal, nor whether it holds updates.
 abbrev pub RulesStay : {V : Type 0} → Type 0 → Ghosts V → Type 0
 RulesStay {V} D by = (old new : UpdatedZone V D) (request : ReceivedRequest) (now : ℕ) (answer : Result Bool UpdateFault) (context : Option TSigResponseContext)
     → Updates by old request now answer context new
     → (new.policy ≡ old.policy) × (new.parent ≡ old.parent) × (new.zone.kept.is_journalled ≡ old.zone.kept.is_journalled)
+    × (new.zone.kept.holds ≡ old.zone.kept.holds)
 
 -- An update that is acknowledged the rules grant, and it is made as a zone in memory alone makes it (RFC 2136 section 3).
 abbrev pub AcknowledgedAreMade : {V : Type 0} → Type 0 → Ghosts V → Type 0

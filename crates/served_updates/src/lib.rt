@@ -3,6 +3,7 @@
 #![tactic(auto)]
 
 pub mod grants;
+pub mod holding;
 pub mod journals;
 pub mod laws;
 pub mod moving;

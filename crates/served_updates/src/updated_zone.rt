@@ -127,12 +127,12 @@ impl<V: Verifier, D: Disk + Drop> UpdatedZone<V, D> {
         self.zone.zone().updatable().in_memory().serial()
     }
 
-    /// The zone, and its journal, if it has one, as they are after whatever was asked of the handler: on the disk are all requests that were answered `Ok`, and
-    /// what they make of the zone that was there before them is this zone.
+    /// The zone, and its journal, if it has one, as they are after whatever was asked of the handler: where it holds no updates, on the disk are all requests that
+    /// were answered `Ok`, and what they make of the zone that was there before them is this zone.
     pub fn into_parts(self) -> (SqliteZoneHandler<V>, Option<Journal<D>>)
         ensures zone { result.0 ≡ self.zone.kept.updatable }
         ensures journal { is_some result.1 ≡ self.zone.kept.is_journalled }
-        ensures durable { IfSome result.1 (IsDurable D.Disk result.0.zone) }
+        ensures durable { IfSome result.1 (λ journal. self.zone.kept.holds ≡ false → IsDurable D.Disk result.0.zone journal) }
     {
         self.zone.into_zone().into_parts()
     }

@@ -31,7 +31,7 @@ pub fn fault_of_opening(error: &OpenError) -> Fault {
 /// Why a journal is not compacted.
 fn fault_of_compaction(error: &CompactError) -> Fault {
     match error {
-        CompactError::OneFile => Fault::NotWritten,
+        CompactError::OneFile | CompactError::Held => Fault::NotWritten,
         CompactError::Zone(SnapshotError::Memory) => Fault::Memory,
         CompactError::Zone(SnapshotError::Unreadable) => Fault::NoSnapshot,
         CompactError::Journal(JournalError::Memory) => Fault::Memory,

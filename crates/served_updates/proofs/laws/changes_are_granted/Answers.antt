@@ -16,10 +16,11 @@ by_grant by old new request now answer context (outside is refused same) other =
 stay : {V D : Type 0} (by : Ghosts V) (old new : UpdatedZone V D) (request : ReceivedRequest) (now : ℕ) (answer : Result Bool UpdateFault) (context : Option TSigResponseContext)
     → Updates by old request now answer context new
     → (new.policy ≡ old.policy) × (new.parent ≡ old.parent) × (new.zone.kept.is_journalled ≡ old.zone.kept.is_journalled)
+    × (new.zone.kept.holds ≡ old.zone.kept.holds)
 stay {V} {D} by old new request now answer context (granted is made same) =
-    (ap (λ (z : UpdatedZone V D). z.policy) same, ap (λ (z : UpdatedZone V D). z.parent) same, made.0.1)
+    (ap (λ (z : UpdatedZone V D). z.policy) same, ap (λ (z : UpdatedZone V D). z.parent) same, made.0.1, made.0.2)
 stay {V} {D} by old new request now answer context (outside is refused same) =
-    (ap (λ (z : UpdatedZone V D). z.policy) same, ap (λ (z : UpdatedZone V D). z.parent) same, ap (λ (z : UpdatedZone V D). z.zone.kept.is_journalled) same)
+    (ap (λ (z : UpdatedZone V D). z.policy) same, ap (λ (z : UpdatedZone V D). z.parent) same, ap (λ (z : UpdatedZone V D). z.zone.kept.is_journalled) same, ap (λ (z : UpdatedZone V D). z.zone.kept.holds) same)
 
 pub returns-clause-granted : goal.returns-clause-granted
 returns-clause-granted g c = λ old new request now answer context. by_grant g.V.Verifier old new request now answer context
