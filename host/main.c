@@ -20,8 +20,7 @@ static void notify(const char *text) {
     if (len == 0 || len >= sizeof to.sun_path)
         return;
     memcpy(to.sun_path, path, len);
-    if (*path == '@')
-        to.sun_path[0] = 0;
+    to.sun_path[0] = *path == '@' ? 0 : *path;
     int fd = socket(AF_UNIX, SOCK_DGRAM | SOCK_CLOEXEC, 0);
     if (connect(fd, (struct sockaddr *)&to, (socklen_t)(offsetof(struct sockaddr_un, sun_path) + len)) == 0)
         send(fd, text, strlen(text), MSG_NOSIGNAL);

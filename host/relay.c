@@ -1,29 +1,29 @@
-/* Zones with journals: a process zone_serve has them, proved down to the files that it writes, and answers every
- * message. The parent begins it before the worker, which hands it messages as lines, one at a time, and takes back what
- * it answers (docs/ZONE_SERVE.md, the mode lines). Where one of the two ends, so does the other. Where no zone has a
- * journal there is no such process, and the library answers. */
+/* Zones with journals: a process zone_serve has them, proved down to the files that it writes, and answers all. The
+ * parent begins it before the worker, which tells it messages as lines, datagrams that are at hand all at once, and
+ * takes what it answers. Where one ends, so does the other. Without journals there is none, and the library answers. */
 #include "host.h"
 
 #define MESSAGE 65535
 #define DIGITS "0123456789abcdef"
+#define VALUE(digit) ((digit) <= '9' ? (digit) - '0' : (digit) - 'a' + 10)
+#define AHEAD (32 << 10) /* of lines told at once: a pair of sockets has room for more, by wmem_default of the system */
 
 pid_t serving;
 static int asked = -1;  /* where it is asked and answers, or less than 0 */
 static char *line;      /* the last line that it told, without its end */
 static bool is_pending; /* more lines come that answer what it was asked: not behind an empty one, or a word */
+static int ahead;       /* messages that it was told ahead, and whose answers nobody asked for */
+static char text[2 * MESSAGE + 64];
 
-/* Becomes the process, which has this end for its input and output. Signals that the parent waits for stay blocked: it
- * ends once nobody has the other end. */
+/* Becomes the process, with this end for input and output. Signals stay blocked: it ends once nobody has the other. */
 static void become(int end) {
     static const char *words[2 * MOST_GIVEN + 5];
     char number[16];
     int count = 0;
     words[count++] = given("--zone-serve") != NULL ? given("--zone-serve") : "zone_serve";
     for (const struct given *g = settings->given; g < settings->given + settings->count; g++)
-        if (!g->option->is_own) {
-            words[count++] = g->option->name;
-            words[count++] = g->text;
-        }
+        if (!g->option->is_own)
+            words[count++] = g->option->name, words[count++] = g->text;
     snprintf(number, sizeof number, "%d", settings->numbers[MAX_UDP]);
     words[count++] = "--max-udp";
     words[count++] = number;
@@ -83,17 +83,39 @@ static void hear(void) {
     is_pending = len > 1 && (*line == '#' || *line == 'z' || line[strspn(line, DIGITS)] == 0);
 }
 
-/* Asks a line, once what nobody took of the answer before is let go. */
-static void ask(const char *text, size_t len) {
-    while (is_pending)
-        hear();
-    if (send(asked, text, len, MSG_NOSIGNAL) != (ssize_t)len)
-        _exit(1);
-    is_pending = true;
+/* Puts a message as a line: how many bytes. */
+static size_t put_line(char *to, const uint8_t *message, size_t len, const struct source *source, bool stream) {
+    char address[INET6_ADDRSTRLEN];
+    inet_ntop(source->len == 4 ? AF_INET : AF_INET6, source->bytes, address, sizeof address);
+    size_t used = (size_t)sprintf(to, "%s %s ", stream ? "tcp" : "udp", address);
+    for (size_t i = 0; i < len; i++) {
+        to[used++] = DIGITS[message[i] >> 4];
+        to[used++] = DIGITS[message[i] & 15];
+    }
+    to[used++] = '\n';
+    return used;
 }
 
-static int value(char digit) {
-    return digit <= '9' ? digit - '0' : digit - 'a' + 10;
+/* Tells it this much of the text, once what nobody took of the answer before is let go. */
+static void tell(size_t len) {
+    while (is_pending)
+        hear();
+    if (len > 0 && send(asked, text, len, MSG_NOSIGNAL) != (ssize_t)len)
+        _exit(1);
+}
+
+int tell_ahead(const struct mmsghdr *datagrams, int count) {
+    size_t used = 0;
+    int told = 0;
+    for (; asked >= 0 && told < count && used < AHEAD; told++) {
+        const struct msghdr *it = &datagrams[told].msg_hdr;
+        struct source source = source_of(it->msg_name);
+        size_t len = it->msg_flags & MSG_TRUNC ? 0 : datagrams[told].msg_len;
+        used += len > 0 ? put_line(text + used, it->msg_iov->iov_base, len, &source, false) : 0;
+        ahead += len > 0;
+    }
+    tell(used);
+    return told;
 }
 
 /* Puts the reply of the next line behind its length: how many bytes, or 0 where no reply comes any more. */
@@ -105,31 +127,28 @@ static size_t take_reply(uint8_t *frame) {
     frame[0] = (uint8_t)(len >> 8);
     frame[1] = (uint8_t)len;
     for (size_t i = 0; i < len; i++)
-        frame[2 + i] = (uint8_t)(value(line[2 * i]) << 4 | value(line[2 * i + 1]));
+        frame[2 + i] = (uint8_t)(VALUE(line[2 * i]) << 4 | VALUE(line[2 * i + 1]));
     return 2 + len;
 }
 
 uint32_t answer(const uint8_t *message, size_t len, const struct source *source, bool stream, uint8_t *out, size_t room,
                 size_t *written, size_t *waiting) {
-    static char text[2 * MESSAGE + 64];
-    char address[INET6_ADDRSTRLEN];
     if (asked < 0)
         return zone_service_answer(&settings->service, message, len, source->bytes, source->len, source->port, stream,
                                    now, out, room, written, waiting);
+    uint32_t is = ZONE_SERVICE_UNREADABLE;
     *written = *waiting = 0;
-    if (len == 0)
-        return ZONE_SERVICE_UNREADABLE;
-    inet_ntop(source->len == 4 ? AF_INET : AF_INET6, source->bytes, address, sizeof address);
-    size_t used = (size_t)snprintf(text, sizeof text, "%s %s ", stream ? "tcp" : "udp", address);
-    for (size_t i = 0; i < len; i++) {
-        text[used++] = DIGITS[message[i] >> 4];
-        text[used++] = DIGITS[message[i] & 15];
+    if (len > 0) {
+        tell(ahead > 0 ? 0 : put_line(text, message, len, source, stream));
+        ahead -= ahead > 0;
+        is_pending = true;
+        *written = take_reply(out);
+        *waiting = is_pending;
+        is = *line == 'd' ? ZONE_SERVICE_DENIED : *line == 'r' ? ZONE_SERVICE_RESPONSE : is;
+        is = *line == 0 || is_pending ? ZONE_SERVICE_DONE : is;
     }
-    text[used++] = '\n';
-    ask(text, used);
-    *written = take_reply(out);
-    *waiting = is_pending;
-    return *line == 0 || is_pending ? ZONE_SERVICE_DONE : ZONE_SERVICE_UNREADABLE;
+    zone_service_count_answer(&settings->service, len, stream, is, out, *written);
+    return is;
 }
 
 uint32_t answer_stream(const uint8_t *bytes, size_t len, const struct source *source, uint8_t *out, size_t room,
@@ -149,6 +168,7 @@ size_t take(uint8_t *out, size_t room, size_t *waiting) {
     if (asked < 0)
         return zone_service_take(&settings->service, out, room, waiting);
     size_t written = take_reply(out);
+    zone_service_count_replies(&settings->service, out, written);
     *waiting = is_pending;
     return written;
 }

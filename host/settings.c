@@ -127,8 +127,8 @@ static int agree(void) {
     if (has_updates)
         warnx("updates %sare lost when it ends, and when files are read anew",
               has_journal ? "of zones without a journal " : "");
-    if (has_journal && (given("--statistics") != NULL || given("--query-log") != NULL || settings->numbers[RATE] > 0))
-        return complain("--journal has zone_serve answer, which has no --statistics, --query-log or --rate-limit");
+    if (has_journal && (given("--query-log") != NULL || settings->numbers[RATE] > 0))
+        return complain("--journal has zone_serve answer, which has no --query-log or --rate-limit");
     return 0;
 }
 

@@ -1,5 +1,4 @@
-/* What all workers have counted, in memory that they share, so that it outlasts each of them; and the Unix socket where
- * it is told. */
+/* What all workers have counted, in memory that they share and that outlasts each; the Unix socket where it is told. */
 #include "host.h"
 
 #define COUNTERS (sizeof(struct zone_service_counters) / sizeof(uint64_t))

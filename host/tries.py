@@ -246,35 +246,35 @@ def counts(path, before, wanted):
     return False
 
 
-def try_statistics(path):
+def try_statistics(path, port=PORT, records_wanted=20004):
     """What is counted of each kind of message, in numbers."""
     queries, unanswered, replies = "zoned_queries_total", "zoned_unanswered_total", "zoned_replies_total"
     received, sent = "zoned_received_bytes_total", "zoned_sent_bytes_total"
     before, message = statistics(path), query("www.example.com")
     want("statistics have a line for each of 26 numbers", len(before) == 26)
-    reply = udp(message)
+    reply = udp(message, port=port)
     want("a datagram and its reply are counted", counts(path, before, {f'{queries}{{transport="udp"}}': 1, received: len(message), f'{replies}{{code="NOERROR"}}': 1, sent: len(reply)}))
     before, message = statistics(path), query("no.example.com")
-    with tcp() as s:
+    with tcp(port) as s:
         f = s.makefile("rb")
         s.sendall(3 * frame(message))
         size = sum(len(read(f)) for _ in range(3))
     want("so are messages of a connection, by their codes", counts(path, before, {f'{queries}{{transport="tcp"}}': 3, received: 3 * len(message), f'{replies}{{code="NXDOMAIN"}}': 3, sent: size}))
     before, message = statistics(path), query("www.example.com", dns_class=3)
-    reply = udp(message)
+    reply = udp(message, port=port)
     want("REFUSED is counted", counts(path, before, {f'{queries}{{transport="udp"}}': 1, received: len(message), f'{replies}{{code="REFUSED"}}': 1, sent: len(reply)}))
     before, message = statistics(path), query("large.example.com", 16)
-    reply = udp(message)
+    reply = udp(message, port=port)
     want("so is a reply that is truncated", counts(path, before, {f'{queries}{{transport="udp"}}': 1, received: len(message), f'{replies}{{code="NOERROR"}}': 1, "zoned_truncated_total": 1, sent: len(reply)}))
     for what, message, source in (("denied", query("www.example.com"), "127.0.0.9"), ("response", query("www.example.com", flags=b"\x81\x00"), "127.0.0.1"), ("unreadable", b"\0" * 11, "127.0.0.1")):
         before = statistics(path)
-        udp(message, 0.2, source=source)
+        udp(message, 0.2, source=source, port=port)
         want(f"a message without a reply is counted as {what}", counts(path, before, {f'{queries}{{transport="udp"}}': 1, received: len(message), f'{unanswered}{{reason="{what}"}}': 1}))
     before, records = statistics(path), 0
-    with tcp() as s:
+    with tcp(port) as s:
         s.sendall(frame(query("example.com", 252)))
         f, replies_sent, size = s.makefile("rb"), 0, 0
-        while records < 20004:
+        while records < records_wanted:
             reply = read(f)
             records, replies_sent, size = records + answers(reply), replies_sent + 1, size + len(reply)
     want("each reply of a transfer is counted", counts(path, before, {f'{queries}{{transport="tcp"}}': 1, received: len(query("example.com", 252)), f'{replies}{{code="NOERROR"}}': replies_sent, sent: size}))
@@ -696,7 +696,8 @@ def try_relayed(folder, port):
     records = "".join(f'h{i} IN TXT "{"x" * 200}"\n' for i in range(20000))
     large = "".join(f'large IN TXT "{i:03}{"x" * 250}"\n' for i in range(240))
     open(kept.zone, "w").write(SOA_AND_NS + WWW % 1 + records + large)
-    kept.words += ["--deny", "127.0.0.9", "--deny-transfer", "127.0.0.8", "--max-udp", "700", "--nsid", "here"]
+    path = os.path.join(kept.folder, "statistics")
+    kept.words += ["--deny", "127.0.0.9", "--deny-transfer", "127.0.0.8", "--max-udp", "700", "--nsid", "here", "--statistics", path]
     want("a large zone with a journal is ready", kept.start())
     with tcp(port) as s:
         f = s.makefile("rb")
@@ -738,6 +739,7 @@ def try_relayed(folder, port):
         for i in range(60):
             s.send(query("www.example.com", 1, i))
         want("sixty datagrams are answered", sorted(int.from_bytes(s.recv(512)[:2], "big") for _ in range(60)) == list(range(60)))
+    try_statistics(path, port, 20244)
     want("it did all that by the processes that it began with, and ends", "ended" not in kept.said() and kept.end())
 
 
@@ -766,7 +768,7 @@ def try_one_writer(folder, port):
         want(f"a file that cannot be a journal is told: {what}", status_is == 1 and f"zone_serve: {path}: {says}\n" in said)
     status_is, said = told([*here, *kept.words[:2], *kept.words[-4:]])
     want("a journal of a zone without rules is told", status_is == 1 and "there is no --allow-update of this zone" in said)
-    for option, value in (("--statistics", kept.folder + "/socket"), ("--query-log", kept.folder + "/queries"), ("--rate-limit", "5")):
+    for option, value in (("--query-log", kept.folder + "/queries"), ("--rate-limit", "5")):
         status_is, said = told([*here, *kept.words, option, value])
         want(f"{option} beside a journal is refused, and told", status_is == 2 and "--journal has zone_serve answer, which has no" in said)
     for path, says in ((kept.folder + "/none", "No such file"), ("/bin/true", "zone_serve does not begin"), ("/bin/false", "zone_serve does not begin")):
@@ -834,6 +836,56 @@ def try_journal_limit(folder, port):
     os.kill(kept.pid("zoned"), signal.SIGKILL)
     time.sleep(1)
     want("while it cannot, the parent ends when it is told", kept.end())
+
+
+def at_hand(kept, messages):
+    """The codes of the replies to datagrams that wait together while the worker is stopped, in their order; fewer where some are not answered."""
+    worker, found = kept.pid("zoned"), []
+    with socket.socket(socket.AF_INET, socket.SOCK_DGRAM) as s:
+        s.settimeout(3)
+        s.connect(("127.0.0.1", kept.port))
+        os.kill(worker, signal.SIGSTOP)
+        for it in messages:
+            s.send(it)
+        os.kill(worker, signal.SIGCONT)
+        try:
+            while len(found) < len(messages):
+                found.append(code(s.recv(65535)))
+        except OSError:
+            pass
+    return found
+
+
+def try_journal_at_once(folder, port):
+    """Updates that are at hand together are written together; where they are not written none is answered, and the processes begin again."""
+    kept = Kept(folder, port)
+    want("a server with a journal is ready", kept.start())
+    before = writes(kept.pid("zone_serve"))
+    labels = [f"n{it}" for it in range(30)]
+    codes = at_hand(kept, [signed(update(f"{it}.dyn.example.com", 7)) for it in labels])
+    count = writes(kept.pid("zone_serve")) - before
+    want(f"thirty updates at hand are acknowledged, by few writes ({count})", codes == [0] * 30 and 3 <= count <= 6)
+    mixed = [signed(update("a.dyn.example.com", 1)), query("a.dyn.example.com"), b"short", update("b.dyn.example.com", 1), signed(update("c.dyn.example.com", 1)), query("b.dyn.example.com")]
+    want("queries among them see those before them, and others have their own answers", at_hand(kept, mixed) == [0, 0, 5, 0, 3])
+    want("all is there after a kill of all", kept.kill("all") and kept.has({*labels, "a", "b", "c"}) == {*labels, "a", "c"} and kept.serial() == 39)
+    long = [signed(update(f"long{it}.dyn.example.com", 7)) for it in range(150)]
+    want("more than are told at once are acknowledged too", at_hand(kept, long) == [0] * 150 and kept.serial() == 189)
+    want("and it ends", kept.end())
+    kept, made, number, last = Kept(folder, port, limit=32768), set(), 0, None
+    kept.start()
+    while number < 2000 and last is None:
+        labels = [f"n{it}" for it in range(number, number + 20)]
+        number += 20
+        codes = at_hand(kept, [signed(update(f"{it}.dyn.example.com", 7)) for it in labels])
+        if codes == [0] * 20:
+            made.update(labels)
+        else:
+            last = labels
+    told = f"zone_serve: {kept.journal}: the journal is not written: the updates at hand are not answered\n"
+    want(f"where they are not written none is answered, and that is told ({codes})", codes == [] and wait_for(port) and kept.said().count(told) == 1 and len(made) >= 80)
+    found = kept.has(made | set(last))
+    want("behind the next start all that were acknowledged are there, and of the last all or none", found in (made, made | set(last)))
+    want("and it ends", kept.end())
 
 
 def try_journal_full(folder, port):
@@ -1136,7 +1188,7 @@ def main():
     try_configuration(folder, zone, PORT + 2)
     try_keys(folder, zone, PORT + 2)
     if os.path.exists(ZONE_SERVE):
-        for it in (try_journal, try_relayed, try_one_writer, try_journal_configuration, try_journal_limit, try_journal_full, try_journal_kills):
+        for it in (try_journal, try_relayed, try_one_writer, try_journal_configuration, try_journal_limit, try_journal_at_once, try_journal_full, try_journal_kills):
             it(folder, PORT + 4)
     else:
         print("note: no journal is tried, since crates/zone_serve is not built")

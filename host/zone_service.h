@@ -144,6 +144,12 @@ struct zone_service_counters {
 };
 void zone_service_counters(zone_service *service, struct zone_service_counters *counters);
 
+/* For a host that has messages answered by another server, as if this one had answered them. zone_service_count_answer counts a message of
+ * so many bytes, the number that zone_service_answer would have told, and the replies at hand, each behind its length as that writes them;
+ * zone_service_count_replies counts more of them. */
+void zone_service_count_answer(zone_service *service, size_t size, bool stream, uint32_t number, const uint8_t *replies, size_t len);
+void zone_service_count_replies(zone_service *service, const uint8_t *replies, size_t len);
+
 /* Puts the text in which monitoring reads such numbers (Prometheus' text-based format) to the front of out, as far as there is room; it has
  * less than 2,048 bytes. *length is how many they are. DONE, or MEMORY, and *length is 0. */
 uint32_t zone_service_statistics(const struct zone_service_counters *counters, uint8_t *out, size_t room, size_t *length);

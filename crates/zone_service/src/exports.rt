@@ -513,6 +513,32 @@ pub extern "C" fn zone_service_take(
     written
 }
 
+/// Counts a message of so many bytes that another server answered with this number, and replies that it gave, each behind its length in two bytes.
+#[unsafe(no_mangle)]
+pub extern "C" fn zone_service_count_answer(
+    service: &mut Handle,
+    size: usize,
+    stream: bool,
+    number: u32,
+    replies: &[u8],
+)
+    ensures counted { AnswerCounted stream size number replies.now service.old.service.counters service.new.service.counters }
+    ensures others { service.new.service ≡ record service.old.service { counters = service.new.service.counters } }
+{
+    let service = service.service();
+    count_answer(&mut service.counters, stream, size, number, replies);
+}
+
+/// Counts more replies that another server gave, each behind its length in two bytes.
+#[unsafe(no_mangle)]
+pub extern "C" fn zone_service_count_replies(service: &mut Handle, replies: &[u8])
+    ensures counted { AreCounted (one_counted false) replies.now service.old.service.counters service.new.service.counters }
+    ensures others { service.new.service ≡ record service.old.service { counters = service.new.service.counters } }
+{
+    let service = service.service();
+    count_frames(&mut service.counters, false, replies);
+}
+
 /// Tells what the server has done since it was made, in numbers.
 #[unsafe(no_mangle)]
 pub extern "C" fn zone_service_counters(service: &mut Handle, counters: &mut Counters)
