@@ -1,4 +1,5 @@
 mod Granted
+mod ServedGroups
 mod Loading
 mod Named
 mod Results

@@ -89,13 +89,6 @@ LineServed service line written zones true = (told : LineMessage) × IsLineOf li
     × (answer : Answer) × BecomesOf service message answer zones × (written ≡ answer_lines answer)
 LineServed service line written zones false = (written ≡ codes "bad line\n") × (zones ≡ service.server.zones)
 
--- What becomes of lines, one after the other, each over the zones as those before it left them.
-pub data LinesServed {H : Type 0} (service : Service H) : List (List ℕ) → List ℕ → List (DomainName × List H) → Type 0 where
-  none : LinesServed service [] [] service.server.zones
-  more : (lines : List (List ℕ)) (written line back : List ℕ) (tells : Bool) {between zones : List (DomainName × List H)} → LinesServed service lines written between
-      → LineServed (over service between) line back zones tells
-      → LinesServed service (lines ++ line ∷ []) (written ++ back) zones
-
 -- The lines of an input, each with its newline, LF, which the last may lack, and what stands behind them.
 abbrev pub AreLines : List ℕ → List (List ℕ) → List ℕ → Type 0
 AreLines input [] rest = rest ≡ input

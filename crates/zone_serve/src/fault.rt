@@ -71,6 +71,12 @@ pub enum Fault {
         /// What is wrong with it.
         fault: JournalFileFault,
     },
+    /// The updates of lines that were at hand together are not written to a journal.
+    #[error("the journal is not written: the updates at hand are not answered")]
+    Unwritten {
+        /// Which journal it is.
+        place: usize,
+    },
     /// A zone that takes updates has a zone right below it.
     #[error("the zone takes updates, so that no zone right below it can be served beside it")]
     ZoneBelow {
@@ -152,7 +158,7 @@ impl Fault {
             Fault::UpdateZone { .. } | Fault::ZoneBelow { .. } => 2,
             Fault::JournalZone { .. } | Fault::JournalTwice { .. } => 2,
             Fault::Memory | Fault::Stream(StreamFault::Memory) => 3,
-            Fault::Clock | Fault::Read | Fault::Write => 4,
+            Fault::Clock | Fault::Read | Fault::Write | Fault::Unwritten { .. } => 4,
             Fault::Stream(StreamFault::Read) => 4,
             Fault::ZoneTwice { .. } | Fault::Zone { .. } | Fault::List { .. } => 5,
             Fault::Keys { .. } | Fault::Journal { .. } => 5,

@@ -10,7 +10,8 @@ use crate::damage::{Damage, find_damage, is_none_at};
 use crate::fault::Fault;
 use crate::files::{FileFault, fault_of};
 use crate::server::apex_of;
-use crate::serving::{Watch, now};
+use crate::groups::Watch;
+use crate::serving::now;
 use hickory_server::proto::Name;
 use serve_options::arguments::ZoneArgument;
 use served_updates::journals::{JournalFault, Opened, has_updates, is_shut, open_journal};
@@ -97,6 +98,13 @@ pub struct Journalled<'a> {
     file: &'a str,
     /// When it was told last that the journal takes no updates any more, in seconds since 1970, if it was.
     told: Option<u64>,
+}
+
+impl<'a> Journalled<'a> {
+    /// The name of its apex.
+    pub fn apex(&self) -> &Name {
+        &self.apex
+    }
 }
 
 /// Opens the journal at a path for the zone of this apex.
@@ -275,7 +283,7 @@ fn look_at<R: Clock + Eprint + Alloc<A = Global>, D: Disk + Drop>(
 }
 
 impl<'r, 'a, D: Disk + Drop> Watch<LeftToServer, Handler<D>> for JournalWatch<'r, 'a> {
-    fn after_line(&mut self, server: &SignedServer<LeftToServer, Handler<D>>) {
+    fn after_lines(&mut self, server: &SignedServer<LeftToServer, Handler<D>>) {
         for place in 0..self.journals.len() {
             if let Some(journal) = self.journals.get_mut(place) {
                 look_at(self.rt, &server.server.catalog, journal);

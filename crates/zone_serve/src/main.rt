@@ -21,6 +21,8 @@ mod damage;
 mod fault;
 mod files;
 mod frames;
+mod groups;
+mod holder;
 mod included;
 mod journals;
 mod keys;
@@ -33,12 +35,14 @@ mod updates;
 mod zones;
 
 use crate::fault::Fault;
+use crate::groups::{Holder, Watch, serve_lines};
+use crate::holder::JournalHolder;
 use crate::included::zone_of;
 use crate::journals::{JournalWatch, SystemFiles, open_journals};
 use crate::keys::{keys_of, transfer_keys_of};
 use crate::lists::blocklist;
 use crate::server::{apex_of, identifier_of, rules_of};
-use crate::serving::{Watch, serve_datagram, serve_lines, serve_stream};
+use crate::serving::{serve_datagram, serve_stream};
 use crate::updates::{grants_of, see_zones, take_updates};
 use crate::zones::ZoneFileFault;
 use hickory_server::VERSION;
@@ -261,13 +265,14 @@ fn server_for<R: Files + Eprint + Alloc<A = Global>, D: Disk + Drop>(
 fn serve_input<
     R: Clock + Input + Print + Alloc<A = Global>,
     H: ZoneHandler,
-    O: Watch<LeftToServer, H>,
+    O: Holder<LeftToServer, H>,
 >(
     rt: &R,
     mode: Mode,
     address: IpAddr,
     server: &mut SignedServer<LeftToServer, H>,
-    watch: &mut O,
+    holder: &O,
+    watch: &mut impl Watch<LeftToServer, H>,
 ) -> Result<(), Fault> {
     let alloc = rt.alloc();
     let mut reader = rt.reader();
@@ -275,7 +280,7 @@ fn serve_input<
     match mode {
         Mode::Udp => serve_datagram(alloc, rt, server, address, &mut reader, &mut writer),
         Mode::Tcp => serve_stream(alloc, rt, server, address, &mut reader, &mut writer),
-        Mode::Lines => match serve_lines(alloc, rt, server, &mut reader, &mut writer, watch)? {
+        Mode::Lines => match serve_lines(alloc, rt, server, &mut reader, &mut writer, holder, watch)? {
             Some(number) => Err(Fault::Line { number }),
             None => Ok(()),
         },
@@ -291,8 +296,9 @@ fn serve_with_journals(
 ) -> Result<(), Fault> {
     let files = SystemFiles { rt };
     let journals = open_journals(rt, &files, &settings.journals, &mut server.server.catalog)?;
+    let holder = JournalHolder::of(rt.alloc(), &journals)?;
     let mut watch = JournalWatch { rt, journals };
-    serve_input(rt, settings.mode, address, server, &mut watch)
+    serve_input(rt, settings.mode, address, server, &holder, &mut watch)
 }
 
 /// Serves the standard input as the arguments say.
@@ -311,7 +317,9 @@ fn file_of<'a>(settings: &Settings<'a>, fault: Fault) -> Option<&'a str> {
         }
         Fault::List { place, .. } => settings.blocklists.get(place).copied(),
         Fault::Keys { .. } => settings.keys,
-        Fault::Journal { place, .. } => settings.journals.get(place).map(|it| it.file),
+        Fault::Journal { place, .. } | Fault::Unwritten { place } => {
+            settings.journals.get(place).map(|it| it.file)
+        }
         _ => None,
     }
 }
