@@ -1,9 +1,11 @@
 // Preloaded into a program, this refuses one of the calls by which it writes a file, or ends it there as a crash of the machine would, by three words of
 // the environment: DISK_KIND is "put" (pwrite) or "sync" (fdatasync, fsync), for a call that fails, and "crash" for an end at any of these; DISK_CALL
 // is N for the Nth such call, and DISK_KEEPS says what a crash leaves of each write since the last sync of its file: "all", "none", "front" (its
-// first half), "back" (the other half), "last" (of the last write all, of those before it none). The first refusal is told on the standard error.
+// first half), "back" (the other half), "last" (of the last write all, of those before it none). The first refusal is told on the standard error. Where DISK_COUNT
+// is set, its end tells how many writes and syncs there were.
 #define _GNU_SOURCE
 #include <errno.h>
+#include <stdio.h>
 #include <stdlib.h>
 #include <string.h>
 #include <sys/mman.h>
@@ -21,7 +23,12 @@ struct write {
 
 static struct write writes[256];
 static int noted;
-static unsigned long calls;
+static unsigned long calls, made, synced;
+
+__attribute__((destructor)) static void tell(void) {
+    if (getenv("DISK_COUNT"))
+        dprintf(2, "%lu writes, %lu syncs\n", made, synced);
+}
 
 static int is_due(const char *kind) {
     const char *wanted = getenv("DISK_KIND"), *call = getenv("DISK_CALL");
@@ -80,6 +87,7 @@ static void note(int file, size_t count, off_t at) {
 }
 
 static ssize_t put(int file, const void *bytes, size_t count, off_t at) {
+    made++;
     if (is_due("put")) {
         errno = ENOSPC;
         return -1;
@@ -95,6 +103,7 @@ ssize_t pwrite(int file, const void *bytes, size_t count, off_t at) { return put
 ssize_t pwrite64(int file, const void *bytes, size_t count, off_t at) { return put(file, bytes, count, at); }
 
 static int settle(int file, long call) {
+    synced++;
     if (is_due("crash"))
         crash();
     if (is_due("sync")) {

@@ -28,7 +28,7 @@ SECRET = b"0123456789abcdef0123456789abcdef"
 OTHER = b"0123456789abcdef0123456789abcdeF"
 NOW = 1_800_000_000
 
-A, NS, SOA, TXT, AXFR, ANY = 1, 2, 6, 16, 252, 255
+A, NS, SOA, TXT, AXFR, ANY, NONE = 1, 2, 6, 16, 252, 255, 254
 IN = 1
 TSIG, OPT = 250, 41
 
@@ -59,10 +59,11 @@ def query(owner, kind, number=0x1234, payload=None):
     return message(number, 0, (1, 0, 0, 0 if payload is None else 1), question(owner, kind) + extra)
 
 
-def update(owner, address, number=0x1235):
-    """Adds an address to the zone example.com."""
+def update(owner, address, number=0x1235, is_new=False):
+    """Adds an address to the zone example.com; where the name is not in use, if that is required (RFC 2136 section 2.4.5)."""
+    required = name(owner) + struct.pack(">2HIH", ANY, NONE, 0, 0) if is_new else b""
     record = name(owner) + struct.pack(">2HIH", A, IN, 60, 4) + bytes(address)
-    return message(number, 5 << 11, (1, 0, 1, 0), question("example.com", SOA) + record)
+    return message(number, 5 << 11, (1, int(is_new), 1, 0), question("example.com", SOA) + required + record)
 
 
 def variables(key, algorithm, time, fudge, error, other):
