@@ -22,11 +22,7 @@ use std::marker::Model;
 use update_journal::Journal;
 
 /// Puts the bytes of a request last among entries.
-fn put_entry(
-    alloc: Global,
-    request: &Request,
-    entries: &mut Vec<Vec<u8>>,
-) -> Result<(), AllocError>
+fn put_entry(alloc: Global, request: &Request, entries: &mut Vec<Vec<u8>>) -> Result<(), AllocError>
     ensures put { OnOk result (contents entries.new.items ≡ contents entries.old.items ++ request.now.bytes ∷ []) }
     ensures kept { OnErr result (contents entries.new.items ≡ contents entries.old.items) }
 {

@@ -24,10 +24,7 @@ fn held<D: Disk + Drop>(alloc: Global, handler: Handler<D>) -> Handler<D>
 }
 
 /// Has the first handler of a chain hold updates, if it takes some. After an error it is gone.
-fn hold_first<D: Disk + Drop>(
-    alloc: Global,
-    chain: &mut Vec<Handler<D>>,
-) -> Result<(), AllocError>
+fn hold_first<D: Disk + Drop>(alloc: Global, chain: &mut Vec<Handler<D>>) -> Result<(), AllocError>
     ensures { OnOk result ((holds : Bool) × FirstHolds holds chain.old.items chain.new.items) }
 {
     if chain.is_empty() {

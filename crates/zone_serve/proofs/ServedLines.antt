@@ -105,11 +105,11 @@ module _ {H : Type 0} (begins settles : List (DomainName × List H) → List (Do
     pub so_far_all : (group : List (List ℕ)) → group ≡ []
         → LinesSoFar begins settles (service_of handler signature_for first) old between held kept middle.server.catalog.zones → IfSome between (λ input. NextLines input group new)
         → IfSome old (λ input. (lines : List (List ℕ)) × (written : List ℕ) × AreLines input lines []
-            × LinesServed begins settles (service_of handler signature_for first) lines written middle.server.catalog.zones × Appends held kept written)
+        × LinesServed begins settles (service_of handler signature_for first) lines written middle.server.catalog.zones × Appends held kept written)
     so_far_all group empty so_far next = by_input old so_far where
       by_input : (old : Option (List ℕ)) → LinesSoFar begins settles (service_of handler signature_for first) old between held kept middle.server.catalog.zones
           → IfSome old (λ input. (lines : List (List ℕ)) × (written : List ℕ) × AreLines input lines []
-              × LinesServed begins settles (service_of handler signature_for first) lines written middle.server.catalog.zones × Appends held kept written)
+          × LinesServed begins settles (service_of handler signature_for first) lines written middle.server.catalog.zones × Appends held kept written)
       by_input None before = tt
       by_input (Some input) (lines, written, rest, is, are, before, holds) =
           let ended = rw (is, empty) at next in

@@ -36,7 +36,9 @@ impl JournalHolder {
 /// Whether the message of a line is an update, by the opcode in its third byte (RFC 1035 section 4.1.1, RFC 2136 section 1.3). What is said of a line that tells no
 /// message does not matter.
 fn is_update(line: &[u8]) -> bool {
-    let mut words = line.split(|b| b.is_ascii_whitespace()).filter(|word| !word.is_empty());
+    let mut words = line
+        .split(|b| b.is_ascii_whitespace())
+        .filter(|word| !word.is_empty());
     match words.nth(2) {
         Some([_, _, _, _, b'2', low, ..]) => matches!(low, b'8' | b'9' | b'a'..=b'f' | b'A'..=b'F'),
         _ => false,
@@ -45,7 +47,11 @@ fn is_update(line: &[u8]) -> bool {
 
 /// Whether so many lines are updates that they are worth holding.
 fn are_worth(lines: &[Vec<u8>]) -> bool {
-    lines.iter().filter(|line| is_update(line)).nth(FEWEST_UPDATES - 1).is_some()
+    lines
+        .iter()
+        .filter(|line| is_update(line))
+        .nth(FEWEST_UPDATES - 1)
+        .is_some()
 }
 
 impl<D: Disk + Drop> Holder<LeftToServer, Handler<D>> for JournalHolder {

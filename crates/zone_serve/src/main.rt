@@ -280,7 +280,15 @@ fn serve_input<
     match mode {
         Mode::Udp => serve_datagram(alloc, rt, server, address, &mut reader, &mut writer),
         Mode::Tcp => serve_stream(alloc, rt, server, address, &mut reader, &mut writer),
-        Mode::Lines => match serve_lines(alloc, rt, server, &mut reader, &mut writer, holder, watch)? {
+        Mode::Lines => match serve_lines(
+            alloc,
+            rt,
+            server,
+            &mut reader,
+            &mut writer,
+            holder,
+            watch,
+        )? {
             Some(number) => Err(Fault::Line { number }),
             None => Ok(()),
         },
