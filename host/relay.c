@@ -36,9 +36,9 @@ static void become(int end) {
 }
 
 void relay_leave(void) {
-    if (asked >= 0)
-        close(asked);
+    close(asked);
     asked = -1;
+    is_pending = false;
 }
 
 /* Ends the process, and waits until it has ended: its journals are free then. */

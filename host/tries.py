@@ -603,6 +603,14 @@ class Kept:
     def said(self):
         return open(self.log).read()
 
+    def says(self, text):
+        """How often it has said this, within two seconds: it tells behind its answers."""
+        for _ in range(100):
+            if text in self.said():
+                break
+            time.sleep(0.02)
+        return self.said().count(text)
+
     def update(self, label, last=7):
         """The code of the reply to a signed update over UDP, or None."""
         reply = udp(signed(update(f"{label}.dyn.example.com", last)), port=self.port)
@@ -811,7 +819,7 @@ def try_journal_limit(folder, port):
             made.add(f"n{number}")
         number += 1
     shut = f"zone_serve: {kept.journal}: the journal is not written: each update is SERVFAIL until the next start\n"
-    want("a write that fails is SERVFAIL, and told", code_is == 2 and kept.said().count(shut) == 1 and len(made) >= 100)
+    want("a write that fails is SERVFAIL, and told", code_is == 2 and kept.says(shut) == 1 and len(made) >= 100)
     want("so is each update behind it, and queries go on", [kept.update("more") for _ in range(3)] == [2] * 3 and kept.has(made) == made and kept.said().count(shut) == 1)
     want(f"behind a reload all {len(made)} updates that were acknowledged are there, and updates go on", kept.reload() and kept.has(made) == made and kept.update("later") == 0)
     want("and it ends", kept.end())
@@ -882,7 +890,7 @@ def try_journal_at_once(folder, port):
         else:
             last = labels
     told = f"zone_serve: {kept.journal}: the journal is not written: the updates at hand are not answered\n"
-    want(f"where they are not written none is answered, and that is told ({codes})", codes == [] and wait_for(port) and kept.said().count(told) == 1 and len(made) >= 80)
+    want(f"where they are not written none is answered, and that is told ({codes})", codes == [] and wait_for(port) and kept.says(told) == 1 and len(made) >= 80)
     found = kept.has(made | set(last))
     want("behind the next start all that were acknowledged are there, and of the last all or none", found in (made, made | set(last)))
     want("and it ends", kept.end())
