@@ -1,5 +1,5 @@
 -- Updates that are held and then written are answered as one batch.
-use Rattle.std.proofs.Common.{◌≡◌, ◌∙◌, ℕ, List, [], ◌∷◌, ◌++◌, Bool, Option, Result, Ok, Err, IfErr, map, ap, append_assoc, refl, subst, sym}
+use Rattle.std.proofs.Common.{◌≡◌, ◌∙◌, ℕ, List, [], ◌∷◌, ◌++◌, Bool, Option, Result, Ok, Err, ap, append_assoc, refl, subst, sym}
 use Rattle.wire_messages.specs.declared.rr.tsig.TSigResponseContext.{TSigResponseContext}
 use Rattle.hickory_base.specs.requests.Requests.{ReceivedRequest}
 use Rattle.hickory_base.specs.declared.errors.UpdateFault.{UpdateFault}
@@ -7,7 +7,6 @@ use Rattle.hickory_store.specs.UpdatableZone.{UpdatableZone}
 use Rattle.hickory_store.specs.UpdateAnswers.{AnswersUpdate}
 use Rattle.hickory_store.specs.declared.sqlite.verifier.Verifier.{Ghosts}
 use Rattle.sqlite_disk.specs.declared.Disk.{Ghosts as DiskGhosts}
-use Rattle.update_journal.specs.JournalState.{JournalState}
 use Rattle.durable_updates.specs.Batches.{AnswersEach, Told, accepted, bytes_of, if_accepted}
 use Rattle.durable_updates.specs.DurableUpdates.{IsWriteFault}
 use Rattle.durable_updates.specs.Held.{AreHeld, HeldAreABatch, UnwrittenAreABatch, more, none}

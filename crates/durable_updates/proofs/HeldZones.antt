@@ -16,7 +16,7 @@ use Rattle.durable_updates.specs.Holding.{IsAhead, IsKeptBut}
 use Rattle.durable_updates.specs.Journalling.{JournalsAll}
 use Rattle.durable_updates.specs.Recorded.{IsDurable}
 use Rattle.durable_updates.specs.Redone.{Redone}
-use Rattle.durable_updates.specs.Runs.{AreRead, Server, after_answer}
+use Rattle.durable_updates.specs.Runs.{after_answer}
 use Rattle.durable_updates.proofs.Accepted.{each_redone}
 use Rattle.durable_updates.proofs.Entries.{more}
 use Rattle.durable_updates.proofs.Histories.{Took, back_read, bytes_more, front_read, step_on}

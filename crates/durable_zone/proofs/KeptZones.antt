@@ -1,5 +1,5 @@
 -- What an update leaves of a zone, with a journal or without.
-use Rattle.std.proofs.Common.{◌≡◌, ◌≢◌, ◌⊎◌, inl, inr, ◌∙◌, ap, sym, subst, refl, ℕ, Bool, true, false, Option, Result, Ok, Err, OnErr, OnOk}
+use Rattle.std.proofs.Common.{◌≡◌, ◌≢◌, inl, inr, ◌∙◌, ap, sym, subst, ℕ, Bool, true, false, Option, Result, Ok, Err, OnErr, OnOk}
 use Rattle.std.specs.Prelude.{IsTrue}
 use Rattle.wire_messages.specs.declared.rr.tsig.TSigResponseContext.{TSigResponseContext}
 use Rattle.hickory_base.specs.requests.Requests.{ReceivedRequest}
@@ -13,7 +13,7 @@ use Rattle.hickory_store.specs.declared.sqlite.verifier.Verifier.{Ghosts}
 use Rattle.dynamic_zone.specs.Overviews.{Follows, IsOverview}
 use Rattle.dynamic_zone.specs.declared.overview.Overview.{Overview}
 use Rattle.dynamic_zone.proofs.Kept.{same_handler}
-use Rattle.durable_updates.specs.DurableUpdates.{AnswersDurably, IsUnwritten}
+use Rattle.durable_updates.specs.DurableUpdates.{AnswersDurably}
 use Rattle.durable_zone.specs.DurableZones.{AcknowledgedAreMade, KeptZone, Updates, UpdatesOfMemory}
 
 -- what is known of sets that were read

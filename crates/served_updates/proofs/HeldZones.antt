@@ -1,5 +1,5 @@
 -- Zones that hold their updates, and settle them, one after the other.
-use Rattle.std.proofs.Common.{◌≡◌, ◌<◌, ◌+◌, ◌∷◌, ℕ, List, length, get_or, take, subst, sym}
+use Rattle.std.proofs.Common.{◌≡◌, ◌<◌, ◌+◌, ℕ, List, length, get_or, take, subst, sym}
 use Rattle.wire_names.specs.rr.domain.DomainName.{DomainName}
 use Rattle.served_updates.specs.Holding.{AllBegin, AllSettle, Begins, Settles}
 use Rattle.served_updates.specs.Holding as holding

@@ -1,7 +1,6 @@
 -- Zones that hold updates, which wait to be written to their journals.
 use Rattle.std.specs.Prelude.{◌≡◌, ◌⊎◌, ◌∷◌, ◌++◌, Bool, false, Option, Some, None, List, []}
 use Rattle.either.specs.declared.Either.TheVariants.{Left, Right}
-use Rattle.tsig.specs.declared.verifier.TsigVerifier.{TsigVerifier}
 use Rattle.wire_names.specs.rr.domain.DomainName.{DomainName}
 use Rattle.wire_names.specs.rr.domain.NameOrder.{lower_name}
 use Rattle.hickory_catalog.specs.Zones.{ChangesAt}

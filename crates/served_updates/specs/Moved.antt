@@ -1,8 +1,6 @@
 -- The zones of a server, some of which take updates.
 use Rattle.std.specs.Prelude.{◌≡◌, ◌⊎◌, ◌++◌, [], ◌∷◌, List, Option, Some, None, true, false}
-use Rattle.std.specs.Global.{Global}
 use Rattle.std.specs.List.{AllZip}
-use Rattle.std.specs.declared.rc.Rc.{Rc}
 use Rattle.either.specs.declared.Either.{Either}
 use Rattle.either.specs.declared.Either.TheVariants.{Left, Right}
 use Rattle.wire_names.specs.rr.domain.DomainName.{DomainName}

@@ -8,7 +8,7 @@ use Rattle.hickory_catalog.specs.Signing.{Signer}
 use Rattle.hickory_base.specs.declared.zone_store.handler.ZoneHandler.{Ghosts}
 use Rattle.signed_server.specs.declared.service.SignedServer.{SignedServer}
 use Rattle.zone_serve.specs.Groups.{Begun, EachServed, GroupServed, contents}
-use Rattle.zone_serve.specs.Groups.EachServed.{more, none}
+use Rattle.zone_serve.specs.Groups.EachServed.{more}
 use Rattle.zone_serve.specs.Groups.GroupServed.{as_lines, as_one}
 use Rattle.zone_serve.specs.Served.{LineServed, Service, Stays, over, service_of}
 use Rattle.zone_serve.proofs.Servers.{same_service}

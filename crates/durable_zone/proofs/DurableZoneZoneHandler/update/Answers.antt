@@ -1,5 +1,4 @@
 -- The overview follows an update that changed the zone, and stays where none did.
-use Rattle.std.proofs.Common.{◌∙◌, ap}
 use Rattle.durable_zone.proofs.KeptZones.{followed_on, read_of, stays}
 use Rattle.durable_zone.specs.DurableZones.{kept_zone}
 use Rattle.durable_zone.proofs.DurableZoneZoneHandler.update.Goals as goal

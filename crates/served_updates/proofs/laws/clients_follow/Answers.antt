@@ -1,5 +1,5 @@
 -- By what is so of the zone inside, which an update outside the rules leaves as it is.
-use Rattle.std.proofs.Common.{◌≡◌, ◌⊎◌, ◌∷◌, inl, inr, subst, sym, ℕ, Bool, List, Option, Result}
+use Rattle.std.proofs.Common.{◌∷◌, inl, inr, subst, sym, ℕ, Bool, List, Option, Result}
 use Rattle.wire_messages.specs.declared.rr.tsig.TSigResponseContext.{TSigResponseContext}
 use Rattle.hickory_base.specs.requests.Requests.{ReceivedRequest}
 use Rattle.hickory_base.specs.zone_store.ZoneAnswers.{MemoryZone}

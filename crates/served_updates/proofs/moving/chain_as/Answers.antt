@@ -1,5 +1,5 @@
 -- One handler more is served so.
-use Rattle.std.proofs.Common.{◌≡◌, List, [], ◌∷◌, ◌++◌, rules, ap, sym, ◌∙◌, append_assoc}
+use Rattle.std.proofs.Common.{◌≡◌, [], ◌∷◌, ◌++◌, rules, ap, sym, ◌∙◌, append_assoc}
 use Rattle.served_zones.specs.ServedZones.{Chain}
 use Rattle.served_updates.specs.Grants.{rules_for}
 use Rattle.served_updates.specs.Moved.{IsServedAs}
