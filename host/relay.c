@@ -136,7 +136,7 @@ uint32_t answer(const uint8_t *message, size_t len, const struct source *source,
     if (asked < 0)
         return zone_service_answer(&settings->service, message, len, source->bytes, source->len, source->port, stream,
                                    now, out, room, written, waiting);
-    uint32_t is = ZONE_SERVICE_UNREADABLE;
+    uint32_t number = ZONE_SERVICE_UNREADABLE;
     *written = *waiting = 0;
     if (len > 0) {
         tell(ahead > 0 ? 0 : put_line(text, message, len, source, stream));
@@ -144,11 +144,11 @@ uint32_t answer(const uint8_t *message, size_t len, const struct source *source,
         is_pending = true;
         *written = take_reply(out);
         *waiting = is_pending;
-        is = *line == 'd' ? ZONE_SERVICE_DENIED : *line == 'r' ? ZONE_SERVICE_RESPONSE : is;
-        is = *line == 0 || is_pending ? ZONE_SERVICE_DONE : is;
+        number = *line == 'd' ? ZONE_SERVICE_DENIED : *line == 'r' ? ZONE_SERVICE_RESPONSE : number;
+        number = *line == 0 || is_pending ? ZONE_SERVICE_DONE : number;
     }
-    zone_service_count_answer(&settings->service, len, stream, is, out, *written);
-    return is;
+    zone_service_count_answer(&settings->service, len, stream, number, out, *written);
+    return number;
 }
 
 uint32_t answer_stream(const uint8_t *bytes, size_t len, const struct source *source, uint8_t *out, size_t room,
