@@ -25,11 +25,11 @@ def record(owner, kind, of_class, ttl, data):
     return name(owner) + struct.pack(">HHIH", kind, of_class, ttl, len(data)) + data
 
 
-def update(zone, records, key=None, opcode=5, required=()):
-    """A request with these prerequisites, whose update section has these records; signed by a key of this name, with a MAC that nobody asks for here."""
+def update(zone, records, key=None, opcode=5, required=(), signed=1700000000):
+    """A request with these prerequisites, whose update section has these records; signed by a key of this name at this moment, with a MAC that nobody asks for here."""
     signature = b""
     if key:
-        data = name("hmac-sha256") + (1700000000).to_bytes(6, "big") + struct.pack(">HH", 300, 32) + bytes(range(32)) + struct.pack(">HHH", 7, 0, 0)
+        data = name("hmac-sha256") + signed.to_bytes(6, "big") + struct.pack(">HH", 300, 32) + bytes(range(32)) + struct.pack(">HHH", 7, 0, 0)
         signature = record(key, TSIG, ANY, 0, data)
     header = struct.pack(">HHHHHH", 7, opcode << 11, 1, len(required), len(records), 1 if key else 0)
     return header + name(zone) + struct.pack(">HH", SOA, IN) + b"".join(required) + b"".join(records) + signature
@@ -51,20 +51,43 @@ OTHER = update("example.net", [record("www.example.net", A, IN, 300, bytes([192,
 QUERY = update("example.com", [], opcode=0)
 
 
+def soa(owner, serial):
+    data = name("ns1.example.com") + name("hostmaster.example.com") + struct.pack(">IIIII", serial, 7200, 900, 1209600, 3600)
+    return record(owner, SOA, IN, 3600, data)
+
+
 def snapshot(serial):
     """The entries of a zone of this serial."""
-    data = name("ns1.example.com") + name("hostmaster.example.com") + struct.pack(">IIIII", serial, 7200, 900, 1209600, 3600)
     return [
         said(record("example.com", NS, IN, 3600, name("ns1.example.com"))),
-        said(record("example.com", SOA, IN, 3600, data)),
+        said(soa("example.com", serial)),
         said(record("ns1.example.com", A, IN, 3600, bytes([192, 0, 2, 53]))),
         said(record("quoted.example.com", TXT, IN, 60, b"\3a\"b\1\\")),
     ]
 
 
-def compacted(serial):
-    """A journal of a zone that had this serial when it was compacted, and an update behind that."""
-    return journal([(7).to_bytes(8, "big"), *snapshot(serial), b"", TWO])
+def compacted(serial, behind=(TWO,)):
+    """A journal of a zone that had this serial when it was compacted, and these entries behind that."""
+    return journal([(7).to_bytes(8, "big"), *snapshot(serial), b"", *behind])
+
+
+def compacted_of(records, behind):
+    """The same of a zone of these records."""
+    return journal([(7).to_bytes(8, "big"), *map(said, records), b"", *behind])
+
+
+# What changes nothing: a name that is not there goes, a record comes that is there, and no record at all.
+GONE = update("example.com", [record("gone.example.com", ANY_TYPE, ANY, 0, b"")])
+KNOWN = update("example.com", [record("ns1.example.com", A, IN, 3600, bytes([192, 0, 2, 53]))])
+NOTHING = update("example.com", [])
+NUMBERED = update("example.com", [soa("example.com", 41)])
+OUTSIDE = update("example.com", [record("www.example.net", A, IN, 300, bytes([192, 0, 2, 1]))])
+EMPTY_OTHER = update("example.net", [])
+SPELLED = update("EXAMPLE.com", [record("WWW.example.COM", A, IN, 300, bytes([192, 0, 2, 1]))])
+OF_THE_ROOT = update("", [record("com", NS, IN, 300, name("ns1.example.com"))])
+
+# Moments of signatures: the first of all, the last that jiff's calendar has, the next one, and the last of 48 bits.
+SIGNED = [update("example.com", [], "update-key", signed=it) for it in (0, 253402207200, 253402207201, 2**48 - 1)]
 
 
 # Fronts of files that are no journals: of SQLite's format 3 (its "Database File Format", section 1.3), and of PNG (RFC 2083 sections 3.1 and 4.1.1).
@@ -82,6 +105,18 @@ FILES = {
     "open.journal": journal([ADDED], b"\1"),
     "generation.journal": journal([(7).to_bytes(8, "big"), ADDED]),
     "compacted.journal": compacted(9),
+    "followed.journal": compacted(9, [TWO, GONE, KNOWN, NOTHING, NUMBERED, TAKEN]),
+    "followed_round.journal": compacted(2**32 - 1, [ADDED, TAKEN]),
+    "followed_damaged.journal": compacted(9, [TWO, b"no message", ADDED, TAKEN]),
+    "followed_query.journal": compacted(9, [ADDED, QUERY, TAKEN]),
+    "followed_other_zone.journal": compacted(9, [ADDED, EMPTY_OTHER, TAKEN]),
+    "followed_outside.journal": compacted(9, [ADDED, OUTSIDE, TAKEN]),
+    "followed_spelled.journal": compacted_of([soa("Example.COM", 9)], [SPELLED, ADDED]),
+    "followed_root.journal": compacted_of([soa("", 9)], [OF_THE_ROOT]),
+    "snapshot_damaged.journal": journal([(7).to_bytes(8, "big"), *snapshot(9), b"no message", b"", ADDED]),
+    "snapshot_no_soa.journal": compacted_of([record("example.com", NS, IN, 3600, name("ns1.example.com"))], [ADDED]),
+    "snapshot_no_zone.journal": compacted_of([soa("example.com", 9), record("example.net", NS, IN, 3600, name("ns1.example.com"))], [ADDED]),
+    "signed.journal": journal(SIGNED),
     "generation_late.journal": journal([ADDED, (7).to_bytes(8, "big")]),
     "other_zone.journal": journal([ADDED, OTHER]),
     "query.journal": journal([QUERY, ADDED]),

@@ -49,8 +49,9 @@ def prove(name):
 
 
 def can_be_tried(case):
-    """Whether `rt try` can run a case: it gives no environment, and no streams that fail."""
-    return not {"env", "stdin", "stdout"} & case.files.keys()
+    """Whether `rt try` can run a case: it gives no environment, no streams that fail and no journal, and runs a program under a name of its own."""
+    is_named = f"Usage: {case.program} ".encode() in case.wanted and "clap" in crates.rows()[case.program][1]
+    return not is_named and not {"env", "stdin", "stdout", "journal"} & case.files.keys()
 
 
 def write_case(folder, case):

@@ -67,6 +67,7 @@ struct settings {
     } given[MOST_GIVEN]; /* options with a text, in their order */
     int count, numbers[NUMBERS];
     bool is_check;        /* the files are only to be read */
+    bool is_unwritten;    /* a zone_serve of these settings could not write updates that it held */
     zone_service service; /* at NULL where there is none */
     size_t used;
     char room[1 << 20]; /* whose front has what configuration files say */
@@ -122,11 +123,13 @@ struct source {
 struct source source_of(const struct sockaddr_storage *address);
 
 /* relay.c: where zones have journals, begin starts the process that answers, once the one before has ended, and waits
- * until it does: 0, or -1 with a line on the standard error. leave has nobody but the worker ask it. tell_ahead tells
- * it the first of these datagrams, and how many; each that is whole and not empty is to be answered next, in their
- * order. answer, answer_stream and take are those of zone_service.h, by that process where there is one; with it, take
- * may find that nothing waits any more. */
+ * until it does: 0, or -1 with a line on the standard error. Behind one that could not write updates which it held,
+ * those of the same settings hold none. leave has nobody but the worker ask it. tell_ahead tells it the first of these
+ * datagrams, and how many; each that is whole and not empty is to be answered next, in their order. answer,
+ * answer_stream and take are those of zone_service.h, by that process where there is one; with it, take may find that
+ * nothing waits any more. */
 extern pid_t serving; /* that process, or 0; whoever waits for its end sets it to 0 */
+#define TELLS_UNWRITTEN(status) (WIFEXITED(status) && WEXITSTATUS(status) == 6) /* that updates it held are not written */
 int relay_begin(void);
 void relay_leave(void);
 int tell_ahead(const struct mmsghdr *datagrams, int count);

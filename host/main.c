@@ -77,10 +77,11 @@ static void reload(char **arguments) {
 }
 
 static void replace_ended(void) {
-    for (pid_t ended; (ended = waitpid(-1, NULL, WNOHANG)) > 0;) {
+    for (int ended, status; (ended = waitpid(-1, &status, WNOHANG)) > 0;) {
         if (ended == serving) {
             warnx("zone_serve ended");
             serving = 0;
+            settings->is_unwritten |= TELLS_UNWRITTEN(status);
             if (workers[0].pid > 0)
                 kill(workers[0].pid, SIGKILL);
         }

@@ -17,17 +17,16 @@ static char text[2 * MESSAGE + 64];
 
 /* Becomes the process, with this end for input and output. Signals stay blocked: it ends once nobody has the other. */
 static void become(int end) {
-    static const char *words[2 * MOST_GIVEN + 5];
+    static const char *words[2 * MOST_GIVEN + 6];
     char number[16];
     int count = 0;
     words[count++] = given("--zone-serve") != NULL ? given("--zone-serve") : "zone_serve";
     for (const struct given *g = settings->given; g < settings->given + settings->count; g++)
         if (!g->option->is_own)
             words[count++] = g->option->name, words[count++] = g->text;
+    words[count] = "--no-groups", count += settings->is_unwritten;
     snprintf(number, sizeof number, "%d", settings->numbers[MAX_UDP]);
-    words[count++] = "--max-udp";
-    words[count++] = number;
-    words[count] = "lines";
+    words[count++] = "--max-udp", words[count++] = number, words[count] = "lines";
     signal(SIGXFSZ, SIG_IGN); /* a write beyond the limit of files is to fail */
     if (dup2(end, 0) == 0 && dup2(end, 1) == 1)
         execvp(words[0], (char *const *)words);
@@ -43,8 +42,10 @@ void relay_leave(void) {
 
 /* Ends the process, and waits until it has ended: its journals are free then. */
 static void end(void) {
+    int status = 0;
     if (serving > 0 && kill(serving, SIGKILL) == 0)
-        waitpid(serving, NULL, 0);
+        waitpid(serving, &status, 0);
+    settings->is_unwritten |= TELLS_UNWRITTEN(status);
     serving = 0;
     relay_leave();
 }
@@ -88,10 +89,8 @@ static size_t put_line(char *to, const uint8_t *message, size_t len, const struc
     char address[INET6_ADDRSTRLEN];
     inet_ntop(source->len == 4 ? AF_INET : AF_INET6, source->bytes, address, sizeof address);
     size_t used = (size_t)sprintf(to, "%s %s ", stream ? "tcp" : "udp", address);
-    for (size_t i = 0; i < len; i++) {
-        to[used++] = DIGITS[message[i] >> 4];
-        to[used++] = DIGITS[message[i] & 15];
-    }
+    for (size_t i = 0; i < len; i++)
+        to[used++] = DIGITS[message[i] >> 4], to[used++] = DIGITS[message[i] & 15];
     to[used++] = '\n';
     return used;
 }

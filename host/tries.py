@@ -553,7 +553,7 @@ class Kept:
 
     def start(self, waits=True):
         """Starts it, and waits until it answers."""
-        limits = None if self.limit is None else lambda: resource.setrlimit(resource.RLIMIT_FSIZE, (self.limit, self.limit))
+        limits = None if self.limit is None else lambda: resource.setrlimit(resource.RLIMIT_FSIZE, (self.limit, resource.RLIM_INFINITY))
         with open(self.log, "a") as log:
             self.host = start(self.words, self.port, stderr=log, preexec_fn=limits)
         return not waits or wait_for(self.port)
@@ -821,10 +821,12 @@ def try_journal_limit(folder, port):
     shut = f"zone_serve: {kept.journal}: the journal is not written: each update is SERVFAIL until the next start\n"
     want("a write that fails is SERVFAIL, and told", code_is == 2 and kept.says(shut) == 1 and len(made) >= 100)
     want("so is each update behind it, and queries go on", [kept.update("more") for _ in range(3)] == [2] * 3 and kept.has(made) == made and kept.said().count(shut) == 1)
-    want(f"behind a reload all {len(made)} updates that were acknowledged are there, and updates go on", kept.reload() and kept.has(made) == made and kept.update("later") == 0)
+    resource.prlimit(kept.host.pid, resource.RLIMIT_FSIZE, (1 << 20, resource.RLIM_INFINITY))
+    want(f"behind a reload, where it may grow, all {len(made)} updates that were acknowledged are there, and updates go on", kept.reload() and kept.has(made) == made and kept.update("later") == 0)
     want("and it ends", kept.end())
     kept.limit = 4096
-    want("a start that cannot write the zone is told, and serves it", kept.start() and kept.said().count(shut) == 2 and kept.has(made | {"later"}) == made | {"later"} and kept.update("refused") == 2)
+    want("a start that may write nothing serves the zone", kept.start() and kept.has(made | {"later"}) == made | {"later"})
+    want("and an update is SERVFAIL, and told", kept.update("refused") == 2 and kept.says(shut) == 2)
     want("and it ends", kept.end())
     kept.limit = None
     want("and without the limit all is there", kept.start() and kept.has(made | {"later", "refused"}) == made | {"later"} and kept.update("last") == 0 and kept.end())
@@ -918,6 +920,44 @@ def try_journal_full(folder, port):
         want("and all is there behind a reload", kept.reload() and kept.has(made) == made)
         subprocess.run(["mount", "-o", "remount,size=4m", disk], check=True)
         want("and with room, once files are read anew, updates go on", kept.reload() and kept.has(made) == made and kept.update("later") == 0)
+        want("and it ends", kept.end())
+    finally:
+        subprocess.run(["umount", "-l", disk])
+
+
+def try_journal_stays_full(folder, port):
+    """A file system that stays full: zone_serve begins again once, and then holds no updates, so that each that finds no room is refused by itself, until files are read anew."""
+    disk = tempfile.mkdtemp(dir=folder)
+    if subprocess.run(["mount", "-t", "tmpfs", "-o", "size=256k", "tmpfs", disk], stderr=subprocess.DEVNULL).returncode != 0:
+        return
+    try:
+        kept, made, codes, number = Kept(folder, port), set(), [0] * 20, 0
+        kept.words[-1] = f"example.com={disk}/journal"
+        kept.start()
+
+        def next_codes():
+            """The codes of the replies to twenty updates at hand, those that were acknowledged being noted."""
+            nonlocal number
+            labels = [f"n{it}" for it in range(number, number + 20)]
+            number += 20
+            found = at_hand(kept, [signed(update(f"{it}.dyn.example.com", 7)) for it in labels])
+            made.update(label for label, it in zip(labels, found) if it == 0)
+            return found
+
+        while number < 5000 and codes == [0] * 20:
+            codes = next_codes()
+        told = f"zone_serve: {disk}/journal: the journal is not written: the updates at hand are not answered\n"
+        want(f"updates at hand that find no room are not answered, behind {len(made)} ({codes})", codes == [] and wait_for(port) and kept.says(told) == 1 and len(made) > 300)
+        begun = kept.pid("zone_serve")
+        found = [next_codes() for _ in range(12)]
+        one_by_one = all(len(it) == 20 and sorted(it) == it and set(it) <= {0, 2} for it in found)
+        want("behind that they are written one by one, and refused once there is no room", one_by_one and found[-3:] == [[2] * 20] * 3)
+        want("zone_serve does not begin again, and queries go on", kept.pid("zone_serve") == begun and kept.says(told) == 1 and kept.has(made) == made)
+        subprocess.run(["mount", "-o", "remount,size=4m", disk], check=True)
+        want("with room, once files are read anew, updates go on", kept.reload() and kept.has(made) == made and next_codes() == [0] * 20)
+        before = writes(kept.pid("zone_serve"))
+        codes = next_codes()
+        want("and are written together again", codes == [0] * 20 and writes(kept.pid("zone_serve")) - before <= 6)
         want("and it ends", kept.end())
     finally:
         subprocess.run(["umount", "-l", disk])
@@ -1196,7 +1236,7 @@ def main():
     try_configuration(folder, zone, PORT + 2)
     try_keys(folder, zone, PORT + 2)
     if os.path.exists(ZONE_SERVE):
-        for it in (try_journal, try_relayed, try_one_writer, try_journal_configuration, try_journal_limit, try_journal_at_once, try_journal_full, try_journal_kills):
+        for it in (try_journal, try_relayed, try_one_writer, try_journal_configuration, try_journal_limit, try_journal_at_once, try_journal_full, try_journal_stays_full, try_journal_kills):
             it(folder, PORT + 4)
     else:
         print("note: no journal is tried, since crates/zone_serve is not built")

@@ -1,5 +1,5 @@
 -- The requests of a batch that are answered Ok: what they make of the zone, and how many they are.
-use Rattle.std.proofs.Common.{◌≡◌, ℕ, suc, ◌≤◌, Bool, true, List, [], ◌∷◌, length, Option, Some, None, Result, Ok, Err, ap, refl, subst, arith}
+use Rattle.std.proofs.Common.{◌≡◌, ℕ, suc, ◌≤◌, Bool, true, false, inl, inr, OnOk, List, [], ◌∷◌, length, Option, Some, None, Result, Ok, Err, ap, refl, subst, arith}
 use Rattle.wire_messages.specs.declared.rr.rdata.RData.{RData}
 use Rattle.wire_messages.specs.declared.rr.record.Record.{Record}
 use Rattle.wire_messages.specs.declared.rr.tsig.TSigResponseContext.{TSigResponseContext}
@@ -15,9 +15,11 @@ use Rattle.hickory_store.specs.Prescan.{prescan_refusal}
 use Rattle.hickory_store.specs.UpdatableZone.{UpdatableZone}
 use Rattle.hickory_store.specs.UpdateAnswers.{AnswersUpdate, IsOutcome, Outcome, applied, unless_refused}
 use Rattle.hickory_store.specs.declared.sqlite.verifier.Verifier.{Ghosts}
-use Rattle.durable_updates.specs.Batches.{AnswersEach, Told, accepted, bytes_of, if_accepted}
+use Rattle.durable_updates.specs.Batches.{AnswersEach, AnswersRead, Told, accepted, bytes_of, if_accepted}
+use Rattle.durable_updates.specs.DurableUpdates.{AnswersDurably}
+use Rattle.durable_updates.specs.ReadRequests.{AreRead, IsRead}
 use Rattle.durable_updates.specs.Redone.{Leaves, Makes, Redone}
-use Rattle.durable_updates.specs.Runs.{AreRead, untimed}
+use Rattle.hickory_base.specs.declared.errors.UpdateFault.TheVariants.{Code}
 
 -- what is answered Ok was refused nowhere
 none_refused : (a b c : Option ℕ) (o : Outcome) (records : List (Record RData)) (changed : Bool) → IsOutcome (unless_refused a (unless_refused b (unless_refused c o))) records changed → (c ≡ None) × IsOutcome o records changed
@@ -42,27 +44,33 @@ module _ {V : Type 0} (by : Ghosts V) where
       record { accepted = is.0; done = leaves (applied old.zone.origin 1 (zone_records old.zone.sets) (update_of r.message).updates true) changed old.zone new.zone is.1 answers.0.1 }
 
   one_redone : (r : ReceivedRequest) (now : ℕ) (answer : Result Bool UpdateFault) (context : Option TSigResponseContext) (others : List ReceivedRequest) (old between new : UpdatableZone V)
-      → AnswersUpdate by old r now answer context between → (AreRead others → Redone (bytes_of others) between.zone new.zone)
-      → AreRead (if_accepted answer r others) → Redone (bytes_of (if_accepted answer r others)) old.zone new.zone
-  one_redone r now (Ok changed) context others old between new answers rest read =
-      (between.zone, record { message = message_of r.message; reads = read.0; made = makes r now changed context old between answers }, rest read.1)
-  one_redone r now (Err fault) context others old between new answers rest read = subst (λ (z : MemoryZone). Redone (bytes_of others) z new.zone) answers.0.1 (rest read)
+      → AnswersRead by old r now answer context between → Redone (bytes_of others) between.zone new.zone → Redone (bytes_of (if_accepted answer r others)) old.zone new.zone
+  one_redone r now (Ok changed) context others old between new answers rest = by_kind answers.0
+    where
+      by_kind : AnswersDurably (r.was_read ≡ false) by old r now (Ok changed) context between → Redone (bytes_of (r ∷ others)) old.zone new.zone
+      by_kind (inl update) = (between.zone, record { message = message_of r.message; reads = answers.1; made = makes r now changed context old between update }, rest)
+      by_kind (inr unwritten) = absurd (let ends : Ok changed ≡ Err (Code 2) = unwritten.0 in cc)
+  one_redone r now (Err fault) context others old between new answers rest = subst (λ (z : MemoryZone). Redone (bytes_of others) z new.zone) (same answers.0) rest
+    where
+      same : AnswersDurably (r.was_read ≡ false) by old r now (Err fault) context between → between.zone ≡ old.zone
+      same (inl update) = update.0.1
+      same (inr unwritten) = ap (λ (z : UpdatableZone V). z.zone) unwritten.1
 
-  pub each_redone : (requests : List (ReceivedRequest × ℕ)) (told : List Told) (old new : UpdatableZone V) → AnswersEach by requests told old new → AreRead (accepted requests told) → Redone (bytes_of (accepted requests told)) old.zone new.zone
-  each_redone [] [] old new each read = ap (λ (z : UpdatableZone V). z.zone) each
-  each_redone [] (t ∷ told) old new each read = absurd each
-  each_redone (r ∷ requests) [] old new each read = absurd each
-  each_redone (r ∷ requests) (t ∷ told) old new each read =
-      one_redone r.0 r.1 t.0 t.1 (accepted requests told) old each.0 new each.1 (each_redone requests told each.0 new each.2) read
+  pub each_redone : (requests : List (ReceivedRequest × ℕ)) (told : List Told) (old new : UpdatableZone V) → AnswersEach by requests told old new → Redone (bytes_of (accepted requests told)) old.zone new.zone
+  each_redone [] [] old new each = ap (λ (z : UpdatableZone V). z.zone) each
+  each_redone [] (t ∷ told) old new each = absurd each
+  each_redone (r ∷ requests) [] old new each = absurd each
+  each_redone (r ∷ requests) (t ∷ told) old new each =
+      one_redone r.0 r.1 t.0 t.1 (accepted requests told) old each.0 new each.1 (each_redone requests told each.0 new each.2)
 
-one_read : (r : ReceivedRequest) (answer : Result Bool UpdateFault) (others : List ReceivedRequest) → AreRead (r ∷ others) → AreRead (if_accepted answer r others)
-one_read r (Ok changed) others read = read
-one_read r (Err fault) others read = read.1
+  one_read : (r : ReceivedRequest) (answer : Result Bool UpdateFault) (others : List ReceivedRequest) → OnOk answer (IsRead r) → AreRead others → AreRead (if_accepted answer r others)
+  one_read r (Ok changed) others read rest = (read, rest)
+  one_read r (Err fault) others read rest = rest
 
-pub accepted_read : (requests : List (ReceivedRequest × ℕ)) (told : List Told) → AreRead (untimed requests) → AreRead (accepted requests told)
-accepted_read [] told read = tt
-accepted_read (r ∷ requests) [] read = tt
-accepted_read (r ∷ requests) (t ∷ told) read = one_read r.0 t.0 (accepted requests told) (read.0, accepted_read requests told read.1)
+  pub accepted_read : (requests : List (ReceivedRequest × ℕ)) (told : List Told) (old new : UpdatableZone V) → AnswersEach by requests told old new → AreRead (accepted requests told)
+  accepted_read [] told old new each = tt
+  accepted_read (r ∷ requests) [] old new each = tt
+  accepted_read (r ∷ requests) (t ∷ told) old new each = one_read r.0 t.0 (accepted requests told) each.1.1 (accepted_read requests told each.0 new each.2)
 
 one_few : (n : ℕ) (r : ReceivedRequest) (answer : Result Bool UpdateFault) (others : List ReceivedRequest) → length others ≤ n → length (if_accepted answer r others) ≤ suc n
 one_few n r (Ok changed) others few = omega arith

@@ -25,12 +25,13 @@ use Rattle.durable_updates.specs.CompactedRuns.{AreDisks, AreKept, CompactsOnce,
 use Rattle.durable_updates.specs.Compactions.{Compacts, Files, Replaces, done, failed, fresh, undone}
 use Rattle.durable_updates.specs.Recorded.{IsHandedBack}
 use Rattle.durable_updates.specs.Recovering.{counting}
-use Rattle.durable_updates.specs.Runs.{AreRead, AtMostInDoubt, Life, Server, after_answer, cut_short, doubted, unused}
+use Rattle.durable_updates.specs.ReadRequests.{AreRead, those_read}
+use Rattle.durable_updates.specs.Runs.{AtMostInDoubt, Life, Server, after_answer, cut_short, doubted, unused}
 use Rattle.durable_updates.specs.Snapshots.{Recalls}
 use Rattle.durable_updates.specs.declared.compaction.CompactError.{CompactError}
-use Rattle.durable_updates.proofs.Accepted.{accepted_few, accepted_read}
+use Rattle.durable_updates.proofs.Accepted.{accepted_few}
 use Rattle.durable_updates.proofs.Compactions.{stand_for}
-use Rattle.durable_updates.proofs.Histories.{Took, bytes_more, few_after, few_doubted, stays, took_all, took_one, true_not_false}
+use Rattle.durable_updates.proofs.Histories.{Took, all_are_read, bytes_more, few_after, few_doubted, one_few, one_is_read, stays, took_all, took_one, true_not_false}
 use Rattle.durable_updates.proofs.Made.{generation_stays, made_on, mean_more, mean_of, recalls_more, recalls_others}
 use Rattle.durable_updates.proofs.Recalled.{recalls_all}
 
@@ -217,7 +218,7 @@ module _ (identity : Identity) (same_type : OfOneType) {V D : Type 0} (by : Ghos
             spare = subst (λ (j : JournalState D). Settled j t.before) (sym same.spare) t.spare;
             order = subst (λ s. InOrder s t.before (t.entries ++ bytes_of added)) (sym same.is_second) (ordered_more old.is_second t.before t.entries (bytes_of added) stays t.order);
             higher = subst (λ g. g + 1 < 2 ^ 64 → generation_of (t.entries ++ bytes_of added) < g) (sym same.generation) (subst (λ n. old.generation + 1 < 2 ^ 64 → n < old.generation) (sym stays) t.higher);
-            recalls = recalls_more t.entries (bytes_of added) base old.zone.zone new.zone.zone t.recalls (took.made read);
+            recalls = recalls_more t.entries (bytes_of added) base old.zone.zone new.zone.zone t.recalls took.made;
           },
         )
 
@@ -236,7 +237,7 @@ module _ (identity : Identity) (same_type : OfOneType) {V D : Type 0} (by : Ghos
     ok_on : {T : Type 0} (told : T) → Took by disks added (Ok told) (server_of old) (server_of new) → (is_open : Bool) → InStep requests (after_answer {T = T} life added (Ok told) is_open) new
     ok_on told took is_open = record {
       made = subst (λ (l : List (List ℕ)). IsMadeBy l base new.zone.zone) (sym (bytes_more requests life.acknowledged added))
-          (made_on identity same_type base soa Acknowledged (bytes_of added) old.zone.zone new.zone.zone step.made (took.made read));
+          (made_on identity same_type base soa Acknowledged (bytes_of added) old.zone.zone new.zone.zone step.made took.made);
       files = subst (λ (l : List (List ℕ)). InFiles l life.in_doubt new.zone.zone new.files new.is_second new.generation) (sym (bytes_more requests life.acknowledged added)) (from step.files);
     }
       where
@@ -400,18 +401,18 @@ module _ (identity : Identity) (same_type : OfOneType) {V D : Type 0} (by : Ghos
 
   all_read : (most : ℕ) (first server : PairServer V D) (life : Life) → ServesTwo by disks most first life server → (requests : List (List ℕ)) → InStep requests unused first → InStep requests life server
   all_read most first server life begun requests start = start
-  all_read most first server life (answered {life = earlier} {old = old} r now answer context so_far read one same) requests start =
-      step_on requests earlier (r ∷ []) (read, tt) old server same (all_read most first old earlier so_far requests start) answer (took_one by disks r now answer context (server_of old) (server_of server) one)
-  all_read most first server life (answered_all {life = earlier} {old = old} rs told so_far read few all same) requests start =
-      step_on requests earlier (accepted rs all.answers.judged) (accepted_read rs all.answers.judged read) old server same (all_read most first old earlier so_far requests start) all.answers.written
+  all_read most first server life (answered {life = earlier} {old = old} r now answer context so_far one same) requests start =
+      step_on requests earlier (those_read (r ∷ [])) (one_is_read by disks r now answer context (server_of old) (server_of server) one) old server same (all_read most first old earlier so_far requests start) answer (took_one by disks r now answer context (server_of old) (server_of server) one)
+  all_read most first server life (answered_all {life = earlier} {old = old} rs told so_far few all same) requests start =
+      step_on requests earlier (accepted rs all.answers.judged) (all_are_read by disks rs told (server_of old) (server_of server) all) old server same (all_read most first old earlier so_far requests start) all.answers.written
       (took_all by disks rs told (server_of old) (server_of server) all)
   all_read most first server life (compacted {old = old} result so_far once) requests start = compact_on requests life result old server (all_read most first old life so_far requests start) once
 
   few : (most : ℕ) → 1 ≤ most → (first server : PairServer V D) (life : Life) → ServesTwo by disks most first life server → length life.in_doubt ≤ most
   few most some first server life begun = omega arith
-  few most some first server life (answered {life = earlier} {old = old} r now answer context so_far read one same) =
-      few_after most earlier (r ∷ []) answer server.files.journal.is_open (few most some first old earlier so_far) some
-  few most some first server life (answered_all {life = earlier} {old = old} rs told so_far read at_most all same) =
+  few most some first server life (answered {life = earlier} {old = old} r now answer context so_far one same) =
+      few_after most earlier (those_read (r ∷ [])) answer server.files.journal.is_open (few most some first old earlier so_far) (one_few most r some)
+  few most some first server life (answered_all {life = earlier} {old = old} rs told so_far at_most all same) =
       few_after most earlier (accepted rs all.answers.judged) all.answers.written server.files.journal.is_open (few most some first old earlier so_far) (accepted_few most rs all.answers.judged at_most)
   few most some first server life (compacted {old = old} result so_far once) = few most some first old life so_far
 
@@ -527,16 +528,16 @@ module _ (identity : Identity) (same_type : OfOneType) {V D : Type 0} (by : Ghos
           left_by life next (left_between (stands.requests ++ bytes_of life.acknowledged) life.in_doubt server.zone.zone server.files server.is_second server.generation step.made step.files next (left.first, left.second)),
           few most some first server life serves,
         )
-    one_life most some life next (within_request {life = earlier} {first = first} {old = old} {new = new} r now answer context s serves read one same left) =
+    one_life most some life next (within_request {life = earlier} {first = first} {old = old} {new = new} r now answer context s serves one same left) =
         let step = all_read most first old earlier serves stands.requests (start lives at stands first s) in (
-          left_by (cut_short earlier (r ∷ [])) next
-              (left_within stands.requests earlier (r ∷ []) (read, tt) old new same step answer (took_one by disks r now answer context (server_of old) (server_of new) one) next (left.first, left.second)),
-          few_doubted most earlier.in_doubt (r ∷ []) (few most some first old earlier serves) some,
+          left_by (cut_short earlier (those_read (r ∷ []))) next
+              (left_within stands.requests earlier (those_read (r ∷ [])) (one_is_read by disks r now answer context (server_of old) (server_of new) one) old new same step answer (took_one by disks r now answer context (server_of old) (server_of new) one) next (left.first, left.second)),
+          few_doubted most earlier.in_doubt (those_read (r ∷ [])) (few most some first old earlier serves) (one_few most r some),
         )
-    one_life most some life next (within_batch {life = earlier} {first = first} {old = old} {new = new} rs told s serves read at_most all same left) =
+    one_life most some life next (within_batch {life = earlier} {first = first} {old = old} {new = new} rs told s serves at_most all same left) =
         let step = all_read most first old earlier serves stands.requests (start lives at stands first s) in (
           left_by (cut_short earlier (accepted rs all.answers.judged)) next
-              (left_within stands.requests earlier (accepted rs all.answers.judged) (accepted_read rs all.answers.judged read) old new same step all.answers.written
+              (left_within stands.requests earlier (accepted rs all.answers.judged) (all_are_read by disks rs told (server_of old) (server_of new) all) old new same step all.answers.written
               (took_all by disks rs told (server_of old) (server_of new) all) next (left.first, left.second)),
           few_doubted most earlier.in_doubt (accepted rs all.answers.judged) (few most some first old earlier serves) (accepted_few most rs all.answers.judged at_most),
         )

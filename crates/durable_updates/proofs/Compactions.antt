@@ -22,6 +22,7 @@ use Rattle.durable_updates.specs.Recorded.{AreRecovered, IsDurable, IsFailed, Is
 use Rattle.durable_updates.specs.Runs.{unused}
 use Rattle.durable_updates.specs.Snapshots.{IsSnapshot, Recalls}
 use Rattle.durable_updates.specs.declared.compaction.CompactError.{CompactError}
+use Rattle.durable_updates.proofs.Entries.{nothing_done}
 use Rattle.durable_updates.proofs.Recalled.{fresh_recalled, recalled_once, recalls_itself}
 
 module _ (identity : Identity) (same_type : OfOneType) {D : Type 0} (disks : DiskGhosts D) where
@@ -79,7 +80,7 @@ module _ {D : Type 0} (disks : DiskGhosts D) where
     unused,
     recalls,
     record {
-      redone = λ read. refl;
+      redone = nothing_done base;
       journal_is = inl (record { takes = takes; none = refl; settled = subst (λ (l : List (List ℕ)). IsSettled disks.seen disks.may_leave journal l) (sym (append-nil entries)) (settled clean) });
     },
   )

@@ -10,3 +10,6 @@ one_more (e ∷ entries) entry old between new run done = (run.0, run.1, one_mor
 pub more : (entries others : List (List ℕ)) (old between new : MemoryZone) → Redone entries old between → Redone others between new → Redone (entries ++ others) old new
 more [] others old between new is done = subst (λ z. Redone others z new) is done
 more (e ∷ entries) others old between new run done = (run.0, run.1, more entries others run.0 between new run.2 done)
+
+pub nothing_done : (zone : MemoryZone) → Redone [] zone zone
+nothing_done zone = λ i. zone

@@ -7,19 +7,18 @@ use Rattle.hickory_base.specs.requests.Requests.{ReceivedRequest}
 use Rattle.hickory_base.specs.zone_store.ZoneAnswers.{MemoryZone}
 use Rattle.hickory_base.specs.declared.errors.UpdateFault.{UpdateFault}
 use Rattle.hickory_store.specs.UpdatableZone.{UpdatableZone}
-use Rattle.hickory_store.specs.UpdateAnswers.{AnswersUpdate}
 use Rattle.hickory_store.specs.declared.sqlite.verifier.Verifier.{Ghosts}
 use Rattle.sqlite_disk.specs.declared.Disk.{Ghosts as DiskGhosts}
 use Rattle.update_journal.specs.JournalState.{JournalState}
-use Rattle.durable_updates.specs.Batches.{bytes_of, if_accepted}
+use Rattle.durable_updates.specs.Batches.{AnswersRead, bytes_of, if_accepted}
 use Rattle.durable_updates.specs.Holding.{IsAhead, IsKeptBut}
 use Rattle.durable_updates.specs.Journalling.{JournalsAll}
 use Rattle.durable_updates.specs.Recorded.{IsDurable}
 use Rattle.durable_updates.specs.Redone.{Redone}
 use Rattle.durable_updates.specs.Runs.{after_answer}
 use Rattle.durable_updates.proofs.Accepted.{each_redone}
-use Rattle.durable_updates.proofs.Entries.{more}
-use Rattle.durable_updates.proofs.Histories.{Took, back_read, bytes_more, front_read, step_on}
+use Rattle.durable_updates.proofs.Entries.{more, nothing_done}
+use Rattle.durable_updates.proofs.Histories.{Took, bytes_more, step_on}
 
 module _ {D : Type 0} (disks : DiskGhosts D) where
   -- where nothing is held, the journal keeps the zone
@@ -29,12 +28,12 @@ module _ {D : Type 0} (disks : DiskGhosts D) where
 
   -- nothing waits yet
   pub none_held : (zone : MemoryZone) (journal : JournalState D) → IsDurable disks zone journal → IsAhead disks zone journal []
-  none_held zone journal durable = record { requests = []; are = refl; written = zone; durable = durable; made = λ read. refl }
+  none_held zone journal durable = record { requests = []; are = refl; written = zone; durable = durable; made = nothing_done zone }
 
 module _ {V D : Type 0} (by : Ghosts V) (disks : DiskGhosts D) where
   -- one update more
   pub more_held : (r : ReceivedRequest) (now : ℕ) (answer : Result Bool UpdateFault) (context : Option TSigResponseContext) (old new : UpdatableZone V) (journal : JournalState D) (before after : List (List ℕ))
-      → AnswersUpdate by old r now answer context new → after ≡ before ++ bytes_of (if_accepted answer r []) → IsAhead disks old.zone journal before → IsAhead disks new.zone journal after
+      → AnswersRead by old r now answer context new → after ≡ before ++ bytes_of (if_accepted answer r []) → IsAhead disks old.zone journal before → IsAhead disks new.zone journal after
   more_held r now answer context old new journal before after answers is ahead =
       let added : List ReceivedRequest = if_accepted answer r [] in
       let bytes : bytes_of (ahead.requests ++ added) ≡ bytes_of ahead.requests ++ bytes_of added = bytes_more [] ahead.requests added in
@@ -43,10 +42,10 @@ module _ {V D : Type 0} (by : Ghosts V) (disks : DiskGhosts D) where
         are = is ∙ ap (λ (l : List (List ℕ)). l ++ bytes_of added) ahead.are ∙ sym bytes;
         written = ahead.written;
         durable = ahead.durable;
-        made = λ read.
+        made =
             subst (λ (l : List (List ℕ)). Redone l ahead.written new.zone) (sym bytes)
-            (more (bytes_of ahead.requests) (bytes_of added) ahead.written old.zone new.zone (ahead.made (front_read ahead.requests added read))
-            (each_redone by ((r, now) ∷ []) ((answer, context) ∷ []) old new (new, answers, refl) (back_read ahead.requests added read)));
+            (more (bytes_of ahead.requests) (bytes_of added) ahead.written old.zone new.zone ahead.made
+            (each_redone by ((r, now) ∷ []) ((answer, context) ∷ []) old new (new, answers, refl)));
       }
 
   module _ (zone : UpdatableZone V) (old new : JournalState D) (entries : List (List ℕ)) (ahead : IsAhead disks zone.zone old entries) (clean : disks.is_clean new.disk ≡ disks.is_clean old.disk) where

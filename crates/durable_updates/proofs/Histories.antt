@@ -1,5 +1,5 @@
 -- What a server and its journal keep while requests are answered, and what a crash leaves.
-use Rattle.std.proofs.Common.{◌≡◌, ◌⊎◌, inl, inr, ℕ, ◌≤◌, Bool, true, false, List, [], ◌∷◌, ◌++◌, length, OnErr, OnOk, Option, Result, Ok, Err, sym, ◌∙◌, ap, subst, refl, append_assoc, arith}
+use Rattle.std.proofs.Common.{◌≡◌, ◌⊎◌, inl, inr, ℕ, ◌≤◌, Bool, true, false, List, [], ◌∷◌, ◌++◌, length, OnErr, OnOk, Option, Result, Ok, Err, sym, ◌∙◌, ap, subst, refl, append_assoc, arith, cond}
 use Rattle.std.proofs.lemmas.List.{append-nil}
 use Rattle.wire_messages.specs.declared.rr.tsig.TSigResponseContext.{TSigResponseContext}
 use Rattle.hickory_base.specs.requests.Requests.{ReceivedRequest}
@@ -18,10 +18,12 @@ use Rattle.update_journal.proofs.Recovery.{unique}
 use Rattle.durable_updates.specs.Batches.{EndsAs, Told, accepted, bytes_of}
 use Rattle.durable_updates.specs.Journalling.{JournalsAll}
 use Rattle.durable_updates.specs.Recorded.{IsFailed, IsOpen, IsRecorded}
+use Rattle.durable_updates.specs.ReadRequests.{AreRead, those_read}
 use Rattle.durable_updates.specs.Redone.{Redone}
-use Rattle.durable_updates.specs.Runs.{AreRead, AtMostInDoubt, IsKept, IsLife, Life, MayStand, Run, Server, Serves, ServesAll, ServesOne, Starts, after_answer, answered, answered_all, begun, between_requests, cut_short, doubted, lived, unborn, unused, while_starting, within_batch, within_request}
+use Rattle.durable_updates.specs.Runs.{AtMostInDoubt, IsKept, IsLife, Life, MayStand, Run, Server, Serves, ServesAll, ServesOne, Starts, after_answer, answered, answered_all, begun, between_requests, cut_short, doubted, lived, unborn, unused, while_starting, within_batch, within_request}
 use Rattle.durable_updates.proofs.Accepted.{accepted_few, accepted_read, each_redone}
-use Rattle.durable_updates.proofs.Entries.{more}
+use Rattle.durable_updates.proofs.Entries.{more, nothing_done}
+use Rattle.durable_updates.proofs.Untouched.{untouched}
 
 pub bytes_more : (entries : List (List ℕ)) (first others : List ReceivedRequest) → entries ++ bytes_of (first ++ others) ≡ (entries ++ bytes_of first) ++ bytes_of others
 bytes_more entries first others = ap (λ (l : List (List ℕ)). entries ++ l) (each first) ∙ sym (append_assoc entries (bytes_of first) (bytes_of others))
@@ -30,22 +32,13 @@ bytes_more entries first others = ap (λ (l : List (List ℕ)). entries ++ l) (e
     each [] = refl
     each (q ∷ first) = ap (λ (l : List (List ℕ)). q.bytes ∷ l) (each first)
 
-pub front_read : (first others : List ReceivedRequest) → AreRead (first ++ others) → AreRead first
-front_read [] others read = tt
-front_read (q ∷ first) others read = (read.0, front_read first others read.1)
-
-pub back_read : (first others : List ReceivedRequest) → AreRead (first ++ others) → AreRead others
-back_read [] others read = read
-back_read (q ∷ first) others read = back_read first others read.1
-
-pub both_read : (first others : List ReceivedRequest) → AreRead first → AreRead others → AreRead (first ++ others)
-both_read [] others read next = next
-both_read (q ∷ first) others read next = (read.0, both_read first others read.1 next)
-
-pub read_after : {T : Type 0} (life : Life) (requests : List ReceivedRequest) (written : Result T UpdateFault) (is_open : Bool) → AreRead life.acknowledged → AreRead requests → AreRead (after_answer life requests written is_open).acknowledged
-read_after life requests (Ok told) is_open read next = both_read life.acknowledged requests read next
-read_after life requests (Err fault) true read next = read
-read_after life requests (Err fault) false read next = read
+-- of one request at most one was read
+pub one_few : (most : ℕ) (r : ReceivedRequest) → 1 ≤ most → length (those_read (r ∷ [])) ≤ most
+one_few most r some = by_kind r.was_read
+  where
+    by_kind : (b : Bool) → length (cond b (r ∷ []) []) ≤ most
+    by_kind true = some
+    by_kind false = omega arith
 
 pub true_not_false : {P : Type 0} (b : Bool) → b ≡ true → b ≡ false → P
 true_not_false true p q = absurd (cc)
@@ -72,21 +65,47 @@ module _ {V D : Type 0} (by : Ghosts V) (disks : DiskGhosts D) where
 
   -- a call wrote these requests and made them, or did not
   pub record Took {T : Type 0} (requests : List ReceivedRequest) (written : Result T UpdateFault) (old new : Server V D) : Type 0 where
-    pub made : OnOk written (AreRead requests → Redone (bytes_of requests) old.zone.zone new.zone.zone)
+    pub made : OnOk written (Redone (bytes_of requests) old.zone.zone new.zone.zone)
     pub kept : OnErr written (new.zone ≡ old.zone)
     pub journals : JournalsAll disks.seen disks.may_leave written (bytes_of requests) old.journal new.journal
 
-  pub took_one : (r : ReceivedRequest) (now : ℕ) (answer : Result Bool UpdateFault) (context : Option TSigResponseContext) (old new : Server V D) → ServesOne by disks r now answer context old new → Took (r ∷ []) answer old new
-  took_one r now (Ok changed) context old new one = record {
-    made = λ read. (new.zone.zone, record { message = message_of r.message; reads = read.0; made = one.made }, refl);
+  one_read : (r : ReceivedRequest) (now : ℕ) (answer : Result Bool UpdateFault) (context : Option TSigResponseContext) (old new : Server V D) → ServesOne by disks r now answer context old new → r.was_read ≡ true → Took (r ∷ []) answer old new
+  one_read r now (Ok changed) context old new one is = record {
+    made = (new.zone.zone, record { message = message_of r.message; reads = one.read is; made = one.made }, refl);
     kept = tt;
     journals = record { acknowledged = one.journals.acknowledged; opened = inr one.journals.opened; refused = tt; crash = one.journals.crash };
   }
-  took_one r now (Err fault) context old new one = record {
+  one_read r now (Err fault) context old new one is = record {
     made = tt;
     kept = one.kept;
     journals = record { acknowledged = tt; opened = tt; refused = one.journals.refused; crash = one.journals.crash };
   }
+
+  one_unread : (r : ReceivedRequest) (now : ℕ) (answer : Result Bool UpdateFault) (context : Option TSigResponseContext) (old new : Server V D) → ServesOne by disks r now answer context old new → r.was_read ≡ false → Took [] answer old new
+  one_unread r now (Ok changed) context old new one is = true_not_false r.was_read one.accepted is
+  one_unread r now (Err fault) context old new one is = record {
+    made = tt;
+    kept = one.kept;
+    journals = subst (λ (j : JournalState D). JournalsAll disks.seen disks.may_leave {T = Bool} {E = UpdateFault} (Err fault) [] old.journal j) (sym (one.unread is)) (untouched disks.seen disks.may_leave fault old.journal);
+  }
+
+  -- a request that was read was written and made, or not; any other was not written
+  pub took_one : (r : ReceivedRequest) (now : ℕ) (answer : Result Bool UpdateFault) (context : Option TSigResponseContext) (old new : Server V D) → ServesOne by disks r now answer context old new → Took (those_read (r ∷ [])) answer old new
+  took_one r now answer context old new one = by_kind r.was_read refl
+    where
+      by_kind : (b : Bool) → r.was_read ≡ b → Took (cond b (r ∷ []) []) answer old new
+      by_kind true is = one_read r now answer context old new one is
+      by_kind false is = one_unread r now answer context old new one is
+
+  pub one_is_read : (r : ReceivedRequest) (now : ℕ) (answer : Result Bool UpdateFault) (context : Option TSigResponseContext) (old new : Server V D) → ServesOne by disks r now answer context old new → AreRead (those_read (r ∷ []))
+  one_is_read r now answer context old new one = by_kind r.was_read refl
+    where
+      by_kind : (b : Bool) → r.was_read ≡ b → AreRead (cond b (r ∷ []) [])
+      by_kind true is = (one.read is, tt)
+      by_kind false is = tt
+
+  pub all_are_read : (requests : List (ReceivedRequest × ℕ)) (told : List Told) (old new : Server V D) (all : ServesAll by disks requests told old new) → AreRead (accepted requests all.answers.judged)
+  all_are_read requests told old new all = accepted_read by requests all.answers.judged old.zone all.answers.ahead all.answers.each
 
   pub took_all : (requests : List (ReceivedRequest × ℕ)) (told : List Told) (old new : Server V D) (all : ServesAll by disks requests told old new) → Took (accepted requests all.answers.judged) all.answers.written old new
   took_all requests told old new all = from all.answers.written all.answers.ends all.journals
@@ -94,8 +113,8 @@ module _ {V D : Type 0} (by : Ghosts V) (disks : DiskGhosts D) where
       from : (written : Result (Unit {0}) UpdateFault) → EndsAs written all.answers.judged told old.zone all.answers.ahead new.zone
           → JournalsAll disks.seen disks.may_leave written (bytes_of (accepted requests all.answers.judged)) old.journal new.journal → Took (accepted requests all.answers.judged) written old new
       from (Ok done) ends journals = record {
-        made = λ read. subst (λ (z : UpdatableZone V). Redone (bytes_of (accepted requests all.answers.judged)) old.zone.zone z.zone) (sym ends.1)
-            (each_redone by requests all.answers.judged old.zone all.answers.ahead all.answers.each read);
+        made = subst (λ (z : UpdatableZone V). Redone (bytes_of (accepted requests all.answers.judged)) old.zone.zone z.zone) (sym ends.1)
+            (each_redone by requests all.answers.judged old.zone all.answers.ahead all.answers.each);
         kept = tt;
         journals = journals;
       }
@@ -105,9 +124,9 @@ module _ {V D : Type 0} (by : Ghosts V) (disks : DiskGhosts D) where
     taken : {T : Type 0} (life : Life) (requests : List ReceivedRequest) (told : T) (old new : Server V D)
         → InStep base before life old → Took requests (Ok told) old new → (is_open : Bool) → InStep base before (after_answer {T = T} life requests (Ok told) is_open) new
     taken life requests told old new step took is_open = record {
-      redone = λ read.
+      redone =
           subst (λ (l : List (List ℕ)). Redone l base new.zone.zone) (sym (bytes_more [] life.acknowledged requests))
-          (more (bytes_of life.acknowledged) (bytes_of requests) base old.zone.zone new.zone.zone (step.redone (front_read life.acknowledged requests read)) (took.made (back_read life.acknowledged requests read)));
+          (more (bytes_of life.acknowledged) (bytes_of requests) base old.zone.zone new.zone.zone step.redone took.made);
       journal_is = by_journal step.journal_is took.journals.opened;
     }
       where
@@ -134,7 +153,7 @@ module _ {V D : Type 0} (by : Ghosts V) (disks : DiskGhosts D) where
     denied : {T : Type 0} (life : Life) (requests : List ReceivedRequest) (fault : UpdateFault) (old new : Server V D)
         → InStep base before life old → Took {T = T} requests (Err fault) old new → (is_open : Bool) → new.journal.is_open ≡ is_open → InStep base before (after_answer {T = T} life requests (Err fault) is_open) new
     denied life requests fault old new step took true is = record {
-      redone = λ read. subst (λ (z : UpdatableZone V). Redone (bytes_of life.acknowledged) base z.zone) (sym took.kept) (step.redone read);
+      redone = subst (λ (z : UpdatableZone V). Redone (bytes_of life.acknowledged) base z.zone) (sym took.kept) step.redone;
       journal_is = by_journal took.journals.refused;
     }
       where
@@ -143,7 +162,7 @@ module _ {V D : Type 0} (by : Ghosts V) (disks : DiskGhosts D) where
         by_journal (inl same) = subst (λ (j : JournalState D). IsOpen disks (before ++ bytes_of life.acknowledged) life.in_doubt j ⊎ IsFailed disks (before ++ bytes_of life.acknowledged) life.in_doubt j) (sym same) step.journal_is
         by_journal (inr failed) = true_not_false new.journal.is_open is failed.1
     denied life requests fault old new step took false is = record {
-      redone = λ read. subst (λ (z : UpdatableZone V). Redone (bytes_of life.acknowledged) base z.zone) (sym took.kept) (step.redone read);
+      redone = subst (λ (z : UpdatableZone V). Redone (bytes_of life.acknowledged) base z.zone) (sym took.kept) step.redone;
       journal_is = by_journal step.journal_is took.journals.refused;
     }
       where
@@ -167,8 +186,8 @@ module _ {V D : Type 0} (by : Ghosts V) (disks : DiskGhosts D) where
     step_on life requests (Err fault) old new step took = denied life requests fault old new step took new.journal.is_open refl
 
     pub one_on : (life : Life) (r : ReceivedRequest) (now : ℕ) (answer : Result Bool UpdateFault) (context : Option TSigResponseContext) (old new : Server V D)
-        → InStep base before life old → ServesOne by disks r now answer context old new → InStep base before (after_answer life (r ∷ []) answer new.journal.is_open) new
-    one_on life r now answer context old new step one = step_on life (r ∷ []) answer old new step (took_one r now answer context old new one)
+        → InStep base before life old → ServesOne by disks r now answer context old new → InStep base before (after_answer life (those_read (r ∷ [])) answer new.journal.is_open) new
+    one_on life r now answer context old new step one = step_on life (those_read (r ∷ [])) answer old new step (took_one r now answer context old new one)
 
     pub all_on : (life : Life) (requests : List (ReceivedRequest × ℕ)) (told : List Told) (old new : Server V D)
         → InStep base before life old → (all : ServesAll by disks requests told old new) → InStep base before (after_answer life (accepted requests all.answers.judged) all.answers.written new.journal.is_open) new
@@ -176,9 +195,9 @@ module _ {V D : Type 0} (by : Ghosts V) (disks : DiskGhosts D) where
 
     goes_on : (most : ℕ) (first server : Server V D) (life : Life) → InStep base before unused first → Serves by disks most first life server → InStep base before life server
     goes_on most first server life start begun = start
-    goes_on most first server life start (answered {life = earlier} {old = old} r now answer context so_far read one) =
+    goes_on most first server life start (answered {life = earlier} {old = old} r now answer context so_far one) =
         one_on earlier r now answer context old server (goes_on most first old earlier start so_far) one
-    goes_on most first server life start (answered_all {life = earlier} {old = old} requests told so_far read few all) =
+    goes_on most first server life start (answered_all {life = earlier} {old = old} requests told so_far few all) =
         all_on earlier requests told old server (goes_on most first old earlier start so_far) all
 
     -- a crash between two calls
@@ -214,17 +233,10 @@ module _ {V D : Type 0} (by : Ghosts V) (disks : DiskGhosts D) where
 
   few : (most : ℕ) → 1 ≤ most → (first server : Server V D) (life : Life) → Serves by disks most first life server → length life.in_doubt ≤ most
   few most some first server life begun = omega arith
-  few most some first server life (answered {life = earlier} {old = old} r now answer context so_far read one) =
-      few_after most earlier (r ∷ []) answer server.journal.is_open (few most some first old earlier so_far) some
-  few most some first server life (answered_all {life = earlier} {old = old} requests told so_far read at_most all) =
+  few most some first server life (answered {life = earlier} {old = old} r now answer context so_far one) =
+      few_after most earlier (those_read (r ∷ [])) answer server.journal.is_open (few most some first old earlier so_far) (one_few most r some)
+  few most some first server life (answered_all {life = earlier} {old = old} requests told so_far at_most all) =
       few_after most earlier (accepted requests all.answers.judged) all.answers.written server.journal.is_open (few most some first old earlier so_far) (accepted_few most requests all.answers.judged at_most)
-
-  all_read : (most : ℕ) (first server : Server V D) (life : Life) → Serves by disks most first life server → AreRead life.acknowledged
-  all_read most first server life begun = tt
-  all_read most first server life (answered {life = earlier} {old = old} r now answer context so_far read one) =
-      read_after earlier (r ∷ []) answer server.journal.is_open (all_read most first old earlier so_far) (read, tt)
-  all_read most first server life (answered_all {life = earlier} {old = old} requests told so_far read at_most all) =
-      read_after earlier (accepted requests all.answers.judged) all.answers.written server.journal.is_open (all_read most first old earlier so_far) (accepted_read requests all.answers.judged read)
 
   -- a server that has started
   pub started : (base : MemoryZone) (file : List ℕ) (server : Server V D) (s : Starts by disks base file server) → StandsFor file (contents s.found.entries.items) × InStep server.zone.zone (contents s.found.entries.items) unused server
@@ -232,7 +244,7 @@ module _ {V D : Type 0} (by : Ghosts V) (disks : DiskGhosts D) where
       let E : List (List ℕ) = contents s.found.entries.items in (
         subst (λ f. StandsFor f (contents s.found.entries.items)) s.opens.there (s.opens.recovers.found s.opens.clean),
         record {
-          redone = λ read. refl;
+          redone = nothing_done server.zone.zone;
           journal_is = inl (record {
             takes = ap (λ (j : JournalState D). j.is_open) s.journal;
             none = refl;
@@ -259,13 +271,13 @@ module _ {V D : Type 0} (by : Ghosts V) (disks : DiskGhosts D) where
   one_life most some base lives file life next so_far (between_requests {first = first} {server = server} s serves left) =
       let step = goes_on first.zone.zone (contents s.found.entries.items) most first server life (started base file first s).1 serves in
       (left_by lives life (contents s.found.entries.items) next (recovered base lives file first so_far s) (left_between first.zone.zone (contents s.found.entries.items) life server step next left), few most some first server life serves)
-  one_life most some base lives file life next so_far (within_request {life = earlier} {first = first} {old = old} {new = new} r now answer context s serves read one left) =
+  one_life most some base lives file life next so_far (within_request {life = earlier} {first = first} {old = old} {new = new} r now answer context s serves one left) =
       let step = goes_on first.zone.zone (contents s.found.entries.items) most first old earlier (started base file first s).1 serves in (
-        left_by lives (cut_short earlier (r ∷ [])) (contents s.found.entries.items) next (recovered base lives file first so_far s)
-            (left_within first.zone.zone (contents s.found.entries.items) earlier (r ∷ []) answer old new step (took_one r now answer context old new one) next left),
-        few_doubted most earlier.in_doubt (r ∷ []) (few most some first old earlier serves) some,
+        left_by lives (cut_short earlier (those_read (r ∷ []))) (contents s.found.entries.items) next (recovered base lives file first so_far s)
+            (left_within first.zone.zone (contents s.found.entries.items) earlier (those_read (r ∷ [])) answer old new step (took_one r now answer context old new one) next left),
+        few_doubted most earlier.in_doubt (those_read (r ∷ [])) (few most some first old earlier serves) (one_few most r some),
       )
-  one_life most some base lives file life next so_far (within_batch {life = earlier} {first = first} {old = old} {new = new} requests told s serves read at_most all left) =
+  one_life most some base lives file life next so_far (within_batch {life = earlier} {first = first} {old = old} {new = new} requests told s serves at_most all left) =
       let step = goes_on first.zone.zone (contents s.found.entries.items) most first old earlier (started base file first s).1 serves in (
         left_by lives (cut_short earlier (accepted requests all.answers.judged)) (contents s.found.entries.items) next (recovered base lives file first so_far s)
             (left_within first.zone.zone (contents s.found.entries.items) earlier (accepted requests all.answers.judged) all.answers.written old new step (took_all requests told old new all) next left),
@@ -292,6 +304,6 @@ module _ {V D : Type 0} (by : Ghosts V) (disks : DiskGhosts D) where
               recovered base lives file first all.0 s,
               s.redone,
               more (contents s.found.entries.items) (bytes_of life.acknowledged) base first.zone.zone server.zone.zone s.redone
-                  ((goes_on first.zone.zone (contents s.found.entries.items) most first server life start.1 serves).redone (all_read most first server life serves)),
+                  (goes_on first.zone.zone (contents s.found.entries.items) most first server life start.1 serves).redone,
             );
       }

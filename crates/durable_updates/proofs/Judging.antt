@@ -16,7 +16,7 @@ use Rattle.hickory_base.specs.declared.errors.UpdateFault.{UpdateFault}
 use Rattle.hickory_store.specs.UpdatableZone.{UpdatableZone}
 use Rattle.hickory_store.specs.UpdateAnswers.{AnswersUpdate}
 use Rattle.hickory_store.specs.declared.sqlite.verifier.Verifier.{Ghosts}
-use Rattle.durable_updates.specs.Batches.{AnswersBatch, AnswersEach, Told, accepted, bytes_of, if_accepted}
+use Rattle.durable_updates.specs.Batches.{AnswersBatch, AnswersEach, AnswersRead, Told, accepted, bytes_of, if_accepted}
 use Rattle.durable_updates.specs.DurableUpdates.{IsWriteFault}
 
 one_before : (r : ReceivedRequest) (answer : Result Bool UpdateFault) (others : List ReceivedRequest) → bytes_of (if_accepted answer r others) ≡ bytes_of (if_accepted answer r []) ++ bytes_of others
@@ -60,7 +60,7 @@ module _ {V : Type 0} (by : Ghosts V) (all rest : List (ReceivedRequest × ℕ))
   one_told is told = ap (λ (l : List Told). l ++ told) is ∙ append_assoc before (t ∷ []) told
 
   pub leads_more : (first now next : UpdatableZone V) → ((told : List Told) (new : UpdatableZone V) → AnswersEach by (r ∷ rest) told now new → AnswersEach by all (before ++ told) first new)
-      → AnswersUpdate by now r.0 r.1 t.0 t.1 next → after ≡ before ++ t ∷ [] → (told : List Told) (new : UpdatableZone V) → AnswersEach by rest told next new → AnswersEach by all (after ++ told) first new
+      → AnswersRead by now r.0 r.1 t.0 t.1 next → after ≡ before ++ t ∷ [] → (told : List Told) (new : UpdatableZone V) → AnswersEach by rest told next new → AnswersEach by all (after ++ told) first new
   leads_more first now next leads one is told new each = subst (λ (l : List Told). AnswersEach by all l first new) (sym (one_told is told)) (leads (t ∷ told) new (next, one, each))
 
   pub written_more : (entries more : List (List ℕ)) → ((told : List Told) → entries ++ bytes_of (accepted (r ∷ rest) told) ≡ bytes_of (accepted all (before ++ told)))

@@ -17,8 +17,8 @@ use Rattle.hickory_store.proofs.SameZones.{Identity}
 use Rattle.update_journal.specs.Generations.{generation_of, number_of}
 use Rattle.durable_updates.specs.Batches.{bytes_of}
 use Rattle.durable_updates.specs.CompactedRuns.{IsMadeBy, Mean}
+use Rattle.durable_updates.specs.ReadRequests.{AreRead}
 use Rattle.durable_updates.specs.Redone.{Leaves, Makes, Redone, RedoesOne}
-use Rattle.durable_updates.specs.Runs.{AreRead}
 use Rattle.durable_updates.specs.Snapshots.{IsBase, IsPut, Recalls, compacted}
 use Rattle.durable_updates.proofs.Entries.{more}
 use Rattle.durable_updates.proofs.Recalled.{heads, not_read, one_split, plain, recalled_once, recalls_all, tails}

@@ -22,3 +22,12 @@ nothing_added seen may_leave done added journal none = record {
   refused = tt;
   crash = λ entries s c left. inl (rests seen may_leave journal.disk journal.end entries s c left);
 }
+
+-- a batch without entries that is not written
+pub untouched : {D : Type 0} (seen : D → List ℕ) (may_leave : D → List ℕ → Type 0) {T E : Type 0} (e : E) (journal : JournalState D) → JournalsAll seen may_leave {T = T} (Err e) [] journal journal
+untouched seen may_leave e journal = record {
+  acknowledged = tt;
+  opened = tt;
+  refused = inl refl;
+  crash = λ entries s c left. inl (rests seen may_leave journal.disk journal.end entries s c left);
+}

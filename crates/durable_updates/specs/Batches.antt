@@ -1,13 +1,14 @@
 -- Requests that are answered as one batch: they are judged one after another, what they ask for is written together, and then they are answered.
-use Rattle.std.specs.Prelude.{◌≡◌, ℕ, Bool, List, [], ◌∷◌, map, IfErr, Option, Result, Ok, Err}
+use Rattle.std.specs.Prelude.{◌≡◌, ℕ, Bool, false, List, [], ◌∷◌, map, IfErr, OnOk, Option, Result, Ok, Err}
 use Rattle.wire_messages.specs.declared.rr.tsig.TSigResponseContext.{TSigResponseContext}
 use Rattle.hickory_base.specs.requests.Requests.{ReceivedRequest}
 use Rattle.hickory_base.specs.declared.errors.UpdateFault.{UpdateFault}
 use Rattle.hickory_base.specs.declared.errors.UpdateFault.TheVariants.{Code, Memory}
 use Rattle.hickory_store.specs.UpdatableZone.{UpdatableZone}
-use Rattle.hickory_store.specs.UpdateAnswers.{AnswersUpdate, told_context}
+use Rattle.hickory_store.specs.UpdateAnswers.{told_context}
 use Rattle.hickory_store.specs.declared.sqlite.verifier.Verifier.{Ghosts}
-use Rattle.durable_updates.specs.DurableUpdates.{IsWriteFault}
+use Rattle.durable_updates.specs.DurableUpdates.{AnswersDurably, IsWriteFault}
+use Rattle.durable_updates.specs.ReadRequests.{IsRead}
 
 -- what a request is answered, and what goes with that for the signer of the reply
 abbrev pub Told : Type 0
@@ -17,13 +18,18 @@ Told = Result Bool UpdateFault × Option TSigResponseContext
 abbrev pub bytes_of : List ReceivedRequest → List (List ℕ)
 bytes_of requests = map (λ (request : ReceivedRequest). request.bytes) requests
 
--- Each request, at its moment, is answered as a zone without a journal answers it, over the zone that those before it leave (RFC 2136 section 3).
+-- A request, at its moment, is answered as a zone without a journal answers it (RFC 2136 section 3); or, where its message was not read from its bytes, it is
+-- ServFail, 2, and changes nothing. Of one that is accepted the message is the one that its bytes begin with.
+abbrev pub AnswersRead : {V : Type 0} → Ghosts V → UpdatableZone V → ReceivedRequest → ℕ → Result Bool UpdateFault → Option TSigResponseContext → UpdatableZone V → Type 0
+AnswersRead by old request now answer context new = AnswersDurably (request.was_read ≡ false) by old request now answer context new × OnOk answer (IsRead request)
+
+-- Each is answered so, over the zone that those before it leave.
 abbrev pub AnswersEach : {V : Type 0} → Ghosts V → List (ReceivedRequest × ℕ) → List Told → UpdatableZone V → UpdatableZone V → Type 0
 AnswersEach by [] [] old new = new ≡ old
 AnswersEach by [] (told ∷ others) old new = ⊥
 AnswersEach by (request ∷ requests) [] old new = ⊥
 AnswersEach {V} by (request ∷ requests) (told ∷ others) old new =
-    (between : UpdatableZone V) × AnswersUpdate by old request.0 request.1 told.0 told.1 between × AnswersEach by requests others between new
+    (between : UpdatableZone V) × AnswersRead by old request.0 request.1 told.0 told.1 between × AnswersEach by requests others between new
 
 -- this request before others, where it is answered Ok
 abbrev pub if_accepted : Result Bool UpdateFault → ReceivedRequest → List ReceivedRequest → List ReceivedRequest

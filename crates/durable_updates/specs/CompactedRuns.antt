@@ -19,7 +19,8 @@ use Rattle.durable_updates.specs.Compactions.{Compacts, Files}
 use Rattle.durable_updates.specs.Recorded.{IsHandedBack}
 use Rattle.durable_updates.specs.Recovering.{AreFound, counting}
 use Rattle.durable_updates.specs.Redone.{Redone}
-use Rattle.durable_updates.specs.Runs.{AreRead, AtMostInDoubt, IsRead, Life, MayStand, Server, ServesAll, ServesOne, after_answer, cut_short, unused, untimed}
+use Rattle.durable_updates.specs.ReadRequests.{those_read}
+use Rattle.durable_updates.specs.Runs.{AtMostInDoubt, Life, MayStand, Server, ServesAll, ServesOne, after_answer, cut_short, unused}
 use Rattle.durable_updates.specs.Snapshots.{Recalls}
 use Rattle.durable_updates.specs.declared.compaction.CompactError.{CompactError}
 use Rattle.durable_updates.specs.declared.recovering.TwoRecovered.{TwoRecovered}
@@ -120,10 +121,10 @@ module _ {V D : Type 0} (by : Ghosts V) (disks : DiskGhosts D) where
   pub data ServesTwo (most : ℕ) (first : PairServer V D) : Life → PairServer V D → Type 0 where
     begun : ServesTwo most first unused first
     answered : {life : Life} {old new : PairServer V D} (request : ReceivedRequest) (now : ℕ) (answer : Result Bool UpdateFault) (context : Option TSigResponseContext)
-        → ServesTwo most first life old → IsRead request → ServesOne by disks request now answer context (server_of old) (server_of new) → SameSpare old new
-        → ServesTwo most first (after_answer life (request ∷ []) answer new.files.journal.is_open) new
+        → ServesTwo most first life old → ServesOne by disks request now answer context (server_of old) (server_of new) → SameSpare old new
+        → ServesTwo most first (after_answer life (those_read (request ∷ [])) answer new.files.journal.is_open) new
     answered_all : {life : Life} {old new : PairServer V D} (requests : List (ReceivedRequest × ℕ)) (told : List Told)
-        → ServesTwo most first life old → AreRead (untimed requests) → length requests ≤ most → (all : ServesAll by disks requests told (server_of old) (server_of new)) → SameSpare old new
+        → ServesTwo most first life old → length requests ≤ most → (all : ServesAll by disks requests told (server_of old) (server_of new)) → SameSpare old new
         → ServesTwo most first (after_answer life (accepted requests all.answers.judged) all.answers.written new.files.journal.is_open) new
     compacted : {life : Life} {old new : PairServer V D} (result : Result (Unit {0}) CompactError) → ServesTwo most first life old → CompactsOnce result old new → ServesTwo most first life new
 
@@ -135,10 +136,10 @@ module _ {V D : Type 0} (by : Ghosts V) (disks : DiskGhosts D) where
     between_calls : {next : OnDisk} {life : Life} {first server : PairServer V D} → StartsTwo base at first → ServesTwo most first life server → MayLeave server next
         → IsLifeOfTwo most base at life next
     within_request : {next : OnDisk} {life : Life} {first old new : PairServer V D} (request : ReceivedRequest) (now : ℕ) (answer : Result Bool UpdateFault) (context : Option TSigResponseContext)
-        → StartsTwo base at first → ServesTwo most first life old → IsRead request → ServesOne by disks request now answer context (server_of old) (server_of new) → SameSpare old new → MayLeave new next
-        → IsLifeOfTwo most base at (cut_short life (request ∷ [])) next
+        → StartsTwo base at first → ServesTwo most first life old → ServesOne by disks request now answer context (server_of old) (server_of new) → SameSpare old new → MayLeave new next
+        → IsLifeOfTwo most base at (cut_short life (those_read (request ∷ []))) next
     within_batch : {next : OnDisk} {life : Life} {first old new : PairServer V D} (requests : List (ReceivedRequest × ℕ)) (told : List Told)
-        → StartsTwo base at first → ServesTwo most first life old → AreRead (untimed requests) → length requests ≤ most → (all : ServesAll by disks requests told (server_of old) (server_of new))
+        → StartsTwo base at first → ServesTwo most first life old → length requests ≤ most → (all : ServesAll by disks requests told (server_of old) (server_of new))
         → SameSpare old new → MayLeave new next → IsLifeOfTwo most base at (cut_short life (accepted requests all.answers.judged)) next
     within_compaction : {next : OnDisk} {life : Life} {first old new : PairServer V D} (result : Result (Unit {0}) CompactError)
         → StartsTwo base at first → ServesTwo most first life old → CompactsOnce result old new → MayLeave new next → IsLifeOfTwo most base at life next

@@ -4,11 +4,10 @@ use Rattle.wire_messages.specs.declared.rr.tsig.TSigResponseContext.{TSigRespons
 use Rattle.hickory_base.specs.requests.Requests.{ReceivedRequest}
 use Rattle.hickory_base.specs.declared.errors.UpdateFault.{UpdateFault}
 use Rattle.hickory_store.specs.UpdatableZone.{UpdatableZone}
-use Rattle.hickory_store.specs.UpdateAnswers.{AnswersUpdate}
 use Rattle.hickory_store.specs.declared.sqlite.verifier.Verifier.{Ghosts}
 use Rattle.sqlite_disk.specs.declared.Disk.{Ghosts as DiskGhosts}
 use Rattle.update_journal.specs.JournalState.{JournalState}
-use Rattle.durable_updates.specs.Batches.{Told, bytes_of, if_accepted, told_unwritten}
+use Rattle.durable_updates.specs.Batches.{AnswersRead, Told, bytes_of, if_accepted, told_unwritten}
 use Rattle.durable_updates.specs.DurableUpdates.{IsWriteFault}
 use Rattle.durable_updates.specs.Journalling.{JournalsAll, RefusesEntries}
 use Rattle.durable_updates.specs.Runs.{ServesAll}
@@ -19,7 +18,7 @@ pub data AreHeld {V : Type 0} (by : Ghosts V) (first : UpdatableZone V) : List (
   none : AreHeld by first [] [] first []
   more : {requests : List (ReceivedRequest × ℕ)} {told : List Told} {old new : UpdatableZone V} {before after : List (List ℕ)}
       (request : ReceivedRequest) (now : ℕ) (answer : Result Bool UpdateFault) (context : Option TSigResponseContext)
-      → AreHeld by first requests told old before → AnswersUpdate by old request now answer context new → after ≡ before ++ bytes_of (if_accepted answer request [])
+      → AreHeld by first requests told old before → AnswersRead by old request now answer context new → after ≡ before ++ bytes_of (if_accepted answer request [])
       → AreHeld by first (requests ++ (request, now) ∷ []) (told ++ (answer, context) ∷ []) new after
 
 module _ {V D : Type 0} (by : Ghosts V) (disks : DiskGhosts D) where

@@ -9,7 +9,6 @@ use Rattle.update_journal.specs.JournalState.{JournalState}
 use Rattle.durable_updates.specs.Batches.{bytes_of}
 use Rattle.durable_updates.specs.Recorded.{IsDurable}
 use Rattle.durable_updates.specs.Redone.{Redone}
-use Rattle.durable_updates.specs.Runs.{AreRead}
 
 -- a zone as it is in memory, and whether it holds updates
 pub record ZoneInMemory (V : Type 0) : Type 0 where
@@ -23,7 +22,7 @@ module _ {D : Type 0} (disks : DiskGhosts D) where
     pub are : entries ≡ bytes_of requests
     pub written : MemoryZone
     pub durable : IsDurable disks written journal
-    pub made : AreRead requests → Redone (bytes_of requests) written zone
+    pub made : Redone (bytes_of requests) written zone
 
   -- Where nothing is held, the journal keeps the zone; else that and what waits to be written make it.
   abbrev pub IsKeptBut : MemoryZone → JournalState D → Option (List (List ℕ)) → Type 0

@@ -7,6 +7,7 @@ pub mod Held
 pub mod Holding
 pub mod Journalling
 pub mod OpenErrors
+pub mod ReadRequests
 pub mod Recorded
 pub mod Recovering
 pub mod Redone

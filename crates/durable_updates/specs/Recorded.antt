@@ -14,7 +14,7 @@ use Rattle.update_journal.specs.declared.error.RecoverError.{RecoverError}
 use Rattle.update_journal.specs.declared.reading.Recovered.{Recovered}
 use Rattle.durable_updates.specs.Batches.{bytes_of}
 use Rattle.durable_updates.specs.Redone.{Redone}
-use Rattle.durable_updates.specs.Runs.{AreRead, Life}
+use Rattle.durable_updates.specs.Runs.{Life}
 use Rattle.durable_updates.specs.Snapshots.{Recalls}
 
 module _ {D : Type 0} (disks : DiskGhosts D) where
@@ -31,7 +31,7 @@ module _ {D : Type 0} (disks : DiskGhosts D) where
 
   -- On the disk are the entries from before and those of all requests that were acknowledged since; these make this zone of the one that was there then.
   pub record IsRecorded (base : MemoryZone) (before : List (List ℕ)) (life : Life) (zone : MemoryZone) (journal : JournalState D) : Type 0 where
-    pub redone : AreRead life.acknowledged → Redone (bytes_of life.acknowledged) base zone
+    pub redone : Redone (bytes_of life.acknowledged) base zone
     pub journal_is : IsOpen (before ++ bytes_of life.acknowledged) life.in_doubt journal ⊎ IsFailed (before ++ bytes_of life.acknowledged) life.in_doubt journal
 
   -- So it is for some requests and for the zone that the entries from before make of some first zone, where the disk told no lie.

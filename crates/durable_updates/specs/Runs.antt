@@ -1,9 +1,7 @@
 -- Lives of a process that serves one zone with its journal: each begins with what stands in the file, and ends with a crash.
-use Rattle.std.specs.Prelude.{◌≡◌, ◌⊎◌, ◌≤◌, ℕ, Bool, true, false, IsTrue, List, [], ◌∷◌, ◌++◌, length, map, Option, Result, Ok, Err, OnErr, OnOk}
+use Rattle.std.specs.Prelude.{◌≡◌, ◌⊎◌, ◌≤◌, ℕ, Bool, true, false, IsTrue, List, [], ◌∷◌, ◌++◌, length, Option, Result, Ok, Err, OnErr, OnOk}
 use Rattle.wire_messages.specs.declared.rr.tsig.TSigResponseContext.{TSigResponseContext}
-use Rattle.wire_reading.specs.serialize.reading.MessageReading.{Reads}
 use Rattle.hickory_base.specs.requests.Requests.{ReceivedRequest}
-use Rattle.hickory_base.specs.requests.RequestReading.{message_of}
 use Rattle.hickory_base.specs.requests.Updates.{update_of}
 use Rattle.hickory_base.specs.zone_store.ZoneAnswers.{MemoryZone}
 use Rattle.hickory_base.specs.declared.errors.UpdateFault.{UpdateFault}
@@ -19,24 +17,12 @@ use Rattle.update_journal.specs.declared.reading.Recovered.{Recovered}
 use Rattle.update_journal.specs.declared.error.RecoverError.{RecoverError}
 use Rattle.durable_updates.specs.Batches.{AnswersBatch, Told, accepted, bytes_of}
 use Rattle.durable_updates.specs.DurableUpdates.{AnswersDurably}
-use Rattle.durable_updates.specs.Journalling.{Journals, JournalsAll, RefusesEntries, RefusesEntry}
+use Rattle.durable_updates.specs.Journalling.{Journals, JournalsAll, RefusesEntries, RefusesRequest}
+use Rattle.durable_updates.specs.ReadRequests.{IsRead, those_read}
 use Rattle.durable_updates.specs.Redone.{Makes, Redone}
 
--- The message of a request is the one that its bytes begin with, as it is of each that `Request::from_bytes` reads.
-abbrev pub IsRead : ReceivedRequest → Type 0
-IsRead request = Reads request.bytes (message_of request.message)
-
--- Each request was read from its bytes.
-abbrev pub AreRead : List ReceivedRequest → Type 0
-AreRead [] = Unit {0}
-AreRead (request ∷ requests) = IsRead request × AreRead requests
-
--- requests without the moments at which they are judged
-abbrev pub untimed : List (ReceivedRequest × ℕ) → List ReceivedRequest
-untimed requests = map (λ (request : ReceivedRequest × ℕ). request.0) requests
-
 -- What a process did from its start to its end: the requests that it acknowledged, in their order; and those of one call, if any, that are in doubt
--- together: the journal failed with them, or the process ended while it was at them.
+-- together: the journal failed with them, or the process ended while it was at them. Each was read from its bytes: no other is accepted, or written.
 pub record Life : Type 0 where
   pub acknowledged : List ReceivedRequest
   pub in_doubt : List ReceivedRequest
@@ -82,7 +68,10 @@ pub record Server (V D : Type 0) : Type 0 where
 module _ {V D : Type 0} (by : Ghosts V) (disks : DiskGhosts D) where
   -- A request is answered: the contract of `update_durably`.
   pub record ServesOne (request : ReceivedRequest) (now : ℕ) (answer : Result Bool UpdateFault) (context : Option TSigResponseContext) (old new : Server V D) : Type 0 where
-    pub answers : AnswersDurably (RefusesEntry disks.is_usable new.journal request.bytes) by old.zone request now answer context new.zone
+    pub answers : AnswersDurably (RefusesRequest disks.is_usable new.journal request) by old.zone request now answer context new.zone
+    pub read : request.was_read ≡ true → IsRead request
+    pub accepted : OnOk answer (request.was_read ≡ true)
+    pub unread : request.was_read ≡ false → new.journal ≡ old.journal
     pub made : OnOk answer (Makes (update_of request.message).updates old.zone.zone new.zone.zone)
     pub kept : OnErr answer (new.zone ≡ old.zone)
     pub journals : Journals disks.seen disks.may_leave answer request.bytes old.journal new.journal
@@ -113,10 +102,10 @@ module _ {V D : Type 0} (by : Ghosts V) (disks : DiskGhosts D) where
   pub data Serves (most : ℕ) (first : Server V D) : Life → Server V D → Type 0 where
     begun : Serves most first unused first
     answered : {life : Life} {old new : Server V D} (request : ReceivedRequest) (now : ℕ) (answer : Result Bool UpdateFault) (context : Option TSigResponseContext)
-        → Serves most first life old → IsRead request → ServesOne request now answer context old new
-        → Serves most first (after_answer life (request ∷ []) answer new.journal.is_open) new
+        → Serves most first life old → ServesOne request now answer context old new
+        → Serves most first (after_answer life (those_read (request ∷ [])) answer new.journal.is_open) new
     answered_all : {life : Life} {old new : Server V D} (requests : List (ReceivedRequest × ℕ)) (told : List Told)
-        → Serves most first life old → AreRead (untimed requests) → length requests ≤ most → (all : ServesAll requests told old new)
+        → Serves most first life old → length requests ≤ most → (all : ServesAll requests told old new)
         → Serves most first (after_answer life (accepted requests all.answers.judged) all.answers.written new.journal.is_open) new
 
   -- A life begins with one file, and a crash leaves another: while the server started, or between two calls, or while it was at one request or at a
@@ -126,10 +115,10 @@ module _ {V D : Type 0} (by : Ghosts V) (disks : DiskGhosts D) where
     between_requests : {next : List ℕ} {life : Life} {first server : Server V D} → Starts base file first → Serves most first life server → disks.may_leave server.journal.disk next
         → IsLife most base file life next
     within_request : {next : List ℕ} {life : Life} {first old new : Server V D} (request : ReceivedRequest) (now : ℕ) (answer : Result Bool UpdateFault) (context : Option TSigResponseContext)
-        → Starts base file first → Serves most first life old → IsRead request → ServesOne request now answer context old new → disks.may_leave new.journal.disk next
-        → IsLife most base file (cut_short life (request ∷ [])) next
+        → Starts base file first → Serves most first life old → ServesOne request now answer context old new → disks.may_leave new.journal.disk next
+        → IsLife most base file (cut_short life (those_read (request ∷ []))) next
     within_batch : {next : List ℕ} {life : Life} {first old new : Server V D} (requests : List (ReceivedRequest × ℕ)) (told : List Told)
-        → Starts base file first → Serves most first life old → AreRead (untimed requests) → length requests ≤ most → (all : ServesAll requests told old new)
+        → Starts base file first → Serves most first life old → length requests ≤ most → (all : ServesAll requests told old new)
         → disks.may_leave new.journal.disk next
         → IsLife most base file (cut_short life (accepted requests all.answers.judged)) next
 

@@ -2,9 +2,8 @@
 
 ghost use Rattle.std.specs.Prelude.{◌≡◌, ◌++◌, [], IfErr, IfOk, map};
 ghost use Rattle.hickory_base.specs.zone_store.ZoneSets.{IsZone, sets_of};
-ghost use Rattle.hickory_store.specs.UpdateAnswers.{AnswersUpdate};
 ghost use Rattle.update_journal.specs.Read.{contents};
-ghost use Rattle.durable_updates.specs.Batches.{AnswersEach, accepted, bytes_of, if_accepted, told_unwritten, unwritten};
+ghost use Rattle.durable_updates.specs.Batches.{AnswersEach, AnswersRead, accepted, bytes_of, if_accepted, told_unwritten, unwritten};
 ghost use Rattle.durable_updates.specs.DurableUpdates.{IsWriteFault};
 ghost use Rattle.durable_updates.specs.Journalling.{JournalsAll, RefusesEntries};
 ghost use Rattle.durable_updates.specs.Commits.{Commits};
@@ -54,18 +53,21 @@ fn restore<V: Verifier>(zone: &mut SqliteZoneHandler<V>, sets: Sets)
     zone.in_memory_mut().replace_records(sets);
 }
 
-/// Makes the update of a request in memory, and puts its bytes last among the entries where it is made.
+/// Makes the update of a request in memory, and puts its bytes last among the entries where it is made. One whose message was not read from its bytes is ServFail.
 fn judge<V: Verifier>(
     zone: &mut SqliteZoneHandler<V>,
     alloc: Global,
     timed: &(Request, u64),
     entries: &mut Vec<Vec<u8>>,
 ) -> Result<UpdateAnswer, AllocError>
-    ensures answers { IfOk result (λ told. AnswersUpdate V.Verifier zone.old timed.now.0 timed.now.1 told.0 told.1 zone.new) }
+    ensures answers { IfOk result (λ told. AnswersRead V.Verifier zone.old timed.now.0 timed.now.1 told.0 told.1 zone.new) }
     ensures entries { IfOk result (λ told. contents entries.new.items ≡ contents entries.old.items ++ bytes_of (if_accepted told.0 timed.now.0 [])) }
     ensures others { zone.new ≡ record zone.old { zone = record zone.old.zone { sets = zone.new.zone.sets } } }
 {
     let (request, now) = timed;
+    if !request.was_read() {
+        return Ok((Err(UpdateFault::Code(ResponseCode::SERV_FAIL)), None));
+    }
     let (answer, context) = zone.update(alloc, request, *now);
     if answer.is_ok() {
         entries.push(Vec::from_slice(alloc, request.as_slice())?)?;
@@ -175,7 +177,8 @@ fn commit<V: Verifier, D: Disk>(
 /// Makes the updates that requests ask for (RFC 2136 section 3), once the bytes of all that are accepted are on the disk. Each comes with
 /// its moment in seconds since 1970.
 ///
-/// They are judged one after another as `SqliteZoneHandler::update` judges them, each over the zone that those before it leave. Those that
+/// They are judged one after another as `SqliteZoneHandler::update` judges them, each over the zone that those before it leave; one whose message was not read from its
+/// bytes is ServFail. Those that
 /// are answered `Ok` are written as one batch, of which a crash at any moment leaves all entries or none; then the answers are given, in
 /// the order of the requests. Two syncs for all; none where no request is accepted.
 ///

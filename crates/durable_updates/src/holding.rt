@@ -1,9 +1,8 @@
 //! A zone with a journal that may hold updates, to have them written together.
 
-ghost use Rattle.std.specs.Prelude.{◌≡◌, ◌++◌, ◌∷◌, [], OnErr, OnOk, false, not, true};
-ghost use Rattle.hickory_store.specs.UpdateAnswers.{AnswersUpdate};
+ghost use Rattle.std.specs.Prelude.{◌≡◌, ◌*◌, ◌-◌, ◌^◌, ◌++◌, ◌∷◌, [], OnErr, OnOk, false, max, min, not, true};
 ghost use Rattle.update_journal.specs.Read.{contents};
-ghost use Rattle.durable_updates.specs.Batches.{bytes_of, if_accepted};
+ghost use Rattle.durable_updates.specs.Batches.{AnswersRead, bytes_of, if_accepted};
 ghost use Rattle.durable_updates.specs.DurableUpdates.{AnswersDurably};
 ghost use Rattle.durable_updates.specs.Recorded.{IsDurable};
 
@@ -21,6 +20,20 @@ use std::alloc::{AllocError, Global};
 use std::marker::Model;
 use update_journal::Journal;
 
+/// How many bytes a journal has for each record set of its zone before it is long: some three times what a snapshot of sets of one short record takes. So a
+/// journal is about as long as its zone and twice that of updates, which is what BIND's `max-journal-size` allows beside a zone.
+const BYTES_PER_SET: usize = 256;
+
+/// For how many record sets a journal has room at least, so that a small zone is not written again behind each few updates.
+const LEAST_SETS: usize = 1000;
+
+/// How long a journal may be, in bytes, before it is to be compacted: 256 bytes for each record set of its zone, and for 1,000 sets at least.
+pub fn longest_journal(sets: usize) -> usize
+    ensures { result ≡ min (max sets 1000 * 256) (2 ^ 64 - 1) }
+{
+    sets.max(LEAST_SETS).saturating_mul(BYTES_PER_SET)
+}
+
 /// Puts the bytes of a request last among entries.
 fn put_entry(alloc: Global, request: &Request, entries: &mut Vec<Vec<u8>>) -> Result<(), AllocError>
     ensures put { OnOk result (contents entries.new.items ≡ contents entries.old.items ++ request.now.bytes ∷ []) }
@@ -34,7 +47,7 @@ fn put_entry(alloc: Global, request: &Request, entries: &mut Vec<Vec<u8>>) -> Re
 }
 
 /// Makes an update in memory, as `SqliteZoneHandler::update` does, and puts the bytes of its request last among the entries that are to be written, where it is
-/// made. Nobody is to be answered before these are written, by `write_held`.
+/// made. One whose message was not read from its bytes is ServFail, and changes nothing. Nobody is to be answered before these are written, by `write_held`.
 pub fn update_held<V: Verifier>(
     zone: &mut SqliteZoneHandler<V>,
     alloc: Global,
@@ -42,9 +55,12 @@ pub fn update_held<V: Verifier>(
     now: u64,
     entries: &mut Vec<Vec<u8>>,
 ) -> UpdateAnswer
-    ensures answers { AnswersUpdate V.Verifier zone.old request.now now result.0 result.1 zone.new }
+    ensures answers { AnswersRead V.Verifier zone.old request.now now result.0 result.1 zone.new }
     ensures entries { contents entries.new.items ≡ contents entries.old.items ++ bytes_of (if_accepted result.0 request.now []) }
 {
+    if !request.was_read() {
+        return (Err(UpdateFault::Code(ResponseCode::SERV_FAIL)), None);
+    }
     if put_entry(alloc, request, entries).is_err() {
         return (Err(UpdateFault::Memory), None);
     }
@@ -66,6 +82,8 @@ pub struct HoldingZone<V: Verifier, D: Disk + Drop> {
     journal: Journal<D>,
     spare: Option<Spare<D>>,
     held: Option<Vec<Vec<u8>>>,
+    /// How long the journal was behind the last compaction since it was opened, or try of one; 0 before the first.
+    last: usize,
 }
 
 impl<V: Verifier, D: Disk + Drop> Model for HoldingZone<V, D> {
@@ -93,6 +111,7 @@ impl<V: Verifier, D: Disk + Drop> HoldingZone<V, D> {
             journal,
             spare,
             held: None,
+            last: 0,
         }
     }
 
@@ -150,6 +169,27 @@ impl<V: Verifier, D: Disk + Drop> HoldingZone<V, D> {
         }
     }
 
+    /// How long the journal may be before it is to be compacted again. A zone of long records has a long snapshot, and what could not be compacted is not tried
+    /// again at once: so it may be twice as long as it was behind the last compaction, or try of one, too.
+    fn longest(&self) -> usize {
+        let sets = self.zone.in_memory().records().len();
+        longest_journal(sets).max(self.last.saturating_mul(2))
+    }
+
+    /// Whether the journal is to be compacted: where it never was, so that the zone of before its first entry still counts; or where it is longer than
+    /// [`longest_journal`] says of the zone, and more than twice as long as behind the last compaction since it was opened, or try of one. It is not where updates
+    /// are held, where the journal takes no entries, or where it has one file. It costs nothing by the size of the zone.
+    pub fn needs_compaction(&self) -> bool
+        ensures held { self.now.holds ≡ true → result ≡ false }
+    {
+        match &self.spare {
+            Some(spare) if self.held.is_none() && self.journal.is_open() => {
+                spare.generation < 2 || self.journal.end() > self.longest()
+            }
+            _ => false,
+        }
+    }
+
     /// Compacts the journal, as [`JournalledZone::compact`] does. Where updates are held, that is the error `Held`, and nothing is written.
     pub fn compact(&mut self, alloc: Global) -> Result<(), CompactError>
         ensures stays { self.new ≡ self.old }
@@ -158,7 +198,9 @@ impl<V: Verifier, D: Disk + Drop> HoldingZone<V, D> {
         if self.held.is_some() {
             return Err(CompactError::Held);
         }
-        compact_into(&self.zone, &mut self.journal, &mut self.spare, alloc)
+        let compacted = compact_into(&self.zone, &mut self.journal, &mut self.spare, alloc);
+        self.last = self.journal.end();
+        compacted
     }
 
     /// The zone in memory and its journal, as they are after whatever was asked of the handler: where no updates are held, the journal keeps the zone.
@@ -171,6 +213,7 @@ impl<V: Verifier, D: Disk + Drop> HoldingZone<V, D> {
             journal,
             spare: _,
             held: _,
+            last: _,
         } = self;
         (zone, journal)
     }

@@ -15,7 +15,7 @@ mod updating;
 pub use batches::{UpdateAnswer, update_all_durably, write_held};
 pub use compaction::CompactError;
 pub use handler::{JournalledZone, OpenError};
-pub use holding::{HoldingZone, update_held};
+pub use holding::{HoldingZone, longest_journal, update_held};
 pub use redoing::{RedoError, read_entry, redo};
 pub use snapshots::{SnapshotError, read_record, recall, recall_to, snapshot};
 pub use updating::update_durably;

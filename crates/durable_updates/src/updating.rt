@@ -5,7 +5,8 @@ ghost use Rattle.hickory_base.specs.requests.Updates.{update_of};
 ghost use Rattle.hickory_store.specs.Prescan.{prescan_refusal};
 ghost use Rattle.hickory_store.specs.UpdateAnswers.{told_context};
 ghost use Rattle.durable_updates.specs.DurableUpdates.{AnswersDurably, DoesDurably, IsWriteFault, MakesDurably};
-ghost use Rattle.durable_updates.specs.Journalling.{Journals, RefusesEntry};
+ghost use Rattle.durable_updates.specs.Journalling.{Journals, RefusesRequest};
+ghost use Rattle.durable_updates.specs.ReadRequests.{IsRead};
 ghost use Rattle.durable_updates.specs.Redone.{Makes};
 
 use hickory_base::errors::UpdateFault;
@@ -17,16 +18,21 @@ use sqlite_disk::Disk;
 use std::alloc::Global;
 use update_journal::{Journal, JournalError};
 
-/// Adds a request to the journal. Where the journal refuses it, that is ServFail, and `Memory` where memory was refused.
+/// Adds a request to the journal. Where the journal refuses it, or its message was not read from its bytes, that is ServFail, and `Memory` where memory was refused.
 fn write<D: Disk>(
     journal: &mut Journal<D>,
     alloc: Global,
     request: &Request,
 ) -> Result<(), UpdateFault>
+    ensures accepted { OnOk result (request.now.was_read ≡ true) }
+    ensures unread { request.now.was_read ≡ false → journal.new ≡ journal.old }
     ensures journals { Journals D.seen D.may_leave result request.now.bytes journal.old journal.new }
     ensures clean { D.is_clean journal.new.disk ≡ D.is_clean journal.old.disk }
-    ensures err { IfErr result (IsWriteFault (RefusesEntry D.is_usable journal.new request.now.bytes)) }
+    ensures err { IfErr result (IsWriteFault (RefusesRequest D.is_usable journal.new request.now)) }
 {
+    if !request.was_read() {
+        return Err(UpdateFault::Code(ResponseCode::SERV_FAIL));
+    }
     match journal.append(alloc, request.as_slice()) {
         Ok(()) => Ok(()),
         Err(JournalError::Memory) => Err(UpdateFault::Memory),
@@ -45,9 +51,11 @@ fn write_and_do<V: Verifier, D: Disk>(
     request: &Request,
 ) -> Result<bool, UpdateFault>
     requires { prescan_refusal zone.old.zone.origin 1 (update_of request.now.message).updates ≡ None }
-    ensures done { DoesDurably (RefusesEntry D.is_usable journal.new request.now.bytes) (update_of request.now.message) result zone.old zone.new }
+    ensures done { DoesDurably (RefusesRequest D.is_usable journal.new request.now) (update_of request.now.message) result zone.old zone.new }
     ensures made { OnOk result (Makes (update_of request.now.message).updates zone.old.zone zone.new.zone) }
     ensures untouched { IfOk result (λ changed. changed ≡ false → zone.new ≡ zone.old) }
+    ensures accepted { OnOk result (request.now.was_read ≡ true) }
+    ensures unread { request.now.was_read ≡ false → journal.new ≡ journal.old }
     ensures journals { Journals D.seen D.may_leave result request.now.bytes journal.old journal.new }
     ensures clean { D.is_clean journal.new.disk ≡ D.is_clean journal.old.disk }
 {
@@ -68,9 +76,11 @@ fn make<V: Verifier, D: Disk>(
     alloc: Global,
     request: &Request,
 ) -> Result<bool, UpdateFault>
-    ensures done { MakesDurably (RefusesEntry D.is_usable journal.new request.now.bytes) (update_of request.now.message) result zone.old zone.new }
+    ensures done { MakesDurably (RefusesRequest D.is_usable journal.new request.now) (update_of request.now.message) result zone.old zone.new }
     ensures made { OnOk result (Makes (update_of request.now.message).updates zone.old.zone zone.new.zone) }
     ensures untouched { IfOk result (λ changed. changed ≡ false → zone.new ≡ zone.old) }
+    ensures accepted { OnOk result (request.now.was_read ≡ true) }
+    ensures unread { request.now.was_read ≡ false → journal.new ≡ journal.old }
     ensures journals { Journals D.seen D.may_leave result request.now.bytes journal.old journal.new }
     ensures clean { D.is_clean journal.new.disk ≡ D.is_clean journal.old.disk }
 {
@@ -99,8 +109,8 @@ pub(crate) fn told_context(
 /// Makes the update that a request asks for (RFC 2136 section 3), once its bytes are on the disk. `now` is in seconds since 1970.
 ///
 /// First it is judged as `SqliteZoneHandler::update` judges it; a request that is refused is not written. With an answer of `Ok` its
-/// bytes are an entry of the journal. Where the journal refuses them, as it takes no entry or they are 2^32 or more, the answer
-/// is ServFail, and the zone is as before. A journal in which a write has failed, or whose last entry was not done for want of memory, is shut: every update is ServFail
+/// bytes are an entry of the journal. Where the journal refuses them, as it takes no entry or they are 2^32 or more, or where the message was not read from them, the
+/// answer is ServFail, and the zone is as before. A journal in which a write has failed, or whose last entry was not done for want of memory, is shut: every update is ServFail
 /// until the zone is recovered from the file. Whatever the answer, a crash leaves the entries from before, with this one or
 /// without. Two syncs.
 pub fn update_durably<V: Verifier, D: Disk>(
@@ -110,12 +120,17 @@ pub fn update_durably<V: Verifier, D: Disk>(
     request: &Request,
     now: u64,
 ) -> (Result<bool, UpdateFault>, Option<TSigResponseContext>)
-    ensures answers { AnswersDurably (RefusesEntry D.is_usable journal.new request.now.bytes) V.Verifier zone.old request.now now result.0 result.1 zone.new }
+    ensures answers { AnswersDurably (RefusesRequest D.is_usable journal.new request.now) V.Verifier zone.old request.now now result.0 result.1 zone.new }
     ensures made { OnOk result.0 (Makes (update_of request.now.message).updates zone.old.zone zone.new.zone) }
     ensures kept { OnErr result.0 (zone.new ≡ zone.old) }
+    ensures read { request.now.was_read ≡ true → IsRead request.now }
+    ensures accepted { OnOk result.0 (request.now.was_read ≡ true) }
+    ensures unread { request.now.was_read ≡ false → journal.new ≡ journal.old }
     ensures journals { Journals D.seen D.may_leave result.0 request.now.bytes journal.old journal.new }
     ensures clean { D.is_clean journal.new.disk ≡ D.is_clean journal.old.disk }
 {
+    // That its message is the one of its bytes is known of a request that was asked.
+    let _ = request.was_read();
     let (permission, context) = zone.authorize_update(alloc, request, now);
     match permission {
         Err(fault) => (Err(fault), context),

@@ -81,6 +81,17 @@ impl<V: Verifier, D: Disk + Drop> Kept<V, D> {
         }
     }
 
+    /// Whether there is a journal that is to be compacted.
+    pub(crate) fn needs_compaction(&self) -> bool
+        ensures memory { (kept_zone self.now).is_journalled ≡ false → result ≡ false }
+        ensures held { (kept_zone self.now).holds ≡ true → result ≡ false }
+    {
+        match self {
+            Kept::Memory(_) => false,
+            Kept::Journal(zone) => zone.needs_compaction(),
+        }
+    }
+
     /// Compacts the journal, if there is one.
     pub(crate) fn compact(&mut self, alloc: Global) -> Result<(), CompactError>
         ensures { kept_zone self.new ≡ kept_zone self.old }

@@ -128,6 +128,14 @@ impl<V: Verifier, D: Disk + Drop> DurableZone<V, D> {
         self.kept.settle(alloc)
     }
 
+    /// Whether there is a journal that is to be compacted, as [`HoldingZone::needs_compaction`] tells: never where updates are held.
+    pub fn needs_compaction(&self) -> bool
+        ensures memory { self.now.is_journalled ≡ false → result ≡ false }
+        ensures held { self.now.holds ≡ true → result ≡ false }
+    {
+        self.kept.needs_compaction()
+    }
+
     /// Compacts the journal, as [`HoldingZone::compact`] does. Without a journal there is nothing to do.
     pub fn compact(&mut self, alloc: Global) -> Result<(), CompactError>
         ensures { self.new ≡ self.old }

@@ -1,7 +1,9 @@
 //! Requests with where they came from.
 
-ghost use Rattle.std.specs.Prelude.{◌≡◌, IfOk, IfErr};
+ghost use Rattle.std.specs.Prelude.{◌≡◌, IfOk, IfErr, false, true};
+ghost use Rattle.wire_reading.specs.serialize.reading.MessageReading.{Reads};
 ghost use Rattle.hickory_base.specs.requests.Questions.{one_query};
+ghost use Rattle.hickory_base.specs.requests.RequestReading.{message_of};
 ghost use Rattle.hickory_base.specs.requests.Requests.{ReceivedRequest, RequestInformation, information, information_of};
 
 use crate::errors::LookupError;
@@ -20,32 +22,48 @@ pub struct Request {
     pub(crate) bytes: Octets,
     pub(crate) source: SocketAddr,
     pub(crate) protocol: Protocol,
+    pub(crate) was_read: bool,
 }
 
 impl Model for Request {
+    ghost use Rattle.std.specs.Prelude.{◌≡◌, true};
+    ghost use Rattle.wire_reading.specs.serialize.reading.MessageReading.{Reads};
+    ghost use Rattle.hickory_base.specs.requests.RequestReading.{message_of};
     ghost use Rattle.hickory_base.specs.requests.Requests.{ReceivedRequest};
 
     ghost Value = { ReceivedRequest };
 
-    ghost view = { λ r. record { message = r.message; bytes = r.bytes; source = r.source; protocol = r.protocol } };
+    ghost view = { λ r. record { message = r.message; bytes = r.bytes; source = r.source; protocol = r.protocol; was_read = r.was_read } };
+
+    ghost invariant = { λ r. r.was_read ≡ true → Reads r.bytes (message_of r.message) };
 }
 
 impl Request {
-    /// A message with its bytes and where it came from.
+    /// A message with its bytes and where it came from, which was not read from them.
     pub(crate) fn new(
         message: MessageRequest,
         bytes: Octets,
         source: SocketAddr,
         protocol: Protocol,
     ) -> Request
-        ensures { result ≡ record { message = message; bytes = bytes; source = source; protocol = protocol } }
+        ensures { result ≡ record { message = message; bytes = bytes; source = source; protocol = protocol; was_read = false } }
     {
         Request {
             message,
             bytes,
             source,
             protocol,
+            was_read: false,
         }
+    }
+
+    /// Whether its message was read from its bytes, as [`Request::from_bytes`] and [`Request::read_in_place`] read it. One that was put together need not read back
+    /// as it is.
+    pub fn was_read(&self) -> bool
+        ensures value { result ≡ self.now.was_read }
+        ensures read { self.now.was_read ≡ true → Reads self.now.bytes (message_of self.now.message) }
+    {
+        self.was_read
     }
 
     /// The address that it came from.

@@ -1,5 +1,5 @@
 -- A reply to a request reads back where its questions can be repeated and its records read back.
-use Rattle.std.proofs.Common.{◌≡◌, ℕ, ◌≤◌, List, [], ◌∷◌, ◌++◌, length, take, replicate, Option, Some, None, sym, subst, ◌∙◌, arith}
+use Rattle.std.proofs.Common.{◌≡◌, ℕ, ◌≤◌, List, [], ◌∷◌, ◌++◌, length, take, replicate, Option, Some, None, sym, subst, ◌∙◌}
 use Rattle.std.specs.Prelude.{◌↔◌, IfSome, option_map, option_to_list, slice_range}
 use Rattle.std.specs.List.{AllByRecursion}
 use Rattle.wire_messages.specs.op.EdnsFields.{EdnsFields}

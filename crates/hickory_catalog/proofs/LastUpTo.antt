@@ -1,9 +1,9 @@
--- The last zone up to a name is the last entry of a map in the range up to it.
-use Rattle.std.proofs.Common.{◌≡◌, ℕ, zero, suc, ◌<◌, Bool, true, false, cond, List, [], ◌∷◌, ◌++◌, length, Option, Some, None, option_map, refl, sym, ap, subst, ◌∙◌, arith}
-use Rattle.std.specs.Prelude.{is_some, slice_index_or, MatchOption}
+-- The last zone up to a name is the last entry of a map in the range up to it, or the last of all where that one is up to the name.
+use Rattle.std.proofs.Common.{◌≡◌, ℕ, zero, suc, ◌-◌, ◌<◌, Bool, true, false, cond, List, [], ◌∷◌, ◌++◌, length, Option, Some, None, option_map, refl, sym, ap, subst, ◌∙◌, arith}
+use Rattle.std.specs.Prelude.{is_some, slice_get, slice_index_or, MatchOption}
 use Rattle.std.specs.List.{All, Contains}
 use Rattle.std.specs.Map.{lookup}
-use Rattle.std.specs.BTreeMap.{BTreeMap, is_at}
+use Rattle.std.specs.BTreeMap.{BTreeMap, IsUpperBound, is_at}
 use Rattle.std.specs.BTreeMap.Range.{IsLeBy, IsRangeOf, entries_between, range_contains}
 use Rattle.std.specs.declared.ops.Bound.TheVariants.{Included, Unbounded}
 use Rattle.std.specs.declared.cmp.Ordering.{Ordering}
@@ -11,6 +11,7 @@ use Rattle.std.specs.declared.cmp.Ordering.TheVariants.{Less, Equal, Greater}
 use Rattle.std.specs.Ordering.{is_eq, is_lt, is_gt, ordering_reverse}
 use Rattle.std.specs.Cmp.{tied_itself}
 use Rattle.std.proofs.lemmas.List.Elements.{All-nil, All-cons, All-map, All-filter, All-contains, All-contains_itself, Contains-push, Contains-append_right}
+use Rattle.std.proofs.lemmas.Option.{slice_get_within, get_or_from_slice_get}
 use Rattle.wire_names.specs.rr.domain.DomainName.{DomainName}
 use Rattle.wire_names.specs.rr.domain.NameOrder.{name_cmp, name_cmp_total}
 use Rattle.hickory_catalog.specs.Search.{IsLastUpTo, LastUpTo}
@@ -54,6 +55,18 @@ module _ {X : Type 0} where
             ∙ not_below (name_cmp zone.0 (slice_index_or zones.entries k d).0) (of.4 zone front ends (slice_index_or zones.entries k d).0 (tt, up) (all_held zones.entries k d h));
       }
 
+  -- the last entry of all
+  last_of : (name : DomainName) (zones : BTreeMap DomainName X) (zone : DomainName × X) → slice_get zones.entries (length zones.entries - 1) ≡ Some zone → IsUpperBound name_cmp zones zone.0
+      → IsLeBy name_cmp zone.0 name → IsLastUpTo zones.entries name zone
+  last_of name zones zone at highest up =
+      record {
+        among = (length zones.entries - 1, slice_get_within zones.entries _ zone at, get_or_from_slice_get zones.entries _ zone zone at);
+        up_to = up;
+        last = λ k d h _.
+            ap is_gt (name_cmp_total.antisymm (slice_index_or zones.entries k d).0 zone.0)
+            ∙ not_below (name_cmp zone.0 (slice_index_or zones.entries k d).0) (highest (slice_index_or zones.entries k d).0 (all_held zones.entries k d h));
+      }
+
   none_is : (name : DomainName) (zones : BTreeMap DomainName X) (range : List (DomainName × X)) → IsRangeOf name_cmp Unbounded (Included name) zones range → range ≡ [] → LastUpTo zones.entries name None
   none_is name zones range of e = λ k d h up. none_held _ (all_held zones.entries k d h) (of.5 e (slice_index_or zones.entries k d).0 (tt, up))
 
@@ -84,3 +97,8 @@ module _ {X V : Type 0} (f : X → V) where
       → LastUpTo old name (option_map (λ item. shows (pair item)) last)
   last_lent pair name zones old range rest None view_is is of steps = last_shown name zones.entries old None view_is (none_is name zones range of steps.0)
   last_lent pair name zones old range rest (Some item) view_is is of steps = last_shown name zones.entries old (Some (pair item)) view_is (last_is name zones range rest (pair item) is of steps)
+
+  -- the last zone of all is the last up to each name that does not stand before it
+  pub last_of_all : (name : DomainName) (zones : BTreeMap DomainName X) (old : List (DomainName × V)) (zone : DomainName × X) → shown f zones.entries ≡ old
+      → slice_get zones.entries (length zones.entries - 1) ≡ Some zone → IsUpperBound name_cmp zones zone.0 → IsLeBy name_cmp zone.0 name → IsLastUpTo old name (shows zone)
+  last_of_all name zones old zone view_is at highest up = last_shown name zones.entries old (Some zone) view_is (last_of name zones zone at highest up)

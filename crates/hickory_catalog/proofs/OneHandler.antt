@@ -1,12 +1,20 @@
 -- What a chain of one handler answers.
-use Rattle.std.proofs.Common.{◌≡◌, ◌<◌, ◌≤◌, List, [], ◌∷◌, length, get_or, Option, None, refl, sym, ap, arith}
+use Rattle.std.proofs.Common.{◌≡◌, ◌<◌, ◌≤◌, ◌^◌, ℕ, false, List, [], ◌∷◌, length, get_or, Option, None, refl, sym, ap, arith}
+use Rattle.std.specs.Prelude.{◌==◌}
 use Rattle.std.specs.Option.{IsSome}
+use Rattle.wire_messages.specs.op.EdnsFields.{EdnsFields}
+use Rattle.wire_messages.specs.declared.op.query.Query.{Query}
 use Rattle.wire_messages.specs.declared.rr.tsig.TSigResponseContext.{TSigResponseContext}
-use Rattle.hickory_base.specs.zone_store.Lookups.{Flow, result_of}
-use Rattle.hickory_base.specs.requests.Requests.{ReceivedRequest, RequestInformation}
+use Rattle.hickory_base.specs.zone_store.Lookups.{Flow, result_of, whole_answer}
+use Rattle.hickory_base.specs.requests.Requests.{ReceivedRequest, RequestInformation, information}
 use Rattle.hickory_base.specs.declared.zone_store.handler.ZoneHandler.{Ghosts}
 use Rattle.hickory_base.specs.declared.zone_store.lookup.LookupControlFlow.TheVariants.{Continue, Break, Skip}
 use Rattle.hickory_base.specs.declared.zone_store.lookup.LookupOptions.{LookupOptions}
+use Rattle.hickory_base.specs.declared.zone_store.lookup.WholeReply.{WholeReply}
+use Rattle.hickory_catalog.specs.Queries.{ZoneReply, consult_options, lookup, whole_contents}
+use Rattle.hickory_catalog.specs.Replies.{unsigned_reply}
+use Rattle.hickory_catalog.specs.Server.{Server}
+use Rattle.hickory_catalog.specs.Signing.{plain}
 use Rattle.hickory_catalog.specs.Transcripts.{ChainAnswers, all_consulted, answered, nobody, options_of, skipped}
 
 -- a list of one is known by its first
@@ -29,3 +37,12 @@ module _ {H : Type 0} (handler : Ghosts H) (request : ReceivedRequest) (info : R
   answers_alone (Continue result) context gave is = record { answer = Continue result; context = context; asked = answered tt gave; followed = all_consulted }
   answers_alone (Break result) context gave is = record { answer = Break result; context = context; asked = answered tt gave; followed = (refl, refl) }
   answers_alone Skip context gave is = absurd cc
+
+-- a reply that it has whole, and that nobody signs
+pub whole_alone : {H : Type 0} (server : Server H) (request : ReceivedRequest) (edns : Option EdnsFields) (now : ℕ) (query : Query) (h : H) (reply : WholeReply) → (query.query_type == 252) ≡ false
+    → server.handler.search_gives h request (options_of request) (whole_answer reply) None → reply.response_code < 2 ^ 12
+    → ZoneReply server (h ∷ []) request edns now query (unsigned_reply request.message edns (whole_contents request.message.metadata reply))
+whole_alone server request edns now query h reply asked gave in_range =
+    lookup (whole_contents request.message.metadata reply) asked
+    (answers_alone server.handler request (information request query) (consult_options edns) h (whole_answer reply) None gave refl)
+    refl refl refl (refl, in_range) (plain refl)

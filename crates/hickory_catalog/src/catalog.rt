@@ -87,6 +87,7 @@ impl<S: ReplySigner, H: ZoneHandler> Catalog<S, H> {
 
     /// The chain of handlers of the zone that answers for a name: for a fully qualified name the fully qualified zone
     /// nearest above it or at it (RFC 1034 section 4.3.2, step 2), and for another name the zone of that very name.
+    #[inline(always)]
     pub fn find(&self, name: &LowerName) -> Result<Option<&Vec<H>>, AllocError>
         ensures found { IfOk result (λ found. Finds self.now.zones name.now (option_map (λ chain. chain.now.items) found)) }
         ensures ordered { AreInOrder self.now.zones }

@@ -1,18 +1,18 @@
 //! From a query to its replies.
 
-ghost use Rattle.std.specs.Prelude.{◌≡◌, ◌==◌, ◌<◌, ◌^◌, ◌∷◌, [], ℕ, true, false, List, Option, IfOk, IfErr, IsSome, None, Some, length, slice_get};
+ghost use Rattle.std.specs.Prelude.{◌≡◌, ◌==◌, ◌<◌, ◌^◌, ◌∷◌, [], ℕ, true, false, List, Option, IfOk, IfErr, IfSome, IfNone, IsSome, None, Some, length, slice_get};
 ghost use Rattle.wire_messages.specs.serialize.writing.Reply.{Reply};
 ghost use Rattle.wire_messages.specs.declared.rr.tsig.TSigResponseContext.{TSigResponseContext};
-ghost use Rattle.hickory_base.specs.zone_store.Lookups.{result_of, whole_reply};
+ghost use Rattle.hickory_base.specs.zone_store.Lookups.{result_of, whole_answer, whole_reply};
 ghost use Rattle.hickory_base.specs.requests.Requests.{information};
 ghost use Rattle.hickory_base.specs.responses.Responses.{header_of};
 ghost use Rattle.hickory_catalog.specs.Forwarded.{forwarded_contents};
 ghost use Rattle.hickory_catalog.specs.Queries.{GivenReplies, HandlerReply, QueryReplies, ReplyByType, ZoneReplies, ZoneReply, consult_options, is_out_of_memory, whole_contents};
-ghost use Rattle.hickory_catalog.specs.Replies.{Contents, contents_of};
+ghost use Rattle.hickory_catalog.specs.Replies.{Contents, contents_of, unsigned_reply};
 ghost use Rattle.hickory_catalog.specs.Sending.{IsUntouched, Sends, SendsInOrder};
 ghost use Rattle.hickory_catalog.specs.Server.{server_of};
 ghost use Rattle.hickory_catalog.specs.Signing.{SignedReply};
-ghost use Rattle.hickory_catalog.specs.Transcripts.{ChainAnswers};
+ghost use Rattle.hickory_catalog.specs.Transcripts.{ChainAnswers, options_of};
 ghost use Rattle.hickory_catalog.specs.Transfers.{transfer_contents};
 ghost use Rattle.hickory_catalog.specs.WholeTransfers.{ChainTransfers};
 
@@ -31,7 +31,8 @@ use hickory_base::errors::{CatalogError, LookupError};
 use hickory_base::message_request::MessageRequest;
 use hickory_base::server::{Request, RequestInfo, ResponseHandler, ResponseInfo};
 use hickory_base::zone_store::{
-    AuthLookup, LookupControlFlow, LookupOptions, WholeReply, ZoneHandler, ZoneTransfer, ZoneType,
+    AuthLookup, LookupControlFlow, LookupOptions, RecordList, WholeReply, ZoneHandler,
+    ZoneTransfer, ZoneType,
 };
 use hickory_wire::{Edns, LowerQuery, Metadata, RecordType, ResponseCode, TSigResponseContext};
 use std::alloc::Global;
@@ -105,6 +106,33 @@ fn whole_contents<'z>(request: &Metadata, reply: &mut WholeReply<'z>) -> ReplyCo
     contents
 }
 
+/// Hands over a reply that a handler has whole, with this EDNS and without a signature. Its records stay where they lie.
+#[inline(always)]
+fn send_whole<R: ResponseHandler>(
+    alloc: Global,
+    request: &MessageRequest,
+    edns: &mut Option<Edns>,
+    whole: &WholeReply<'_>,
+    sink: &mut R,
+) -> ResponseInfo
+    ensures sent { Sends R.ResponseHandler request.now.metadata sink.old sink.new
+        (unsigned_reply request.now edns.old (whole_contents request.now.metadata whole.now)) (header_of result) }
+    ensures in_range { whole.now.response_code < 2 ^ 12 }
+{
+    let metadata = whole_metadata(&request.metadata, whole);
+    set_high_code(metadata.response_code, edns);
+    send_lent(
+        sink,
+        alloc,
+        request,
+        edns.as_ref(),
+        metadata,
+        whole.answers.as_slice(),
+        whole.authorities.as_slice(),
+        whole.additionals.as_slice(),
+    )
+}
+
 /// Answers by a reply that a handler has whole, whose records are taken out, signed as this context has it.
 #[inline(never)]
 fn answer_whole_signed<S: ReplySigner, R: ResponseHandler>(
@@ -144,20 +172,7 @@ fn answer_whole<S: ReplySigner, R: ResponseHandler>(
 {
     match context {
         Some(context) => { answer_whole_signed(signer, alloc, request, edns, whole, context, sink) }
-        None => {
-            let metadata = whole_metadata(&request.metadata, whole);
-            set_high_code(metadata.response_code, edns);
-            Ok(send_lent(
-                sink,
-                alloc,
-                request,
-                edns.as_ref(),
-                metadata,
-                whole.answers.as_slice(),
-                whole.authorities.as_slice(),
-                whole.additionals.as_slice(),
-            ))
-        }
+        None => Ok(send_whole(alloc, request, edns, whole, sink)),
     }
 }
 
@@ -219,6 +234,7 @@ fn answer_by_contents<'q, S: ReplySigner, H: ZoneHandler, R: ResponseHandler>(
 }
 
 /// Answers to what a chain answered in the end, whose records may be taken out, where the handler at this place was asked.
+#[inline(always)]
 fn answer_outcome<'q, S: ReplySigner, H: ZoneHandler, R: ResponseHandler>(
     asked: &ZoneQuery<'q, S, H>,
     place: usize,
@@ -332,6 +348,7 @@ pub(crate) fn give_transfer<S: ReplySigner, H: ZoneHandler, R: ResponseHandler>(
 }
 
 /// Answers a transfer of a zone by its handlers, and hands its replies over, with this EDNS.
+#[inline(never)]
 fn answer_transfer<S: ReplySigner, H: ZoneHandler, R: ResponseHandler>(
     asked: &ZoneQuery<'_, S, H>,
     edns: &mut Option<Edns>,
@@ -386,9 +403,10 @@ fn answer_chained<'q, S: ReplySigner, H: ZoneHandler, R: ResponseHandler>(
     }
 }
 
-/// Answers a query of a zone of one handler, but for a transfer, and hands the reply over, with this EDNS. Nobody else is there to be consulted, and the
-/// answer stays where the handler puts it.
-fn answer_alone<'q, S: ReplySigner, H: ZoneHandler, R: ResponseHandler>(
+/// Answers a query of a zone of one handler, but for a transfer, by what the handler finds, and hands the reply over, with this EDNS. Nobody else is there
+/// to be consulted, and the answer stays where the handler puts it.
+#[inline(never)]
+fn answer_searched<'q, S: ReplySigner, H: ZoneHandler, R: ResponseHandler>(
     asked: &ZoneQuery<'q, S, H>,
     handler: &'q H,
     edns: &mut Option<Edns>,
@@ -410,6 +428,66 @@ fn answer_alone<'q, S: ReplySigner, H: ZoneHandler, R: ResponseHandler>(
         edns,
         sink,
     )
+}
+
+/// A reply in whose place a handler puts another: Refused, which is 5, and no records.
+fn unanswered<'z>() -> WholeReply<'z>
+    ensures { result ≡ record { response_code = 5; authoritative = false; answers = []; authorities = []; additionals = [] } }
+{
+    WholeReply {
+        response_code: ResponseCode::REFUSED,
+        authoritative: false,
+        answers: RecordList::empty(),
+        authorities: RecordList::empty(),
+        additionals: RecordList::empty(),
+    }
+}
+
+/// Answers a query by the whole reply that a handler puts in the place of this one, and hands it over, with this EDNS. `None` says that the handler puts
+/// none, and that nothing was handed over.
+#[inline(always)]
+fn answer_put<'q, S: ReplySigner, H: ZoneHandler, R: ResponseHandler>(
+    asked: &ZoneQuery<'q, S, H>,
+    handler: &'q H,
+    edns: &mut Option<Edns>,
+    sink: &mut R,
+    whole: &mut WholeReply<'q>,
+) -> Option<ResponseInfo>
+    ensures gives { IfSome result (λ _. H.search_gives handler.now asked.now.request.now (options_of asked.now.request.now)
+        (whole_answer whole.new) None) }
+    ensures in_range { IfSome result (λ _. whole.new.response_code < 2 ^ 12) }
+    ensures sent { IfSome result (λ info. Sends R.ResponseHandler asked.now.request.now.message.metadata sink.old sink.new
+        (unsigned_reply asked.now.request.now.message edns.old (whole_contents asked.now.request.now.message.metadata whole.new))
+        (header_of info)) }
+    ensures unput { IfNone result ((sink.new ≡ sink.old) × (edns.new ≡ edns.old)) }
+{
+    let request = asked.request;
+    if !handler.search_whole(asked.alloc, request, options_of(request), whole) {
+        return None;
+    }
+    Some(send_whole(asked.alloc, request.message(), edns, whole, sink))
+}
+
+/// Answers a query of a zone of one handler, but for a transfer, and hands the reply over, with this EDNS. Nobody else is there to be consulted, and a
+/// whole reply is put where it is sent from.
+fn answer_alone<'q, S: ReplySigner, H: ZoneHandler, R: ResponseHandler>(
+    asked: &ZoneQuery<'q, S, H>,
+    handler: &'q H,
+    edns: &mut Option<Edns>,
+    sink: &mut R,
+) -> Result<ResponseInfo, CatalogError>
+    requires lookup { (asked.now.query.now.query_type == 252) ≡ false }
+    requires alone { asked.now.chain.now ≡ handler.now ∷ [] }
+    ensures replied { IfOk result (λ info. (reply : Reply) ×
+        ZoneReply (server_of H.ZoneHandler S.signature_for asked.now.catalog.now) asked.now.chain.now asked.now.request.now edns.old asked.now.moment asked.now.query.now reply ×
+        Sends R.ResponseHandler asked.now.request.now.message.metadata sink.old sink.new reply (header_of info)) }
+    ensures refused { IfErr result (λ e. (e ≡ CatalogError.Memory) × IsUntouched R.ResponseHandler sink.old sink.new) }
+{
+    // speed: served, an address. A whole reply is not wrapped, moved and dropped on its way.
+    if let Some(told) = answer_put(asked, handler, edns, sink, &mut unanswered()) {
+        return Ok(told);
+    }
+    answer_searched(asked, handler, edns, sink)
 }
 
 /// Answers a query of a zone of other chains, but for a transfer, and hands the reply over, with this EDNS.

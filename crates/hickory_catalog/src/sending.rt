@@ -21,6 +21,7 @@ use hickory_wire::{
 use std::alloc::Global;
 
 /// What is told where the sink failed: ServFail, with the id and the opcode of the request.
+#[inline(never)]
 fn failure(request: &Metadata) -> ResponseInfo
     ensures { header_of result ≡ failure_header request.now }
 {
@@ -38,6 +39,7 @@ fn failure(request: &Metadata) -> ResponseInfo
 }
 
 /// Hands a response over, once. The answer tells what the sink tells of it, or where the sink fails that it failed.
+#[inline(always)]
 fn send_once<'q, 'a, R, A, N, S, D>(
     sink: &mut R,
     alloc: Global,
@@ -99,6 +101,7 @@ pub(crate) fn send_contents<R: ResponseHandler>(
 }
 
 /// Hands over a reply of this metadata and these records where they lie, with this EDNS and without a signature.
+#[inline(always)]
 pub(crate) fn send_lent<R: ResponseHandler>(
     sink: &mut R,
     alloc: Global,
@@ -112,8 +115,18 @@ pub(crate) fn send_lent<R: ResponseHandler>(
     ensures { Sends R.ResponseHandler request.now.metadata sink.old sink.new
         (plain_reply request.now (option_copied edns.entry) (record { metadata = metadata; answers = answers.now; authorities = authorities.now; additionals = additionals.now })) (header_of result) }
 {
-    let response = lent_response(request, edns, metadata, answers, authorities, additionals);
-    told(send_once(sink, alloc, &request.metadata, response))
+    match sink.send_lent(
+        alloc,
+        &request.queries,
+        edns,
+        metadata,
+        answers,
+        authorities,
+        additionals,
+    ) {
+        Ok(info) => info,
+        Err(_) => failure(&request.metadata),
+    }
 }
 
 /// Hands over the records of one reply of a transfer, with this EDNS. The answer tells what the sink tells of it, or where the sink fails that it
@@ -134,6 +147,7 @@ pub(crate) fn send_records<R: ResponseHandler>(
 }
 
 /// Hands an error reply over, with this EDNS: a response code, and no records.
+#[inline(never)]
 pub(crate) fn send_error<R: ResponseHandler>(
     sink: &mut R,
     alloc: Global,

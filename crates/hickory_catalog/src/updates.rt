@@ -141,6 +141,7 @@ fn answer_updated<S: ReplySigner, R: ResponseHandler>(
 }
 
 /// Answers an update, and hands the reply over, with this EDNS.
+#[inline(never)]
 pub(crate) fn answer_update<S: ReplySigner, H: ZoneHandler, R: ResponseHandler>(
     catalog: &mut Catalog<S, H>,
     alloc: Global,

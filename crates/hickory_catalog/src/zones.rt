@@ -88,6 +88,7 @@ impl<H: Drop> Zones<H> {
 
     /// The chain of handlers of the zone that answers for a name: for a fully qualified name the fully qualified zone
     /// nearest above it or at it (RFC 1034, section 4.3.2, step 2), and for another name the zone of that very name.
+    #[inline(always)]
     pub fn find(&self, name: &LowerName) -> Result<Option<&Vec<H>>, AllocError>
         ensures found { IfOk result (λ found. Finds self.now name.now (option_map (λ chain. chain.now.items) found)) }
         ensures ordered { AreInOrder self.now }
@@ -95,6 +96,22 @@ impl<H: Drop> Zones<H> {
         if !name.as_name().is_fqdn() {
             return Ok(self.chains.get(name));
         }
+        // speed: served, an address. No zone stands behind the last one, so where that one encloses the name none is nearer.
+        if let Some((apex, chain)) = self.chains.last_key_value()
+            && answers_for(apex, name)
+        {
+            return Ok(Some(chain));
+        }
+        self.find_among(name)
+    }
+
+    /// The chain of handlers of the zone that answers for a fully qualified name: of the nearest zone above it or at it.
+    #[inline(never)]
+    fn find_among(&self, name: &LowerName) -> Result<Option<&Vec<H>>, AllocError>
+        requires { name.now.is_fqdn ≡ true }
+        ensures found { IfOk result (λ found. Finds self.now name.now (option_map (λ chain. chain.now.items) found)) }
+        ensures ordered { AreInOrder self.now }
+    {
         // What a name encloses stands right behind it, in the order of names: so this one is the nearest, or stands beside.
         let Some((apex, chain)) = self.last_up_to(name) else {
             return Ok(None);
@@ -107,6 +124,7 @@ impl<H: Drop> Zones<H> {
 
     /// The chain of handlers of the zone that answers for a fully qualified name, where only zones above both it and the
     /// other name may answer.
+    #[inline(never)]
     fn find_above(&self, name: &LowerName, other: &LowerName) -> Result<Option<&Vec<H>>, AllocError>
         requires qualified { name.now.is_fqdn ≡ true }
         requires above { AnswerFromAbove self.now name.now other.now }

@@ -11,6 +11,6 @@ pub use hickory_wire::{
     MessageType, Metadata, NSIDPayload, Name, NameError, Octets, OpCode, Proof, ProtoError,
     Protocol, Query, RData, Record, RecordType, ReplyParts, ResponseCode, SOA, TSIG,
     TSigResponseContext, TSigResponseKind, TsigError, comparison_laws, emit_message_parts,
-    encode_message_parts, encoder_laws, fault_laws, message_laws, name_laws, named_numbers,
-    record_comparisons, record_laws, worked,
+    encode_message_parts, encode_message_parts_in, encoder_laws, fault_laws, message_laws,
+    name_laws, named_numbers, record_comparisons, record_laws, worked,
 };

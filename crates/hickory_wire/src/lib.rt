@@ -9,7 +9,7 @@ pub use serialize::reading::record_laws;
 pub use serialize::writing::encoder::BinEncoder;
 pub use serialize::writing::encoder_laws;
 pub use serialize::writing::message_encoder::{
-    ReplyParts, emit_message_parts, encode_message_parts,
+    ReplyParts, emit_message_parts, encode_message_parts, encode_message_parts_in,
 };
 pub use wire_messages::named_numbers;
 pub use wire_messages::op::comparison_laws;

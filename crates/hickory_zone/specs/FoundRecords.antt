@@ -2,11 +2,12 @@
 use Rattle.std.specs.Prelude.{◌≡◌, ◌⊎◌, ◌↔◌, ◌&&◌, ◌-◌, ◌<◌, ◌≤◌, ℕ, nat_le, nat_lt, Bool, true, false, IsTrue, List, length, drop, Option, Some, None}
 use Rattle.std.specs.Borrow.{Bor}
 use Rattle.std.specs.Option.{IsSomeAnd, option_copied}
-use Rattle.wire_names.specs.rr.domain.DomainName.{DomainName, cut}
+use Rattle.wire_names.specs.rr.domain.DomainName.{AreLabels, DomainName, cut, wire_form}
 use Rattle.wire_names.specs.rr.domain.NameOrder.{Encloses, lower_labels}
 use Rattle.wire_messages.specs.declared.rr.rr_key.RrKey.{RrKey}
 use Rattle.hickory_base.specs.zone_store.ZoneAnswers.{records_at}
 use Rattle.hickory_zone.specs.Zones.{Records, Sets, Zone, any_of, at_node, type_dname, type_ns, Delegates, Exists, HasClosestEncloser, HasDname, IsAuthoritativeAt, IsCut, Outcome, Redirects, answer, alias, referral, no_data, no_name, redirection, ancestor, by_wildcard, rrset, wild_alias, wild_answer, wildcard}
+use Rattle.hickory_zone.specs.Features.{IsOfLength}
 use Rattle.hickory_zone.specs.declared.features.Features.{Features}
 use Rattle.hickory_zone.specs.declared.find.Found.{Found}
 use Rattle.hickory_zone.specs.declared.find.Found.TheVariants as found
@@ -21,6 +22,18 @@ IsAbove name key = IsSomeAnd key (λ k. Encloses name.labels k.name.labels)
 -- Of the names from this one up those exist that the keys beside it are at or below.
 abbrev pub Tells : Sets → DomainName → Neighbours → Type 0
 Tells sets name beside = (k : ℕ) → Exists sets (ancestor name k) ↔ (IsAbove (ancestor name k) (option_copied beside.before) ⊎ IsAbove (ancestor name k) (option_copied beside.behind))
+
+-- The zone has no DNAME, and the name right above this one is in use by the key and has no wildcard right below it.
+pub record IsBare (has : Features) (name : DomainName) (behind : Option RrKey) : Type 0 where
+  pub dnames : has.dnames ≡ false
+  pub labels : AreLabels (drop 1 name.labels)
+  pub wildcards : ¬ (IsOfLength has.wildcards (length (wire_form (drop 1 name.labels))))
+  pub used : IsAbove (ancestor name 1) behind
+
+-- what is answered for a name that does not exist and for which nothing stands, below these servers of a cut, if there is one
+abbrev pub missing_outcome : Option Records → Outcome
+missing_outcome (Some servers) = referral servers
+missing_outcome None = no_name
 
 -- The name was taken up to its closest encloser.
 pub record IsEncloser (sets : Sets) (name encloser : DomainName) : Type 0 where

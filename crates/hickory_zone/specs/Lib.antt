@@ -6,6 +6,7 @@ pub mod Features
 pub mod FoundRecords
 pub mod Grown
 pub mod Handled
+pub mod Indexes
 pub mod KeysBeside
 pub mod Parents
 pub mod Redirections

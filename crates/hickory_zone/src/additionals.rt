@@ -61,10 +61,16 @@ fn is_hostless(q: &Record) -> bool
 }
 
 /// Whether all records are.
+#[inline(always)]
 pub(crate) fn are_hostless(records: &[Record]) -> bool
     ensures { IsTrue result ↔ AllByRecursion (λ q. is_hostless q.rdata ≡ true) records.now }
 {
-    records.iter().all(|q| is_hostless(q))
+    for q in records {
+        if !is_hostless(q) {
+            return false;
+        }
+    }
+    true
 }
 
 /// Whether memory was refused.

@@ -9,12 +9,14 @@ ghost use Rattle.wire_names.specs.rr.domain.NameOrder.{lower_name};
 ghost use Rattle.hickory_zone.specs.Chains.{IsIn};
 ghost use Rattle.hickory_zone.specs.Features.{AreFeatures};
 ghost use Rattle.hickory_zone.specs.Handled.{question};
+ghost use Rattle.hickory_zone.specs.Indexes.{IsIndexOf};
 ghost use Rattle.hickory_zone.specs.Replies.{IsReplied, RepliesTo, denial_soa, is_class, whole, zone_of};
 ghost use Rattle.hickory_zone.specs.Zones.{AreOwners, IsOwner};
 
 use crate::chains::{follow, is_in, one_link};
 use crate::features::Features;
-use crate::find::look_up;
+use crate::find::look_up_by;
+use crate::index::Index;
 use crate::replies::{put_at_once, put_reply};
 use hickory_base::zone_store::{
     InMemoryZoneHandler, RecordList, RecordSet, WholeReply, ZoneHandler,
@@ -54,6 +56,7 @@ pub fn are_owners(origin: &LowerName, sets: &BTreeMap<RrKey, Rc<RecordSet>>) -> 
 }
 
 /// Makes this what the zone replies where a name in it is asked for, which is the key's in some letter case. No type is below that of the key.
+#[inline(always)]
 fn put_within<'z>(
     alloc: Global,
     zone: &'z InMemoryZoneHandler,
@@ -62,22 +65,24 @@ fn put_within<'z>(
     record_type: RecordType,
     has: Features,
     soa: Option<&'z [Record]>,
+    index: Option<&'z Index>,
     reply: &mut WholeReply<'z>,
 ) -> Result<(), AllocError>
     requires least { first.now.record_type ≡ 0 }
     requires owners { AreOwners zone.now.origin zone.now.sets }
     requires features { AreFeatures (zone_of zone.now) has }
     requires soa { IfSome (option_copied soa) (λ rs. rs ≡ denial_soa (zone_of zone.now)) }
+    requires index { IfSome (option_copied index) (IsIndexOf zone.now.origin zone.now.sets) }
     requires spelled { first.now.name ≡ lower_name name.now }
     requires within { IsIn (zone_of zone.now) first.now.name }
     ensures { OnOk result (IsReplied (zone_of zone.now) name.now record_type reply.new) }
 {
     let origin = zone.origin();
     let sets = zone.records();
-    let found = look_up(alloc, origin, sets, first, record_type, has)?;
+    let found = look_up_by(alloc, origin, sets, first, record_type, has, index)?;
     // Mostly the reply is made of what was found alone.
     // speed: served, an address
-    if put_at_once(found, soa, reply) {
+    if put_at_once(&found, soa, reply) {
         return Ok(());
     }
     if let Some(link) = one_link(found) {
@@ -122,18 +127,21 @@ pub(crate) fn refused<'z>() -> WholeReply<'z>
 }
 
 /// Makes this what the zone replies to a question: records where they lie, but for those that are synthesized, followed or put together. `soa` is its SOA record as
-/// it stands in denials, if that was made before.
+/// it stands in denials, and `index` its index, if those were made before.
+#[inline(always)]
 pub(crate) fn answer<'z>(
     alloc: Global,
     zone: &'z InMemoryZoneHandler,
     query: &LowerQuery,
     has: Features,
     soa: Option<&'z [Record]>,
+    index: Option<&'z Index>,
     reply: &mut WholeReply<'z>,
 ) -> Result<(), AllocError>
     requires owners { AreOwners zone.now.origin zone.now.sets }
     requires features { AreFeatures (zone_of zone.now) has }
     requires soa { IfSome (option_copied soa) (λ rs. rs ≡ denial_soa (zone_of zone.now)) }
+    requires index { IfSome (option_copied index) (IsIndexOf zone.now.origin zone.now.sets) }
     ensures { OnOk result (RepliesTo (zone_of zone.now) query.now reply.new) }
 {
     if !is_class(query.query_class()) || !is_in(zone.origin(), query.name()) {
@@ -148,6 +156,7 @@ pub(crate) fn answer<'z>(
         query.query_type(),
         has,
         soa,
+        index,
         reply,
     )
 }
@@ -167,7 +176,7 @@ pub fn reply<'z>(
     ensures { IfOk result (RepliesTo (zone_of zone.now) query.now) }
 {
     let mut reply = refused();
-    answer(alloc, zone, query, has, soa, &mut reply)?;
+    answer(alloc, zone, query, has, soa, None, &mut reply)?;
     Ok(reply)
 }
 
@@ -191,6 +200,16 @@ pub fn reply_to<'z>(
     }
     let first = RrKey::new(name.clone()?, RecordType::new(0));
     let name = name.as_name();
-    put_within(alloc, zone, name, &first, record_type, has, soa, &mut reply)?;
+    put_within(
+        alloc,
+        zone,
+        name,
+        &first,
+        record_type,
+        has,
+        soa,
+        None,
+        &mut reply,
+    )?;
     Ok(reply)
 }

@@ -8,10 +8,11 @@ ghost use Rattle.hickory_zone.specs.Handled.{LookedUp, Searched, StandsFor, Tran
 ghost use Rattle.hickory_zone.specs.Replies.{RepliesTo, zone_of};
 ghost use Rattle.hickory_zone.specs.Zones.{AreOwners};
 
-use crate::answers::{are_owners, reply};
+use crate::answers::{answer, are_owners, refused};
 use crate::denials::denial_soa;
 use crate::features::{Features, features_of};
-use crate::handled::{records, transfer, unasked, whole};
+use crate::handled::{records, transfer, unasked};
+use crate::index::Index;
 use hickory_base::errors::{LookupError, UpdateFault};
 use hickory_base::server::{Request, RequestInfo};
 use hickory_base::zone_store::{
@@ -30,6 +31,8 @@ pub struct AuthoritativeZone {
     has: Features,
     // Its SOA record, as it stands in denials.
     soa: Vec<Record>,
+    // Its sets in an order that is searched by numbers: they do not change.
+    index: Index,
 }
 
 impl Model for AuthoritativeZone {
@@ -39,12 +42,13 @@ impl Model for AuthoritativeZone {
     ghost Value = { MemoryZone };
 
     ghost use Rattle.hickory_zone.specs.Features.{AreFeatures};
+    ghost use Rattle.hickory_zone.specs.Indexes.{IsIndexOf};
     ghost use Rattle.hickory_zone.specs.Replies.{denial_soa, zone_of};
     ghost use Rattle.hickory_zone.specs.Zones.{AreOwners};
 
     ghost view = { λ z. z.zone };
 
-    ghost invariant = { λ z. AreOwners z.zone.origin z.zone.sets × AreFeatures (zone_of z.zone) z.has × (z.soa.items ≡ denial_soa (zone_of z.zone)) };
+    ghost invariant = { λ z. AreOwners z.zone.origin z.zone.sets × AreFeatures (zone_of z.zone) z.has × (z.soa.items ≡ denial_soa (zone_of z.zone)) × IsIndexOf z.zone.origin z.zone.sets z.index };
 }
 
 impl AuthoritativeZone {
@@ -62,7 +66,13 @@ impl AuthoritativeZone {
     {
         let has = features_of(zone.origin(), zone.records());
         let soa = denial_soa(alloc, &zone)?;
-        Ok(AuthoritativeZone { zone, has, soa })
+        let index = Index::new(alloc, zone.origin(), zone.records())?;
+        Ok(AuthoritativeZone {
+            zone,
+            has,
+            soa,
+            index,
+        })
     }
 
     /// The zone that it was made of.
@@ -76,13 +86,28 @@ impl AuthoritativeZone {
     pub fn reply(&self, alloc: Global, query: &LowerQuery) -> Result<WholeReply<'_>, AllocError>
         ensures { IfOk result (RepliesTo (zone_of self.now) query.now) }
     {
-        reply(
-            alloc,
-            &self.zone,
-            query,
-            self.has,
-            Some(self.soa.as_slice()),
-        )
+        let mut reply = refused();
+        let soa = Some(self.soa.as_slice());
+        let index = Some(&self.index);
+        answer(alloc, &self.zone, query, self.has, soa, index, &mut reply)?;
+        Ok(reply)
+    }
+
+    /// Puts what the zone replies to a question in the place of another reply. Returns whether there was memory for it; where there was not, nothing is promised of
+    /// the reply.
+    // speed: served, an address
+    #[inline(always)]
+    pub(crate) fn put_whole<'z>(
+        &'z self,
+        alloc: Global,
+        query: &LowerQuery,
+        reply: &mut WholeReply<'z>,
+    ) -> bool
+        ensures { IsTrue result → RepliesTo (zone_of self.now) query.now reply.new }
+    {
+        let soa = Some(self.soa.as_slice());
+        let index = Some(&self.index);
+        answer(alloc, &self.zone, query, self.has, soa, index, reply).is_ok()
     }
 
     /// The same as a handler gives it.
@@ -93,13 +118,7 @@ impl AuthoritativeZone {
     ) -> Result<AuthLookup<'_>, LookupError>
         ensures { StandsFor self.now query.now result ⊎ (result ≡ Err Memory) }
     {
-        whole(
-            alloc,
-            &self.zone,
-            query,
-            self.has,
-            Some(self.soa.as_slice()),
-        )
+        Ok(AuthLookup::Whole(self.reply(alloc, query)?))
     }
 }
 
@@ -180,6 +199,20 @@ impl ZoneHandler for AuthoritativeZone {
             Err(e) => return unasked(e),
         };
         (LookupControlFlow::Continue(self.whole(alloc, query)), None)
+    }
+
+    #[inline(always)]
+    fn search_whole<'z>(
+        &'z self,
+        alloc: Global,
+        request: &Request,
+        _options: LookupOptions,
+        reply: &mut WholeReply<'z>,
+    ) -> bool {
+        let Ok(info) = request.request_info() else {
+            return false;
+        };
+        self.put_whole(alloc, info.query, reply)
     }
 
     fn consult<'z>(

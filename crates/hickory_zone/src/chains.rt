@@ -286,6 +286,7 @@ fn append_link<'z>(
 }
 
 /// Whether a name is in the zone of this origin.
+#[inline(always)]
 pub(crate) fn is_in(origin: &LowerName, name: &LowerName) -> bool
     ensures { (sets : Sets) → IsTrue result ↔ IsIn (record { origin = origin.now; sets = sets }) name.now }
 {
@@ -326,6 +327,7 @@ fn owns_cname(name: &LowerName, records: &[Record]) -> bool
 
 /// Puts the records of the answer section for a name in the zone last, with at most so many CNAMEs followed. The name is the key's, in
 /// the letter case in which it was asked, and this was found for it. The records of a chain that led here stand there.
+#[inline(never)]
 pub fn follow<'z>(
     alloc: Global,
     origin: &LowerName,

@@ -4,19 +4,21 @@ ghost use Rattle.std.specs.Prelude.{◌≡◌, ◌↔◌, ◌⊎◌, ℕ, IfOk, 
 ghost use Rattle.std.specs.Bool.{OnTrue};
 ghost use Rattle.std.specs.Option.{option_copied};
 ghost use Rattle.hickory_base.specs.zone_store.ZoneAnswers.{records_at};
-ghost use Rattle.hickory_base.specs.zone_store.ZoneSets.{has_name, sets_of};
-ghost use Rattle.hickory_zone.specs.Zones.{AreOwners, Answers, AnswersDirectly, Exists, Sets, any_of, ancestor, at_node, by_wildcard, Zone, of_sets, rrset, type_a, type_aaaa, type_any, type_cname, type_ds, type_ns, wildcard};
-ghost use Rattle.std.specs.Prelude.{IfSome, IsSome, length};
+ghost use Rattle.hickory_base.specs.zone_store.ZoneSets.{has_name, sets_of, shared_sets};
+ghost use Rattle.hickory_zone.specs.Zones.{AreOwners, Answers, AnswersDirectly, Exists, Sets, answer, any_of, ancestor, at_node, by_wildcard, Zone, of_sets, rrset, type_a, type_aaaa, type_any, type_cname, type_ds, type_ns, wildcard};
+ghost use Rattle.std.specs.Prelude.{IfSome, IsSome, drop, length};
 ghost use Rattle.wire_names.specs.rr.domain.DomainName.{AreLabels, IsWire, wire_form};
 ghost use Rattle.hickory_zone.specs.Features.{AreFeatures, IsOfLength};
 ghost use Rattle.hickory_zone.specs.FoundRecords.{first_or};
+ghost use Rattle.hickory_zone.specs.Indexes.{IsIndexOf};
 ghost use Rattle.hickory_zone.specs.KeysBeside.{SharedMap, StandsBehind};
 ghost use Rattle.std.specs.Option.{unwrap_or};
 ghost use Rattle.wire_names.specs.rr.domain.DomainName.{DomainName};
-ghost use Rattle.hickory_zone.specs.FoundRecords.{CutAbove, CutAt, WildFound, may_be_cut, name_of, outcome_of, IsAbove, IsEncloser, Tells};
+ghost use Rattle.hickory_zone.specs.FoundRecords.{CutAbove, CutAt, WildFound, may_be_cut, name_of, outcome_of, IsAbove, IsBare, IsEncloser, Tells, missing_outcome};
 ghost use Rattle.wire_names.specs.rr.domain.NameOrder.{Encloses};
 
 use crate::features::{Features, has_length};
+use crate::index::Index;
 use crate::redirections::{Redirection, redirection_from, redirection_of};
 use crate::wildcards::wildcard_below;
 use hickory_base::zone_store::RecordSet;
@@ -63,6 +65,7 @@ fn first_or<'z>(
 }
 
 /// What the key's name owns. No type is below that of the key.
+#[inline(always)]
 fn node_at<'z>(
     sets: &'z BTreeMap<RrKey, Rc<RecordSet>>,
     first: &RrKey,
@@ -93,6 +96,62 @@ fn node_at<'z>(
         alias,
         servers,
         behind,
+    }
+}
+
+/// The same by the index of a zone, in which the name is.
+// speed: served, an address
+#[inline(always)]
+fn node_in<'z>(index: &'z Index, first: &RrKey, record_type: RecordType) -> Node<'z>
+    requires least { first.now.record_type ≡ 0 }
+    requires within { Encloses index.now.apex.labels first.now.name.labels }
+    ensures wanted { option_copied result.wanted ≡ rrset (shared_sets index.now.entries) first.now.name record_type }
+    ensures alias { option_copied result.alias ≡ rrset (shared_sets index.now.entries) first.now.name type_cname }
+    ensures servers { option_copied result.servers ≡ rrset (shared_sets index.now.entries) first.now.name type_ns }
+    ensures behind { (sets : SharedMap) → sets_of sets ≡ shared_sets index.now.entries → StandsBehind sets first.now (option_copied result.behind) }
+{
+    let mut wanted = None;
+    let mut alias = None;
+    let mut servers = None;
+    let mut behind = None;
+    for (key, set) in index.from_key(first) {
+        behind = first_key(behind, key);
+        if first.name != key.name {
+            break;
+        }
+        let records = set.records();
+        wanted = first_or(wanted, record_type == key.record_type, records);
+        alias = first_or(alias, RecordType::CNAME == key.record_type, records);
+        servers = first_or(servers, RecordType::NS == key.record_type, records);
+    }
+    Node {
+        wanted,
+        alias,
+        servers,
+        behind,
+    }
+}
+
+/// What the key's name, which is in the zone of this origin, owns, by the zone's index if it has one.
+#[inline(always)]
+fn node_by<'z>(
+    index: Option<&'z Index>,
+    origin: &LowerName,
+    sets: &'z BTreeMap<RrKey, Rc<RecordSet>>,
+    first: &RrKey,
+    record_type: RecordType,
+) -> Node<'z>
+    requires least { first.now.record_type ≡ 0 }
+    requires within { Encloses origin.now.labels first.now.name.labels }
+    requires index { IfSome (option_copied index) (IsIndexOf origin.now (sets_of sets.now)) }
+    ensures wanted { option_copied result.wanted ≡ rrset (sets_of sets.now) first.now.name record_type }
+    ensures alias { option_copied result.alias ≡ rrset (sets_of sets.now) first.now.name type_cname }
+    ensures servers { option_copied result.servers ≡ rrset (sets_of sets.now) first.now.name type_ns }
+    ensures behind { StandsBehind sets.now first.now (option_copied result.behind) }
+{
+    match index {
+        Some(index) => node_in(index, first, record_type),
+        None => node_at(sets, first, record_type),
     }
 }
 
@@ -155,6 +214,7 @@ fn beside<'z>(
 }
 
 /// Whether there is a key, and its name is the name or below it.
+#[inline(always)]
 fn is_above(name: &LowerName, key: Option<&RrKey>) -> bool
     ensures { IsTrue result ↔ IsAbove name.now (option_copied key.entry) }
 {
@@ -223,6 +283,7 @@ pub(crate) struct Delegation<'z> {
 }
 
 /// The NS records of the fully qualified name of these labels.
+#[inline(never)]
 fn servers_of<'z>(
     alloc: Global,
     sets: &'z BTreeMap<RrKey, Rc<RecordSet>>,
@@ -254,6 +315,7 @@ fn or_before<'z>(found: Option<&'z [Record]>, before: Option<&'z [Record]>) -> O
 }
 
 /// The NS records of the name of these labels where the zone may be cut there, or else those found below.
+#[inline(always)]
 fn servers_or<'z>(
     alloc: Global,
     sets: &'z BTreeMap<RrKey, Rc<RecordSet>>,
@@ -273,7 +335,8 @@ fn servers_or<'z>(
     }
 }
 
-/// The servers of the highest cut above a name in the zone, if it is cut there.
+/// The servers of the highest cut above a name in the zone, if it is cut there. At its apex and above it there is none.
+#[inline(always)]
 fn cut_above<'z>(
     alloc: Global,
     sets: &'z BTreeMap<RrKey, Rc<RecordSet>>,
@@ -290,7 +353,7 @@ fn cut_above<'z>(
     let apex = origin.as_name().as_wire().len();
     let mut highest = None;
     let mut place = 0;
-    while place < wire.len() {
+    while place + apex < wire.len() {
         place += 1 + usize::from(wire[place]);
         highest = servers_or(alloc, sets, apex, &wire[place..], has, highest)?;
     }
@@ -531,6 +594,7 @@ fn is_told(name: &LowerName, wild: Option<Found<'_>>, key: Option<&RrKey>) -> bo
 }
 
 /// What the zone has for a name in it that does not exist, where its closest encloser is looked for among the keys beside it.
+#[inline(never)]
 fn look_beside<'z>(
     alloc: Global,
     origin: &LowerName,
@@ -558,9 +622,47 @@ fn look_beside<'z>(
     found_below(origin, sets, &encloser, above, has, wild)
 }
 
+/// How many bytes the labels of the name right above this one take in wire form.
+fn parent_len(name: &LowerName) -> usize
+    ensures len { result ≡ length (wire_form (drop 1 name.now.labels)) }
+    ensures labels { AreLabels (drop 1 name.now.labels) }
+{
+    let wire = name.as_name().as_wire();
+    if wire.is_empty() {
+        return 0;
+    }
+    wire.len() - 1 - usize::from(wire[0])
+}
+
+/// Whether there is no DNAME, and the name right above this one exists, as a key that is at it or below it tells, without a wildcard right
+/// below it. There may be others of which this is so.
+#[inline(always)]
+fn is_bare(name: &LowerName, behind: Option<&RrKey>, has: Features) -> bool
+    ensures { IsTrue result → IsBare has name.now (option_copied behind.entry) }
+{
+    if has.dnames || has_length(has.wildcards, parent_len(name)) {
+        return false;
+    }
+    match behind {
+        Some(key) => name.has_parent_above(&key.name),
+        None => false,
+    }
+}
+
+/// What is found where no wildcard stands for a name that does not exist, and no DNAME redirects it.
+fn found_missing<'z>(above: Option<&'z [Record]>) -> Found<'z>
+    ensures { (sets : Sets) (name : DomainName) → outcome_of sets name result ≡ missing_outcome (option_copied above.entry) }
+{
+    match above {
+        Some(cut) => Found::Referral(cut),
+        None => Found::NoName,
+    }
+}
+
 /// What the zone has for a name in it that does not exist. Mostly a wildcard right below the name above it or the key behind it tells that the name above exists, and
 /// then no other key is looked for.
-fn look_above<'z>(
+#[inline(never)]
+fn look_above_by_name<'z>(
     alloc: Global,
     origin: &LowerName,
     sets: &'z BTreeMap<RrKey, Rc<RecordSet>>,
@@ -590,6 +692,35 @@ fn look_above<'z>(
     look_beside(alloc, origin, sets, first, record_type, behind, above, has)
 }
 
+/// The same. Mostly the key behind the name tells that the name above exists, and then that one is not copied.
+#[inline(always)]
+fn look_above<'z>(
+    alloc: Global,
+    origin: &LowerName,
+    sets: &'z BTreeMap<RrKey, Rc<RecordSet>>,
+    first: &RrKey,
+    record_type: RecordType,
+    behind: Option<&'z RrKey>,
+    above: Option<&'z [Record]>,
+    has: Features,
+) -> Result<Found<'z>, AllocError>
+    requires least { first.now.record_type ≡ 0 }
+    requires qualified { first.now.name.is_fqdn ≡ true }
+    requires owners { AreOwners origin.now (sets_of sets.now) }
+    requires within { Encloses origin.now.labels first.now.name.labels }
+    requires behind { StandsBehind sets.now first.now (option_copied behind) }
+    requires missing { ¬ (Exists (sets_of sets.now) first.now.name) }
+    requires above { CutAbove (record { origin = origin.now; sets = sets_of sets.now }) first.now.name (option_copied above) }
+    requires features { AreFeatures (record { origin = origin.now; sets = sets_of sets.now }) has }
+    ensures { IfOk result (λ found. Answers (record { origin = origin.now; sets = sets_of sets.now }) first.now.name record_type (outcome_of (sets_of sets.now) first.now.name found)) }
+{
+    // speed: served, a name that is not there
+    if is_bare(&first.name, behind, has) {
+        return Ok(found_missing(above));
+    }
+    look_above_by_name(alloc, origin, sets, first, record_type, behind, above, has)
+}
+
 /// What the zone has for a name in it that exists and owns this.
 fn look_at<'z>(
     origin: &LowerName,
@@ -616,6 +747,24 @@ fn look_at<'z>(
     Ok(find_existing(node, record_type, cut))
 }
 
+/// The records asked for, where the name owns them and neither a DNAME record nor a cut can stand before them.
+#[inline(always)]
+fn plain_answer<'z>(
+    node: &Node<'z>,
+    record_type: RecordType,
+    above: Option<&'z [Record]>,
+    has: Features,
+) -> Option<&'z [Record]>
+    ensures { (zone : Zone) (name : DomainName) → AreFeatures zone has → CutAbove zone name (option_copied above.entry)
+        → option_copied node.now.wanted ≡ rrset zone.sets name record_type → option_copied node.now.servers ≡ rrset zone.sets name type_ns
+        → IfSome result (λ records. Answers zone name record_type (answer records.now)) }
+{
+    if has.dnames || above.is_some() || node.servers.is_some() || is_any(record_type) {
+        return None;
+    }
+    node.wanted
+}
+
 /// What the zone of this origin has for a name in it and a type (RFC 1034 section 4.3.2). No type is below that of the key.
 pub fn look_up<'z>(
     alloc: Global,
@@ -632,11 +781,37 @@ pub fn look_up<'z>(
     requires features { AreFeatures (record { origin = origin.now; sets = sets_of sets.now }) has }
     ensures { IfOk result (λ found. Answers (record { origin = origin.now; sets = sets_of sets.now }) first.now.name record_type (outcome_of (sets_of sets.now) first.now.name found)) }
 {
+    look_up_by(alloc, origin, sets, first, record_type, has, None)
+}
+
+/// The same by the zone's index, if it has one.
+#[inline(always)]
+pub(crate) fn look_up_by<'z>(
+    alloc: Global,
+    origin: &LowerName,
+    sets: &'z BTreeMap<RrKey, Rc<RecordSet>>,
+    first: &RrKey,
+    record_type: RecordType,
+    has: Features,
+    index: Option<&'z Index>,
+) -> Result<Found<'z>, AllocError>
+    requires least { first.now.record_type ≡ 0 }
+    requires qualified { first.now.name.is_fqdn ≡ true }
+    requires owners { AreOwners origin.now (sets_of sets.now) }
+    requires within { Encloses origin.now.labels first.now.name.labels }
+    requires features { AreFeatures (record { origin = origin.now; sets = sets_of sets.now }) has }
+    requires index { IfSome (option_copied index) (IsIndexOf origin.now (sets_of sets.now)) }
+    ensures { IfOk result (λ found. Answers (record { origin = origin.now; sets = sets_of sets.now }) first.now.name record_type (outcome_of (sets_of sets.now) first.now.name found)) }
+{
     let above = cut_above(alloc, sets, origin, &first.name, has)?;
     if let Some(servers) = referral_at_once(above, has) {
         return Ok(Found::Referral(servers));
     }
-    let node = node_at(sets, first, record_type);
+    let node = node_by(index, origin, sets, first, record_type);
+    // speed: served, an address
+    if let Some(records) = plain_answer(&node, record_type, above, has) {
+        return Ok(Found::Answer(records));
+    }
     if is_above(&first.name, node.behind) {
         look_at(origin, sets, &first.name, record_type, node, above, has)
     } else {

@@ -25,6 +25,7 @@ use hickory_wire::{
 use std::alloc::{AllocError, Global};
 
 /// The whole reply to a question. `soa` is the zone's SOA record as it stands in denials, if that was made before.
+#[inline(always)]
 pub fn whole<'z>(
     alloc: Global,
     zone: &'z InMemoryZoneHandler,
@@ -38,7 +39,7 @@ pub fn whole<'z>(
     ensures { StandsFor zone.now query.now result ⊎ (result ≡ Err Memory) }
 {
     let mut reply = refused();
-    answer(alloc, zone, query, has, soa, &mut reply)?;
+    answer(alloc, zone, query, has, soa, None, &mut reply)?;
     Ok(AuthLookup::Whole(reply))
 }
 

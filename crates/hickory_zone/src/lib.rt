@@ -9,6 +9,7 @@ pub mod denials;
 mod features;
 mod find;
 pub mod handled;
+mod index;
 pub mod laws;
 mod redirections;
 mod replies;

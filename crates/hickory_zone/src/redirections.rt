@@ -83,6 +83,7 @@ fn higher<'z>(
 }
 
 /// The highest DNAME records from a name in the zone up, at or above which the zone is not cut.
+#[inline(never)]
 fn top_dname<'z>(
     sets: &'z BTreeMap<RrKey, Rc<RecordSet>>,
     origin: &LowerName,
@@ -127,6 +128,7 @@ pub(crate) fn redirection_from<'z>(
 }
 
 /// What redirects a name in the zone, if something above it does.
+#[inline(always)]
 pub(crate) fn redirection_of<'z>(
     sets: &'z BTreeMap<RrKey, Rc<RecordSet>>,
     origin: &LowerName,

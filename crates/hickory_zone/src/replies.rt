@@ -44,6 +44,7 @@ fn put<'z>(
 }
 
 /// Makes this the reply of records that lie in the zone.
+#[inline(always)]
 fn put_lent<'z>(
     reply: &mut WholeReply<'z>,
     response_code: ResponseCode,
@@ -52,16 +53,15 @@ fn put_lent<'z>(
 )
     ensures { reply.new ≡ whole response_code true answers.now authorities.now [] }
 {
-    *reply = WholeReply {
-        response_code,
-        authoritative: true,
-        answers: RecordList::lent(answers),
-        authorities: RecordList::lent(authorities),
-        additionals: RecordList::empty(),
-    };
+    reply.response_code = response_code;
+    reply.authoritative = true;
+    reply.answers = RecordList::lent(answers);
+    reply.authorities = RecordList::lent(authorities);
+    reply.additionals = RecordList::empty();
 }
 
 /// Makes this the reply where a name has no such records, if the SOA record was made before. Whether it was.
+#[inline(always)]
 fn put_lent_denial<'z>(
     reply: &mut WholeReply<'z>,
     response_code: ResponseCode,
@@ -79,19 +79,20 @@ fn put_lent_denial<'z>(
 }
 
 /// Makes this the reply where what was found is records that name no host, or nothing, and the zone's SOA record was made before. Whether it is one.
+#[inline(always)]
 pub(crate) fn put_at_once<'z>(
-    found: Found<'z>,
+    found: &Found<'z>,
     soa: Option<&'z [Record]>,
     reply: &mut WholeReply<'z>,
 ) -> bool
-    ensures { IsTrue result → (zone : Zone) (low name : DomainName) (t : ℕ) → IfSome (option_copied soa.entry) (λ rs. rs ≡ denial_soa zone) → IsReplyAtOnce zone t name (outcome_of zone.sets low found.entry) reply.new }
+    ensures { IsTrue result → (zone : Zone) (low name : DomainName) (t : ℕ) → IfSome (option_copied soa.entry) (λ rs. rs ≡ denial_soa zone) → IsReplyAtOnce zone t name (outcome_of zone.sets low found.now) reply.new }
 {
     match found {
         Found::Answer(records) => {
-            if !are_hostless(records) {
+            if !are_hostless(*records) {
                 return false;
             }
-            put_lent(reply, ResponseCode::NO_ERROR, records, &[]);
+            put_lent(reply, ResponseCode::NO_ERROR, *records, &[]);
             true
         }
         Found::NoData => put_lent_denial(reply, ResponseCode::NO_ERROR, soa),
@@ -183,6 +184,7 @@ fn put_denial<'z>(
 }
 
 /// Makes this the reply where the answer section has the records of a chain that ends so.
+#[inline(never)]
 pub(crate) fn put_reply<'z>(
     alloc: Global,
     origin: &LowerName,

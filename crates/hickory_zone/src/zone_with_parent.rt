@@ -17,7 +17,7 @@ use hickory_base::errors::{LookupError, UpdateFault};
 use hickory_base::server::{Request, RequestInfo};
 use hickory_base::zone_store::{
     AuthLookup, AxfrPolicy, LookupControlFlow, LookupOptions, Nsec3QueryInfo, NxProofKind,
-    ZoneHandler, ZoneTransfer, ZoneType,
+    WholeReply, ZoneHandler, ZoneTransfer, ZoneType,
 };
 use hickory_wire::{LowerName, LowerQuery, Record, RecordType, ResponseCode, TSigResponseContext};
 use std::alloc::Global;
@@ -160,6 +160,23 @@ impl ZoneHandler for ZoneWithParent {
                 LookupControlFlow::Continue(self.zone.whole(alloc, query)),
                 None,
             ),
+        }
+    }
+
+    #[inline(always)]
+    fn search_whole<'z>(
+        &'z self,
+        alloc: Global,
+        request: &Request,
+        _options: LookupOptions,
+        reply: &mut WholeReply<'z>,
+    ) -> bool {
+        let Ok(info) = request.request_info() else {
+            return false;
+        };
+        match self.asked_above(info.query) {
+            Some(_) => false,
+            None => self.zone.put_whole(alloc, info.query, reply),
         }
     }
 

@@ -1,5 +1,5 @@
--- What the program is started with: options, each with what stands behind it, and then the mode.
-use Rattle.std.specs.Prelude.{◌≡◌, ◌⊎◌, ◌==◌, ◌++◌, ◌∷◌, ◌<◌, ◌≤◌, ◌^◌, [], ℕ, List, Contains, codes, length, map, nat_eq, option_map}
+-- What the program is started with: options, each with what stands behind it if anything does, and then the mode.
+use Rattle.std.specs.Prelude.{◌≡◌, ◌⊎◌, ◌==◌, ◌++◌, ◌∷◌, ◌<◌, ◌≤◌, ◌^◌, [], ℕ, Bool, List, Contains, codes, if◌then◌else◌, length, map, nat_eq, option_map}
 use Rattle.std.specs.Cmp.Lexicographic.{pointwise}
 use Rattle.std.specs.List.{AllByRecursion, AllZip, after_first, before_first, filter, flat_map, position_or_len}
 use Rattle.std.specs.Option.{option_to_list}
@@ -15,9 +15,13 @@ use Rattle.serve_options.specs.declared.arguments.ZoneArgument.{ZoneArgument}
 abbrev pub Options : Type 0
 Options = List (List ℕ × List ℕ)
 
+-- Nothing stands behind this option; in the list of options it stands with an empty text.
+abbrev pub stands_alone : List ℕ → Bool
+stands_alone name = pointwise nat_eq name (codes "--no-groups")
+
 -- their words
 abbrev pub words_of : Options → List (List ℕ)
-words_of options = flat_map (λ option. option.0 ∷ option.1 ∷ []) options
+words_of options = flat_map (λ option. if stands_alone option.0 then option.0 ∷ [] else option.0 ∷ option.1 ∷ []) options
 
 -- what stands behind those of this name, in their order
 abbrev pub behind : List ℕ → Options → List (List ℕ)
@@ -26,7 +30,7 @@ behind name options = map (λ option. option.1) (filter (λ option. pointwise na
 -- the names that an option may have
 abbrev pub option_names : List (List ℕ)
 option_names = codes "--zone" ∷ codes "--blocklist" ∷ codes "--allow" ∷ codes "--deny" ∷ codes "--allow-transfer" ∷ codes "--deny-transfer" ∷ codes "--nsid" ∷ codes "--max-udp"
-    ∷ codes "--keys" ∷ codes "--allow-transfer-key" ∷ codes "--allow-update" ∷ codes "--journal" ∷ []
+    ∷ codes "--keys" ∷ codes "--allow-transfer-key" ∷ codes "--allow-update" ∷ codes "--journal" ∷ codes "--no-groups" ∷ []
 
 -- NAME=FILE: the name of a zone stands before the first `=`, 61, and the file behind it.
 pub record IsZoneText (text : List ℕ) (zone : ZoneArgument) : Type 0 where
@@ -70,8 +74,12 @@ key_files_of settings = option_to_list (option_map (λ file. file.now) settings.
 abbrev pub transfer_keys_of : Settings → List (List ℕ)
 transfer_keys_of settings = map (λ it. it.0.now) settings.transfer_keys.items
 
--- What options say: zones, lists, networks, keys, rules of updates and journals are those that the texts behind their options spell, in their order; `--nsid`, `--max-udp` and
--- `--keys` stand once at most.
+-- `--no-groups`, if it is there: an empty text
+abbrev pub no_groups_of : Settings → List (List ℕ)
+no_groups_of settings = if settings.no_groups then [] ∷ [] else []
+
+-- What options say: zones, lists, networks, keys, rules of updates and journals are those that the texts behind their options spell, in their order; `--nsid`, `--max-udp`,
+-- `--keys` and `--no-groups` stand once at most.
 pub record OptionsSay (options : Options) (settings : Settings) : Type 0 where
   pub known : AllByRecursion (λ option. Contains option_names option.0) options
   pub zones : AllZip IsZoneText (behind (codes "--zone") options) settings.zones.items
@@ -86,6 +94,7 @@ pub record OptionsSay (options : Options) (settings : Settings) : Type 0 where
   pub transfer_keys : transfer_keys_of settings ≡ behind (codes "--allow-transfer-key") options
   pub updates : AllZip IsUpdateText (behind (codes "--allow-update") options) settings.updates.items
   pub journals : AllZip IsZoneText (behind (codes "--journal") options) settings.journals.items
+  pub no_groups : no_groups_of settings ≡ behind (codes "--no-groups") options
 
 -- An option is taken, with what stands behind it: settings that were what options say are what those and it say.
 abbrev pub Takes : List ℕ → List ℕ → Settings → Settings → Type 0
@@ -95,7 +104,7 @@ Takes option text old new = (options : Options) → OptionsSay options old → O
 abbrev pub IsOfOneProcess : Settings → Type 0
 IsOfOneProcess settings = (settings.mode ≡ Lines) ⊎ (settings.journals.items ≡ [])
 
--- What the arguments say: they are options, each with what stands behind it, and the word for the mode.
+-- What the arguments say: they are options, each with what stands behind it if anything does, and the word for the mode.
 pub record ArgumentsSay (arguments : List (List ℕ)) (settings : Settings) : Type 0 where
   pub options : Options
   pub words : arguments ≡ words_of options ++ mode_word settings.mode ∷ []

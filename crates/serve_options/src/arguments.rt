@@ -1,12 +1,15 @@
 //! What the program is started with.
 
-ghost use Rattle.std.specs.Prelude.{◌≡◌, [], IfOk, IfSome, IsNone, OnOk, map, string_bytes};
+ghost use Rattle.std.specs.Prelude.{◌≡◌, [], codes, IfOk, IfSome, IsNone, OnOk, map, string_bytes};
 ghost use Rattle.access_control.specs.NetworkTexts.{IsNetworkText};
 ghost use Rattle.serve_options.specs.Arguments.{ArgumentsSay, IsBound, IsOfOneProcess, IsUpdateText, IsZoneText, OptionsSay, Takes, mode_word};
 
 use access_control::{IpNet, IpNetTextError};
 use std::alloc::{AllocError, AllocFailed, Global};
 use thiserror::Error;
+
+/// The option behind which nothing stands.
+const NO_GROUPS: &str = "--no-groups";
 
 /// How requests come in and replies go out.
 #[derive(Clone, Copy, Debug, PartialEq, Eq)]
@@ -199,6 +202,8 @@ pub struct Settings<'a> {
     pub updates: Vec<UpdateArgument<'a>>,
     /// The journals of zones, in the order of the arguments.
     pub journals: Vec<ZoneArgument<'a>>,
+    /// Whether zones hold no updates: each line is answered before the next is served.
+    pub no_groups: bool,
     /// How requests come in and replies go out.
     pub mode: Mode,
 }
@@ -233,6 +238,7 @@ fn wanted_behind(option: &str) -> Option<Wanted> {
 fn fault_of<'a>(word: &'a str, place: usize) -> ArgumentFault<'a> {
     match word {
         "--version" | "--help" | "-h" => ArgumentFault::NotAlone { place, word },
+        NO_GROUPS => ArgumentFault::NoMode,
         option => match wanted_behind(option) {
             Some(wanted) => ArgumentFault::Alone {
                 place,
@@ -315,8 +321,21 @@ impl<'a> Settings<'a> {
             transfer_keys: Vec::new(alloc),
             updates: Vec::new(alloc),
             journals: Vec::new(alloc),
+            no_groups: false,
             mode: Mode::Lines,
         }
+    }
+
+    /// Takes `--no-groups` at this place.
+    fn put_no_groups(&mut self, place: usize) -> Result<(), ArgumentFault<'a>>
+        ensures { OnOk result (Takes (codes "--no-groups") [] self.old self.new) }
+    {
+        if self.no_groups {
+            let option = NO_GROUPS;
+            return Err(ArgumentFault::Twice { place, option });
+        }
+        self.no_groups = true;
+        Ok(())
     }
 
     /// Takes the option of updates, or of journals, at this place and what stands behind it.
@@ -414,9 +433,15 @@ impl<'a> Settings<'a> {
             if let Some(_) = mode_named(option.as_str()) {
                 return Err(behind_mode(text.as_str(), place.saturating_add(1)));
             }
-            settings.put(option.as_str(), text.as_str(), place)?;
-            place = place.saturating_add(2);
-            rest = others;
+            if option.as_str() == NO_GROUPS {
+                settings.put_no_groups(place)?;
+                place = place.saturating_add(1);
+                rest = &rest[1..];
+            } else {
+                settings.put(option.as_str(), text.as_str(), place)?;
+                place = place.saturating_add(2);
+                rest = others;
+            }
         }
         let [mode] = rest else {
             return Err(ArgumentFault::NoMode);

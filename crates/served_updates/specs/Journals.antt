@@ -1,5 +1,5 @@
 -- The journals of zones that are served.
-use Rattle.std.specs.Prelude.{◌≡◌, ◌∷◌, Option, Some, None, true, false, List}
+use Rattle.std.specs.Prelude.{◌≡◌, ◌⊎◌, ◌∷◌, Option, Some, None, true, false, List}
 use Rattle.either.specs.declared.Either.TheVariants.{Left}
 use Rattle.sqlite_disk.specs.declared.Disk.{Ghosts as DiskGhosts}
 use Rattle.tsig.specs.declared.verifier.TsigVerifier.{TsigVerifier}
@@ -35,3 +35,15 @@ module _ {D : Type 0} (disks : DiskGhosts D) (first second : D) where
     pub taken : ChangesAt old (lower_name apex) (Some before) None between
     pub has : HasJournal before after
     pub put : ChangesAt between (lower_name apex) there (Some after) new
+
+-- The chain of the zone of this name is taken out, and put back as it was.
+pub record IsPutBack {D : Type 0} (name : DomainName) (old new : List (DomainName × UpdatedChain D)) : Type 0 where
+  pub chain : UpdatedChain D
+  pub between : List (DomainName × UpdatedChain D)
+  pub there : Option (UpdatedChain D)
+  pub taken : ChangesAt old name (Some chain) None between
+  pub put : ChangesAt between name there (Some chain) new
+
+-- So it is, or nothing is touched.
+abbrev pub Stays : {D : Type 0} → DomainName → List (DomainName × UpdatedChain D) → List (DomainName × UpdatedChain D) → Type 0
+Stays name old new = IsPutBack name old new ⊎ (new ≡ old)

@@ -4,7 +4,8 @@ ghost use Rattle.std.specs.Prelude.{◌≡◌, IfOk, IsTrue, OnOk};
 ghost use Rattle.durable_updates.specs.OpenErrors.{is_no_journal};
 ghost use Rattle.sqlite_disk.specs.Disk.{Only};
 ghost use Rattle.served_updates.specs.JournalFaults.{tells_no_journal};
-ghost use Rattle.served_updates.specs.Journals.{HasJournal, IsJournalled, OpensJournal};
+ghost use Rattle.served_updates.specs.Journals.{HasJournal, IsJournalled, OpensJournal, Stays};
+ghost use Rattle.wire_names.specs.rr.domain.NameOrder.{lower_name};
 
 use crate::moving::{Handler, Zones};
 use crate::updated_zone::{LEAST_RECORDS, UpdatedZone};
@@ -29,7 +30,18 @@ pub struct Opened {
     pub takes_updates: bool,
 }
 
-/// Why the journal of a zone is not opened.
+/// How the journal of a zone is, behind what was asked of the zone.
+#[derive(Clone, Copy, Debug, PartialEq, Eq)]
+pub enum JournalState {
+    /// It takes updates, or the zone has none.
+    Open,
+    /// It takes no updates any more, as after a write that failed: each is ServFail until it is opened again.
+    Shut,
+    /// It was to be compacted, and could not be, for want of memory or since the zone does not read back. It takes updates, and is compacted once it is twice as long.
+    Long(JournalFault),
+}
+
+/// Why the journal of a zone is not opened, or not compacted.
 #[derive(Clone, Copy, Debug, PartialEq, Eq, Error)]
 pub enum JournalFault {
     /// No zone of this name takes updates.
@@ -105,18 +117,45 @@ fn with_journal<V: Verifier, D: Disk + Drop>(
     }
 }
 
-/// Compacts the journal of a zone; whether it takes updates from then on. A failure of the disk leaves the zone as it is, and is no fault: its queries go on.
+/// How the journal of a zone is.
+fn state_of<V: Verifier, D: Disk + Drop>(zone: &UpdatedZone<V, D>) -> JournalState {
+    if zone.zone.zone().takes_updates() {
+        JournalState::Open
+    } else {
+        JournalState::Shut
+    }
+}
+
+/// Compacts the journal of a zone; how it is from then on. The zone and its differences stay.
+fn compact<V: Verifier, D: Disk + Drop>(alloc: Global, zone: &mut UpdatedZone<V, D>) -> JournalState
+    ensures { zone.new ≡ zone.old }
+{
+    match zone.zone.compact(alloc) {
+        Err(CompactError::Zone(SnapshotError::Memory)) => JournalState::Long(JournalFault::Memory),
+        Err(CompactError::Journal(JournalError::Memory)) => {
+            JournalState::Long(JournalFault::Memory)
+        }
+        Err(CompactError::Zone(SnapshotError::Unreadable)) => {
+            JournalState::Long(JournalFault::NoSnapshot)
+        }
+        _ => state_of(zone),
+    }
+}
+
+/// Compacts the journal of a zone where it is to be; whether it takes updates from then on. A failure of the disk leaves the zone as it is, and is no fault: its
+/// queries go on.
 fn compacted<V: Verifier, D: Disk + Drop>(
     alloc: Global,
     zone: &mut UpdatedZone<V, D>,
 ) -> Result<bool, JournalFault>
     ensures { zone.new ≡ zone.old }
 {
-    match zone.zone.compact(alloc) {
-        Err(CompactError::Zone(SnapshotError::Memory)) => Err(JournalFault::Memory),
-        Err(CompactError::Journal(JournalError::Memory)) => Err(JournalFault::Memory),
-        Err(CompactError::Zone(SnapshotError::Unreadable)) => Err(JournalFault::NoSnapshot),
-        _ => Ok(zone.zone.zone().takes_updates()),
+    if !zone.zone.zone().needs_compaction() {
+        return Ok(zone.zone.zone().takes_updates());
+    }
+    match compact(alloc, zone) {
+        JournalState::Long(fault) => Err(fault),
+        state => Ok(state == JournalState::Open),
     }
 }
 
@@ -149,13 +188,13 @@ fn open_in_chain<D: Disk + Drop>(
     })
 }
 
-/// Opens the journal of the zone of this apex, which takes updates, in two files by turns, as [`IncrementalZone::open`] does, and compacts it: from then on the
-/// zone as it was before counts for nothing, and the files have at most twice what the zone takes and what is updated since. Each update is on the disk before
-/// it is answered (RFC 2136 section 3.5). What the last updates changed that the journal had behind its snapshot is kept, up to as many records of transfers as
-/// the zone of the snapshot has record sets (RFC 1995 section 5), and up to 200 of a smaller one.
+/// Opens the journal of the zone of this apex, which takes updates, in two files by turns, as [`IncrementalZone::open`] does, and compacts it where it is to be, as
+/// `HoldingZone::needs_compaction` tells: where it never was, so that from then on the zone as it was before counts for nothing, and where it is long for its
+/// zone. Each update is on the disk before it is answered (RFC 2136 section 3.5). What the last updates changed that the journal had behind its snapshot is kept,
+/// up to as many records of transfers as the zone of the snapshot has record sets (RFC 1995 section 5), and up to 200 of a smaller one.
 ///
-/// Where one of the files is no journal's, nothing is written to it. A disk that fails while the journal is compacted is told by `takes_updates`: the zone is served as its journal says, and each update is ServFail. After an
-/// error the zone may be gone.
+/// Where one of the files is no journal's, nothing is written to it. A disk that fails while the journal is compacted is told by `takes_updates`: the zone is
+/// served as its journal says, and each update is ServFail. After an error the zone may be gone.
 pub fn open_journal<D: Disk + Drop>(
     alloc: Global,
     zones: &mut Zones<D>,
@@ -196,18 +235,85 @@ pub fn has_updates<D: Disk + Drop>(
     }
 }
 
-/// Whether the zone of this apex has a journal that takes no updates any more, as after a write that failed: each is ServFail until the journal is opened again.
-pub fn is_shut<D: Disk + Drop>(
-    alloc: Global,
+/// How the journal of the zone at a name is, and whether it is to be compacted.
+fn state_at<D: Disk + Drop>(
     zones: &Zones<D>,
-    apex: &Name,
-) -> Result<bool, AllocError> {
-    let name = LowerName::new(alloc, apex)?;
-    let Some(chain) = zones.find(&name)? else {
-        return Ok(false);
+    name: &LowerName,
+) -> Result<(JournalState, bool), AllocError> {
+    let Some(chain) = zones.find(name)? else {
+        return Ok((JournalState::Open, false));
     };
     match chain.first() {
-        Some(Either::Left(zone)) => Ok(!zone.zone.zone().takes_updates()),
-        _ => Ok(false),
+        Some(Either::Left(zone)) => Ok((state_of(zone), zone.zone.zone().needs_compaction())),
+        _ => Ok((JournalState::Open, false)),
     }
+}
+
+/// A handler behind a compaction of its journal, if it has one, and how that is then.
+fn compacted_handler<D: Disk + Drop>(
+    alloc: Global,
+    handler: Handler<D>,
+) -> (Handler<D>, JournalState)
+    ensures { result.0 ≡ handler }
+{
+    match handler {
+        Either::Left(zone) => {
+            let mut zone = zone;
+            let state = compact(alloc, &mut zone);
+            (Either::Left(zone), state)
+        }
+        Either::Right(other) => (Either::Right(other), JournalState::Open),
+    }
+}
+
+/// Compacts the journal of the first handler of a chain; how it is then. After an error the handler is gone.
+fn compact_first<D: Disk + Drop>(
+    alloc: Global,
+    chain: &mut Vec<Handler<D>>,
+) -> Result<JournalState, AllocError>
+    ensures { OnOk result (chain.new.items ≡ chain.old.items) }
+{
+    if chain.is_empty() {
+        return Ok(JournalState::Open);
+    }
+    let (handler, state) = compacted_handler(alloc, chain.remove(0));
+    chain.insert(0, handler)?;
+    Ok(state)
+}
+
+/// Compacts the journal of the zone at a name; how it is then. After an error the zone may be gone.
+fn compact_at<D: Disk + Drop>(
+    alloc: Global,
+    zones: &mut Zones<D>,
+    name: LowerName,
+) -> Result<JournalState, AllocError>
+    ensures stays { OnOk result (Stays name zones.old.zones zones.new.zones) }
+    ensures others { zones.new ≡ record zones.old { zones = zones.new.zones } }
+{
+    let Some(mut chain) = zones.remove(&name) else {
+        return Ok(JournalState::Open);
+    };
+    let state = compact_first(alloc, &mut chain)?;
+    match zones.upsert(name, chain) {
+        Ok(_) => Ok(state),
+        Err(_) => Err(AllocError),
+    }
+}
+
+/// Compacts the journal of the zone of this apex where it is to be, as `HoldingZone::needs_compaction` tells, and tells how it is then. The zone and the differences that
+/// it keeps stay, whatever comes of it. Where it is not to be compacted the zone is looked at alone. After an error the zone may be gone.
+pub fn compact_due<D: Disk + Drop>(
+    alloc: Global,
+    zones: &mut Zones<D>,
+    apex: &Name,
+) -> Result<JournalState, AllocError>
+    ensures stays { OnOk result (Stays (lower_name apex.now) zones.old.zones zones.new.zones) }
+    ensures others { zones.new ≡ record zones.old { zones = zones.new.zones } }
+{
+    let name = LowerName::new(alloc, apex)?;
+    let (state, is_due) = state_at(zones, &name)?;
+    if !is_due {
+        return Ok(state);
+    }
+    compact_at(alloc, zones, name)
 }

@@ -20,7 +20,7 @@ use hickory_catalog::catalog::Catalog;
 use hickory_catalog::signer::ReplySigner;
 use hickory_server::server::serve::ServeError;
 use hickory_server::server::{Answer, Rules, Server};
-use hickory_wire::{Name, ProtoError, Protocol};
+use hickory_wire::{Items, Name, Octets, ProtoError, Protocol};
 use std::alloc::{AllocError, Global};
 use std::mem;
 use std::net::{IpAddr, Ipv4Addr, SocketAddr};
@@ -74,6 +74,7 @@ fn is_request(keys: &Keys, rules: &Rules, bytes: &[u8], src: SocketAddr) -> bool
 }
 
 /// Whether a message is judged.
+#[inline(always)]
 fn is_for_judging(keys: &Keys, rules: &Rules, bytes: &[u8], src: SocketAddr) -> bool
     ensures { IsTrue result ↔ IsForJudging keys.now rules.now bytes.now src }
 {
@@ -206,6 +207,7 @@ impl<S: ReplySigner, H: ZoneHandler> SignedServer<S, H> {
     }
 
     /// Serves a message that was judged, and has a signature.
+    #[inline(never)]
     fn serve_signed(
         &mut self,
         alloc: Global,
@@ -280,9 +282,66 @@ impl<S: ReplySigner, H: ZoneHandler> SignedServer<S, H> {
         ensures ok { IfOk result (λ answer. ServedWithKeys self.old.keys self.old.transfer_keys.items self.old.server.rules (server_of H.ZoneHandler S.signature_for self.old.server.catalog) (arrival bytes.now src protocol now) answer self.new.server.catalog.zones) }
         ensures err { IfErr result (λ e. LeavesWithKeys self.old.transfer_keys.items self.old.server.rules (server_of H.ZoneHandler S.signature_for self.old.server.catalog) (arrival bytes.now src protocol now) e self.new.server.catalog.zones) }
     {
+        self.serve_reusing(alloc, bytes, src, protocol, now, Items::new(alloc))
+    }
+
+    /// Serves one message as `serve` does. The memory of these replies, as those to an earlier message, is used again for
+    /// those that the zones give to this one, where it is not judged.
+    // speed: served, an address
+    #[inline(always)]
+    pub fn serve_reusing(
+        &mut self,
+        alloc: Global,
+        bytes: &[u8],
+        src: SocketAddr,
+        protocol: Protocol,
+        now: u64,
+        spare: Items<Octets>,
+    ) -> Result<Answer, ServeError>
+        ensures keys { self.new.keys ≡ self.old.keys }
+        ensures names { self.new.transfer_keys ≡ self.old.transfer_keys }
+        ensures rules { self.new.server.rules ≡ self.old.server.rules }
+        ensures others { self.new.server.catalog
+            ≡ record self.old.server.catalog { zones = self.new.server.catalog.zones } }
+        ensures ok { IfOk result (λ answer. ServedWithKeys
+            self.old.keys self.old.transfer_keys.items self.old.server.rules
+            (server_of H.ZoneHandler S.signature_for self.old.server.catalog)
+            (arrival bytes.now src protocol now) answer self.new.server.catalog.zones) }
+        ensures err { IfErr result (λ e. LeavesWithKeys self.old.transfer_keys.items self.old.server.rules
+            (server_of H.ZoneHandler S.signature_for self.old.server.catalog)
+            (arrival bytes.now src protocol now) e self.new.server.catalog.zones) }
+    {
         if !is_for_judging(&self.keys, &self.server.rules, bytes, src) {
-            return self.server.serve(alloc, bytes, src, protocol, now);
+            let server = &mut self.server;
+            return server.serve_reusing(alloc, bytes, src, protocol, now, spare);
         }
+        self.serve_judged(alloc, bytes, src, protocol, now)
+    }
+
+    /// Serves one message that is judged.
+    #[inline(never)]
+    fn serve_judged(
+        &mut self,
+        alloc: Global,
+        bytes: &[u8],
+        src: SocketAddr,
+        protocol: Protocol,
+        now: u64,
+    ) -> Result<Answer, ServeError>
+        requires judging { IsForJudging self.old.keys self.old.server.rules bytes.now src }
+        ensures keys { self.new.keys ≡ self.old.keys }
+        ensures names { self.new.transfer_keys ≡ self.old.transfer_keys }
+        ensures rules { self.new.server.rules ≡ self.old.server.rules }
+        ensures others { self.new.server.catalog
+            ≡ record self.old.server.catalog { zones = self.new.server.catalog.zones } }
+        ensures ok { IfOk result (λ answer. ServedWithKeys
+            self.old.keys self.old.transfer_keys.items self.old.server.rules
+            (server_of H.ZoneHandler S.signature_for self.old.server.catalog)
+            (arrival bytes.now src protocol now) answer self.new.server.catalog.zones) }
+        ensures err { IfErr result (λ e. LeavesWithKeys self.old.transfer_keys.items self.old.server.rules
+            (server_of H.ZoneHandler S.signature_for self.old.server.catalog)
+            (arrival bytes.now src protocol now) e self.new.server.catalog.zones) }
+    {
         let Ok(judgement) = judge(alloc, &self.keys, bytes, now) else {
             return Err(ServeError::Memory);
         };

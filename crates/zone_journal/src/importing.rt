@@ -4,31 +4,15 @@ use crate::compaction::{fault_of_files, fault_of_opening};
 use crate::fault::Fault;
 use crate::zone::Zone;
 use durable_updates::JournalledZone;
+use hickory_base::zone_store::InMemoryZoneHandler;
 use hickory_base::zone_store::serials::is_greater;
-use hickory_base::zone_store::{AxfrPolicy, InMemoryZoneHandler, ZoneType};
-use hickory_server::server::NoKeys;
 use hickory_server::store::file::RecordsError;
-use hickory_store::sqlite::SqliteZoneHandler;
-use hickory_wire::{LowerName, Name};
 use sqlite_disk::{Disk, Files};
 use sqlite_std_file::{Unknown, open};
-use std::alloc::{AllocError, Global};
-use std::collections::BTreeMap;
+use std::alloc::Global;
 use std::io;
 use update_journal::Journal;
 use zone_import::{ImportError, Imported, import, is_same_zone, with_serial};
-
-/// A zone without records, whose place those of a snapshot take.
-pub fn empty_zone(alloc: Global, origin: &Name) -> Result<Zone, AllocError> {
-    let origin = LowerName::new(alloc, origin)?;
-    let zone = InMemoryZoneHandler::new(
-        origin,
-        BTreeMap::new(alloc),
-        ZoneType::Primary,
-        AxfrPolicy::Deny,
-    );
-    Ok(SqliteZoneHandler::new(zone, AxfrPolicy::Deny, false, NoKeys))
-}
 
 /// Why a zone is not turned into one of this serial, where it has another one.
 fn fault_of_import(error: &ImportError, zone: u32, other: u32) -> Fault {

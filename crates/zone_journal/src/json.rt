@@ -1,9 +1,10 @@
 //! What the entries of a journal are, as objects of JSON (RFC 8259), one in a line.
 
 use crate::fault::Fault;
+use crate::serials::Serials;
 use hickory_base::server::Request;
 use hickory_base::update_request::UpdateRequest;
-use hickory_wire::{LowerName, Record};
+use hickory_wire::{LowerName, Record, TSIG};
 use journal_entries::{Entry, zone_of};
 use std::alloc::{AllocError, Global};
 
@@ -42,31 +43,48 @@ fn array(alloc: Global, records: &[Record]) -> Result<String, AllocError> {
     Ok(string)
 }
 
+/// The members of an object that say by which key a request was signed and when, in seconds since 1970, each behind a comma; none where it was not.
+fn signature_members(
+    alloc: Global,
+    signature: Option<&Record<TSIG>>,
+) -> Result<String, AllocError> {
+    let Some(signature) = signature else {
+        return Ok(String::new(alloc));
+    };
+    let name = format!(in alloc; "{}", signature.name)?;
+    let name = quoted(alloc, &name)?;
+    format!(in alloc; ", \"key\": {name}, \"signed\": {}", signature.rdata.time)
+}
+
+/// The members of an object that say which serials there are before an update and behind it, each behind a comma; none where they are not known.
+fn serial_members(alloc: Global, serials: Option<Serials>) -> Result<String, AllocError> {
+    let Some(Serials { before, behind }) = serials else {
+        return Ok(String::new(alloc));
+    };
+    format!(in alloc; ", \"serial_before\": {before}, \"serial\": {behind}")
+}
+
 /// The members of an object that say what a request asks for.
 fn update_members(
     alloc: Global,
     request: &Request,
     zone: &LowerName,
+    serials: Option<Serials>,
 ) -> Result<String, AllocError> {
     let zone = format!(in alloc; "{zone}")?;
     let zone = quoted(alloc, &zone)?;
+    let signature = signature_members(alloc, request.message().signature())?;
+    let serials = serial_members(alloc, serials)?;
     let records = array(alloc, request.message().updates())?;
-    match request.message().signature() {
-        None => format!(in alloc; "\"kind\": \"update\", \"zone\": {zone}, \"records\": {records}"),
-        Some(key) => {
-            let name = format!(in alloc; "{}", key.name)?;
-            let name = quoted(alloc, &name)?;
-            format!(in alloc;
-                "\"kind\": \"update\", \"zone\": {zone}, \"key\": {name}, \"records\": {records}"
-            )
-        }
-    }
+    format!(in alloc;
+        "\"kind\": \"update\", \"zone\": {zone}{signature}{serials}, \"records\": {records}"
+    )
 }
 
 /// The members of an object that say what an entry is.
-fn members(alloc: Global, entry: &Entry) -> Result<String, AllocError> {
+fn members(alloc: Global, entry: &Entry, serials: Option<Serials>) -> Result<String, AllocError> {
     match (entry, zone_of(entry)) {
-        (Entry::Update(request), Some(zone)) => update_members(alloc, request, zone),
+        (Entry::Update(request), Some(zone)) => update_members(alloc, request, zone, serials),
         (Entry::Generation(generation), _) => {
             format!(in alloc; "\"kind\": \"generation\", \"generation\": {generation}")
         }
@@ -79,15 +97,16 @@ fn members(alloc: Global, entry: &Entry) -> Result<String, AllocError> {
     }
 }
 
-/// Prints an entry by its number, from 1 on, its place and its length, as an object.
+/// Prints an entry by its number, from 1 on, its place and its length, an update with the serials if they are known, as an object.
 pub fn print_object<R: Print + Alloc<A = Global>>(
     rt: &R,
     number: usize,
     place: usize,
     len: usize,
     entry: &Entry,
+    serials: Option<Serials>,
 ) -> Result<(), Fault> {
-    let members = members(rt.alloc(), entry)?;
+    let members = members(rt.alloc(), entry, serials)?;
     let told = println!(rt;
         "{{\"entry\": {number}, \"place\": {place}, \"bytes\": {len}, {members}}}"
     );

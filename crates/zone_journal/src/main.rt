@@ -1,8 +1,8 @@
 //! What stands in a journal of updates.
 //!
-//! `zone_journal list FILE` prints its entries with the records of their updates, `zone_journal check FILE` whether it is whole, and
-//! `zone_journal zone ORIGIN FILE --zone-file ZONE` the records of the zone at its end, or at a serial behind `--serial`; with `--json`
-//! `list` prints an object of JSON for each entry. These write no file, and lock none. `zone_journal compact ORIGIN FILE --zone-file ZONE`
+//! `zone_journal list FILE` prints its entries with the records of their updates and the serials that these lead to, with `--json` an
+//! object of JSON for each, `zone_journal check FILE` whether it is whole, and `zone_journal zone ORIGIN FILE --zone-file ZONE` the records
+//! of the zone at its end, or at a serial behind `--serial`. These write no file, and lock none. `zone_journal compact ORIGIN FILE --zone-file ZONE`
 //! locks FILE and FILE-wal, the two files of a journal, and compacts it, and `zone_journal import ORIGIN FILE --zone-file ZONE` turns its zone into the one of
 //! ZONE, as one update. `zone_journal --version` prints its name and version, and
 //! `zone_journal --help` how it is started.
@@ -20,6 +20,7 @@ mod entries;
 mod fault;
 mod importing;
 mod json;
+mod serials;
 mod zone;
 mod zone_file;
 
@@ -27,9 +28,10 @@ use crate::checks::{check_entries, print_ending, status_of};
 use crate::compaction::compact;
 use crate::entries::print_entry;
 use crate::fault::{Fault, fault_of_file};
-use crate::importing::{empty_zone, import_zone, print_imported};
+use crate::importing::{import_zone, print_imported};
 use crate::json::print_object;
-use crate::zone::{print_zone, with_entries, zone_of_file};
+use crate::serials::{Followed, Serials};
+use crate::zone::{empty_zone, print_zone, with_entries, zone_of_file};
 use crate::zone_file::read_zone_of;
 use clap::error::ErrorKind;
 use clap::{Arg, ArgAction, ArgMatches, Command, Error};
@@ -193,29 +195,33 @@ fn print_one<R: Print + Alloc<A = Global>>(
     place: usize,
     len: usize,
     entry: &Entry,
+    serials: Option<Serials>,
 ) -> Result<(), Fault> {
     if is_json {
-        return print_object(rt, number, place, len, entry);
+        return print_object(rt, number, place, len, entry, serials);
     }
-    match print_entry(rt, number, place, len, entry) {
+    match print_entry(rt, number, place, len, entry, serials) {
         Ok(()) => Ok(()),
         Err(_) => Err(Fault::Write),
     }
 }
 
-/// Prints the entries.
+/// Prints the entries, updates with the serials where the journal tells of these.
 fn print_entries<R: Print + Alloc<A = Global>>(
     rt: &R,
     entries: &[Vec<u8>],
     is_json: bool,
 ) -> Result<(), Fault> {
     let generation = generation(entries);
+    let mut followed = Followed::new();
     let mut number: usize = 1;
     let mut place: usize = 0;
     let mut part = Part::First;
     for bytes in entries {
         let entry = entry_of(rt.alloc(), bytes, part, generation)?;
-        print_one(rt, is_json, number, place, bytes.len(), &entry)?;
+        let front = entries.get(..number).unwrap_or(entries);
+        let serials = followed.step(rt.alloc(), &entry, front)?;
+        print_one(rt, is_json, number, place, bytes.len(), &entry, serials)?;
         number = number.saturating_add(1);
         place = behind(place, bytes.len());
         part = part.behind(&entry);

@@ -3,16 +3,29 @@
 use crate::fault::Fault;
 use crate::zone_file::read_zone_of;
 use durable_updates::{recall, recall_to};
-use hickory_base::zone_store::{AxfrPolicy, RecordSet};
+use hickory_base::zone_store::{AxfrPolicy, InMemoryZoneHandler, RecordSet, ZoneType};
 use hickory_server::server::NoKeys;
 use hickory_store::sqlite::SqliteZoneHandler;
-use hickory_wire::Name;
-use std::alloc::Global;
+use hickory_wire::{LowerName, Name};
+use std::alloc::{AllocError, Global};
+use std::collections::BTreeMap;
 use std::io;
 use std::rt::Files;
 
 /// A zone that nobody may change by a request, for the entries of a journal.
 pub type Zone = SqliteZoneHandler<NoKeys>;
+
+/// A zone without records, whose place those of a snapshot take.
+pub fn empty_zone(alloc: Global, origin: &Name) -> Result<Zone, AllocError> {
+    let origin = LowerName::new(alloc, origin)?;
+    let zone = InMemoryZoneHandler::new(
+        origin,
+        BTreeMap::new(alloc),
+        ZoneType::Primary,
+        AxfrPolicy::Deny,
+    );
+    Ok(SqliteZoneHandler::new(zone, AxfrPolicy::Deny, false, NoKeys))
+}
 
 /// The zone of a zone file.
 pub fn zone_of_file<R: Files + Eprint + Alloc<A = Global>>(

@@ -34,9 +34,10 @@ module _ {H : Type 0} (begins settles : List (DomainName × List H) → List (Do
     as_one : {held ahead zones : List (DomainName × List H)} → begins service.server.zones held → EachServed (over service held) lines written ahead → settles ahead zones
         → GroupServed service lines written zones
 
-  -- What becomes of lines, group by group, each over the zones as those before it left them.
+module _ {H : Type 0} (begins settles tends : List (DomainName × List H) → List (DomainName × List H) → Type 0) where
+  -- What becomes of lines, group by group, each over the zones as those before it left them, which are tended behind each.
   pub data LinesServed (service : Service H) : List (List ℕ) → List ℕ → List (DomainName × List H) → Type 0 where
     none : LinesServed service [] [] service.server.zones
-    more : (lines group : List (List ℕ)) (written back : List ℕ) {between zones : List (DomainName × List H)} → LinesServed service lines written between
-        → GroupServed (over service between) group back zones
+    more : (lines group : List (List ℕ)) (written back : List ℕ) {between behind zones : List (DomainName × List H)} → LinesServed service lines written between
+        → GroupServed begins settles (over service between) group back behind → tends behind zones
         → LinesServed service (lines ++ group) (written ++ back) zones

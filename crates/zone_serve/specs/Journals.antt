@@ -3,7 +3,7 @@ use Rattle.std.specs.Prelude.{◌++◌, ◌∷◌, [], List}
 use Rattle.sqlite_disk.specs.declared.Disk.{Ghosts as DiskGhosts}
 use Rattle.wire_names.specs.rr.domain.DomainName.{DomainName}
 use Rattle.served_zones.specs.ServedZones.{IsApexText}
-use Rattle.served_updates.specs.Journals.{OpensJournal}
+use Rattle.served_updates.specs.Journals.{OpensJournal, Stays}
 use Rattle.served_updates.specs.Moved.{UpdatedChain}
 use Rattle.serve_options.specs.declared.arguments.ZoneArgument.{ZoneArgument}
 
@@ -21,3 +21,8 @@ module _ {D : Type 0} (disks : DiskGhosts D) where
     none : {zones : List (DomainName × UpdatedChain D)} → AreJournalled [] zones zones
     more : {those : List ZoneArgument} {old between new : List (DomainName × UpdatedChain D)} (argument : ZoneArgument)
         → AreJournalled those old between → IsJournalledBy argument between new → AreJournalled (those ++ argument ∷ []) old new
+
+-- The chains of some zones are taken out and put back as they were, one after the other; all else is untouched.
+pub data AllStay {D : Type 0} : List (DomainName × UpdatedChain D) → List (DomainName × UpdatedChain D) → Type 0 where
+  none : {zones : List (DomainName × UpdatedChain D)} → AllStay zones zones
+  more : {old between new : List (DomainName × UpdatedChain D)} (name : DomainName) → AllStay old between → Stays name between new → AllStay old new

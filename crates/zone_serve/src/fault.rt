@@ -146,6 +146,26 @@ pub enum Fault {
     Write,
 }
 
+/// Why an input is served no further. It is no fault of a file, so that it is small.
+// speed: served, an address
+#[derive(Clone, Copy)]
+pub enum Ended {
+    /// The peer's address may not use the server.
+    Denied,
+    /// A message is itself a response.
+    Response,
+    /// The bytes of a message begin with none (RFC 1035 section 4.1).
+    Unreadable,
+    /// The input gives no message where one is wanted.
+    Stream(StreamFault),
+    /// Memory was refused.
+    Memory,
+    /// The system tells no time.
+    Clock,
+    /// The output takes nothing.
+    Write,
+}
+
 impl Fault {
     /// The status that tells it.
     pub fn status(self) -> u8 {
@@ -158,10 +178,11 @@ impl Fault {
             Fault::UpdateZone { .. } | Fault::ZoneBelow { .. } => 2,
             Fault::JournalZone { .. } | Fault::JournalTwice { .. } => 2,
             Fault::Memory | Fault::Stream(StreamFault::Memory) => 3,
-            Fault::Clock | Fault::Read | Fault::Write | Fault::Unwritten { .. } => 4,
+            Fault::Clock | Fault::Read | Fault::Write => 4,
             Fault::Stream(StreamFault::Read) => 4,
             Fault::ZoneTwice { .. } | Fault::Zone { .. } | Fault::List { .. } => 5,
             Fault::Keys { .. } | Fault::Journal { .. } => 5,
+            Fault::Unwritten { .. } => 6,
         }
     }
 
@@ -189,5 +210,26 @@ impl<T: Drop> From<AllocFailed<T>> for Fault {
 impl From<StreamFault> for Fault {
     fn from(e: StreamFault) -> Fault {
         Fault::Stream(e)
+    }
+}
+
+impl From<StreamFault> for Ended {
+    fn from(e: StreamFault) -> Ended {
+        Ended::Stream(e)
+    }
+}
+
+impl From<Ended> for Fault {
+    #[inline(never)]
+    fn from(e: Ended) -> Fault {
+        match e {
+            Ended::Denied => Fault::Denied,
+            Ended::Response => Fault::Response,
+            Ended::Unreadable => Fault::Unreadable,
+            Ended::Stream(e) => Fault::Stream(e),
+            Ended::Memory => Fault::Memory,
+            Ended::Clock => Fault::Clock,
+            Ended::Write => Fault::Write,
+        }
     }
 }

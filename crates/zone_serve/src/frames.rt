@@ -1,8 +1,7 @@
 //! Messages in a stream, each behind its length in two bytes (RFC 1035 section 4.2.2).
 
-ghost use Rattle.std.specs.Prelude.{◌≡◌, ◌<◌, IfOk, length};
+ghost use Rattle.std.specs.Prelude.{◌≡◌, ◌<◌, IfOk, None, OnOk, Some, if◌then◌else◌, length};
 ghost use Rattle.std.specs.Io.KnownBytes.{Consumes, IsAtEnd};
-ghost use Rattle.std.specs.Option.{option_map};
 ghost use Rattle.zone_serve.specs.Frames.{Filled, GivesNext, IsFrame};
 
 use std::alloc::{AllocError, AllocFailed, Global};
@@ -60,15 +59,20 @@ fn fill<R: Read>(reader: &mut R, buffer: &mut [u8]) -> Result<usize, StreamFault
     Err(StreamFault::Read)
 }
 
-/// The next bytes of a stream, so many.
-fn message_of<R: Read>(alloc: Global, reader: &mut R, size: usize) -> Result<Vec<u8>, StreamFault>
-    ensures { IfOk result (λ message. (length message.items ≡ size) × Consumes (R.remaining reader.old) (R.remaining reader.new) message.items) }
+/// Puts the next bytes of a stream, so many, in the place of others. After an error nothing is known of either.
+fn read_message<R: Read>(
+    reader: &mut R,
+    size: usize,
+    message: &mut Vec<u8>,
+) -> Result<(), StreamFault>
+    ensures { OnOk result ((length message.new.items ≡ size) ×
+        Consumes (R.remaining reader.old) (R.remaining reader.new) message.new.items) }
 {
-    let mut message = vec![in alloc; 0; size]?;
-    if fill(reader, &mut message)? < size {
+    message.resize(size, 0)?;
+    if fill(reader, message)? < size {
         return Err(StreamFault::Partial);
     }
-    Ok(message)
+    Ok(())
 }
 
 /// The next bytes of a reader: so many, or all that are left.
@@ -97,25 +101,30 @@ pub fn datagram<R: Read>(alloc: Global, reader: &mut R) -> Result<Vec<u8>, Strea
     }
 }
 
-/// The next message of a stream, or `None` at its end. No byte behind the message is read.
-pub fn next_message<R: Read>(alloc: Global, reader: &mut R) -> Result<Option<Vec<u8>>, StreamFault>
-    ensures { IfOk result (λ message. GivesNext (R.remaining reader.old) (R.remaining reader.new) (option_map (λ v. v.items) message)) }
+/// Puts the next message of a stream in the place of other bytes, whose memory is used again; whether there is one before
+/// the stream's end. No byte behind the message is read.
+// speed: served, an address
+pub fn next_message_in<R: Read>(reader: &mut R, message: &mut Vec<u8>) -> Result<bool, StreamFault>
+    ensures { IfOk result (λ found. GivesNext (R.remaining reader.old) (R.remaining reader.new)
+        (if found then Some message.new.items else None)) }
 {
     let mut length = [0u8; 2];
     let count = fill(reader, &mut length)?;
     match &length[..count] {
-        [] => Ok(None),
+        [] => Ok(false),
         [high, low] => {
             let size = 256 * usize::from(*high) + usize::from(*low);
-            Ok(Some(message_of(alloc, reader, size)?))
+            read_message(reader, size, message)?;
+            Ok(true)
         }
         _ => Err(StreamFault::Partial),
     }
 }
 
-/// A message behind its length.
-pub fn framed(alloc: Global, message: &[u8]) -> Result<Vec<u8>, StreamFault>
-    ensures { IfOk result (λ framed. IsFrame framed.items message.now) }
+/// Puts a message behind its length in the place of other bytes, whose memory is used again.
+// speed: served, an address
+pub fn put_framed(framed: &mut Vec<u8>, message: &[u8]) -> Result<(), StreamFault>
+    ensures { OnOk result (IsFrame framed.new.items message.now) }
 {
     let (Ok(high), Ok(low)) = (
         u8::try_from(message.len() / 256),
@@ -123,9 +132,10 @@ pub fn framed(alloc: Global, message: &[u8]) -> Result<Vec<u8>, StreamFault>
     ) else {
         return Err(StreamFault::TooLong);
     };
-    let mut framed = Vec::with_capacity(alloc, 2 + message.len())?;
+    framed.clear();
+    framed.reserve(2 + message.len())?;
     framed.push(high)?;
     framed.push(low)?;
     framed.extend_from_slice(message)?;
-    Ok(framed)
+    Ok(())
 }

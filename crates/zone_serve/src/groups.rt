@@ -60,10 +60,17 @@ pub trait Holder<S: ReplySigner, H: ZoneHandler> {
         ensures others { catalog.new ≡ record catalog.old { zones = catalog.new.zones } };
 }
 
-/// Looks at a server behind each group of lines that it served.
+/// Looks after the zones of a server behind each group of lines that it served.
 pub trait Watch<S: ReplySigner, H: ZoneHandler> {
-    /// A group was served.
-    fn after_lines(&mut self, server: &SignedServer<S, H>);
+    ghost use Rattle.std.specs.Prelude.{◌≡◌, List, OnOk};
+    ghost use Rattle.wire_names.specs.rr.domain.DomainName.{DomainName};
+
+    ghost tends: { List (DomainName × List H) → List (DomainName × List H) → Type 0 };
+
+    /// A group was served: does what is to be done to the zones then.
+    fn after_lines(&mut self, catalog: &mut Catalog<S, H>) -> Result<(), Fault>
+        ensures tended { OnOk result (tends catalog.old.zones catalog.new.zones) }
+        ensures others { catalog.new ≡ record catalog.old { zones = catalog.new.zones } };
 }
 
 /// What is told of a line, and whether it tells a message.
@@ -211,19 +218,26 @@ fn next_group<R: LinesAtHand>(alloc: Global, reader: &mut R) -> Result<Vec<Vec<u
 }
 
 /// Serves the lines of a reader, until it ends, in groups of those that are at hand: the number of the first that tells no message, if there is one.
-fn serve_groups<S: ReplySigner, H: ZoneHandler, R: LinesAtHand, W: Write, O: Holder<S, H>>(
+fn serve_groups<
+    S: ReplySigner,
+    H: ZoneHandler,
+    R: LinesAtHand,
+    W: Write,
+    O: Holder<S, H>,
+    T: Watch<S, H>,
+>(
     alloc: Global,
     clock: &impl Clock,
     server: &mut SignedServer<S, H>,
     reader: &mut R,
     writer: &mut W,
     holder: &O,
-    watch: &mut impl Watch<S, H>,
+    watch: &mut T,
 ) -> Result<Option<u64>, Fault>
     ensures stays { Stays server.old server.new }
     ensures served { OnOk result (IfSome (R.remaining reader.old) (λ input. (lines : List (List ℕ)) × (written : List ℕ) ×
         AreLines input lines [] ×
-        LinesServed (O.begins holder.now) (O.settles holder.now) (service_of H.ZoneHandler S.signature_for server.old) lines written server.new.server.catalog.zones ×
+        LinesServed (O.begins holder.now) (O.settles holder.now) T.tends (service_of H.ZoneHandler S.signature_for server.old) lines written server.new.server.catalog.zones ×
         Appends (W.contents writer.old) (W.contents writer.new) written)) }
 {
     let mut bad = None;
@@ -236,7 +250,7 @@ fn serve_groups<S: ReplySigner, H: ZoneHandler, R: LinesAtHand, W: Write, O: Hol
         let first_bad = serve_group(alloc, clock, server, holder, &lines, writer)?;
         bad = bad.or(number_of(before, first_bad));
         before = before.saturating_add(lines.len() as u64);
-        watch.after_lines(server);
+        watch.after_lines(&mut server.server.catalog)?;
     }
     Err(Fault::Read)
 }
@@ -250,21 +264,28 @@ fn number_of(before: u64, place: Option<usize>) -> Option<u64> {
 }
 
 /// Serves the lines of an input, until it ends, in groups of those that are at hand together, 64 at most: where `holder` has zones hold the updates of a group, these
-/// are written before a line of it is answered, and all its answers are in memory until then; and `watch` looks at the server behind each group. The number of the
+/// are written before a line of it is answered, and all its answers are in memory until then; and `watch` looks after the zones behind each group. The number of the
 /// first line that tells no message, if there is one; the first line is 1. Where held updates are not written, nothing of the group is answered.
-pub fn serve_lines<S: ReplySigner, H: ZoneHandler, R: Read, W: Write, O: Holder<S, H>>(
+pub fn serve_lines<
+    S: ReplySigner,
+    H: ZoneHandler,
+    R: Read,
+    W: Write,
+    O: Holder<S, H>,
+    T: Watch<S, H>,
+>(
     alloc: Global,
     clock: &impl Clock,
     server: &mut SignedServer<S, H>,
     reader: &mut R,
     writer: &mut W,
     holder: &O,
-    watch: &mut impl Watch<S, H>,
+    watch: &mut T,
 ) -> Result<Option<u64>, Fault>
     ensures stays { Stays server.old server.new }
     ensures served { OnOk result (IfSome (R.remaining reader.old) (λ input. (lines : List (List ℕ)) × (written : List ℕ) ×
         AreLines input lines [] ×
-        LinesServed (O.begins holder.now) (O.settles holder.now) (service_of H.ZoneHandler S.signature_for server.old) lines written server.new.server.catalog.zones ×
+        LinesServed (O.begins holder.now) (O.settles holder.now) T.tends (service_of H.ZoneHandler S.signature_for server.old) lines written server.new.server.catalog.zones ×
         Appends (W.contents writer.old) (W.contents writer.new) written)) }
 {
     let mut reader = match BufReader::with_capacity(alloc, READ_AHEAD, reader) {

@@ -1,6 +1,6 @@
 //! Zones with journals, which hold the updates of lines that are at hand together.
 
-ghost use Rattle.std.specs.Prelude.{◌≡◌, IfOk};
+ghost use Rattle.std.specs.Prelude.{◌≡◌, IfOk, IsTrue};
 
 use crate::fault::Fault;
 use crate::groups::Holder;
@@ -20,16 +20,24 @@ const FEWEST_UPDATES: usize = 2;
 pub struct JournalHolder {
     /// The names of their apexes, in the order of the journals.
     apexes: Vec<Name>,
+    /// Whether updates of lines that are at hand together are held.
+    in_groups: bool,
 }
 
 impl JournalHolder {
-    /// The zones of these journals.
-    pub fn of(alloc: Global, journals: &[Journalled<'_>]) -> Result<JournalHolder, AllocError> {
+    /// The zones of these journals, which hold no updates unless `in_groups`.
+    pub fn of(
+        alloc: Global,
+        journals: &[Journalled<'_>],
+        in_groups: bool,
+    ) -> Result<JournalHolder, AllocError>
+        ensures { IfOk result (λ holder. holder.in_groups ≡ in_groups) }
+    {
         let mut apexes = Vec::new(alloc);
         for journal in journals {
             apexes.push(journal.apex().clone()?)?;
         }
-        Ok(JournalHolder { apexes })
+        Ok(JournalHolder { apexes, in_groups })
     }
 }
 
@@ -57,7 +65,7 @@ fn are_worth(lines: &[Vec<u8>]) -> bool {
 impl<D: Disk + Drop> Holder<LeftToServer, Handler<D>> for JournalHolder {
     ghost use Rattle.served_updates.specs.Holding.{AllBegin, AllSettle};
 
-    ghost begins = { λ holder. AllBegin holder.apexes.items };
+    ghost begins = { λ holder old new. IsTrue holder.in_groups × AllBegin holder.apexes.items old new };
 
     ghost settles = { λ holder. AllSettle holder.apexes.items };
 
@@ -67,7 +75,7 @@ impl<D: Disk + Drop> Holder<LeftToServer, Handler<D>> for JournalHolder {
         catalog: &mut Zones<D>,
         lines: &[Vec<u8>],
     ) -> Result<bool, Fault> {
-        if self.apexes.is_empty() || !are_worth(lines) {
+        if !self.in_groups || self.apexes.is_empty() || !are_worth(lines) {
             return Ok(false);
         }
         hold_all(alloc, catalog, &self.apexes)?;

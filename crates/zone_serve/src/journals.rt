@@ -5,6 +5,8 @@ ghost use Rattle.sqlite_disk.specs.Disk.{Only};
 ghost use Rattle.served_zones.specs.ServedZones.{IsApexText};
 ghost use Rattle.zone_serve.specs.Journals.{AreJournalled, HasOpened, IsJournalledBy};
 ghost use Rattle.zone_serve.specs.Telling.{IsDue};
+ghost use Rattle.served_updates.specs.Journals.{Stays};
+ghost use Rattle.wire_names.specs.rr.domain.NameOrder.{lower_name};
 
 use crate::damage::{Damage, find_damage, is_none_at};
 use crate::fault::Fault;
@@ -14,9 +16,11 @@ use crate::server::apex_of;
 use crate::serving::now;
 use hickory_server::proto::Name;
 use serve_options::arguments::ZoneArgument;
-use served_updates::journals::{JournalFault, Opened, has_updates, is_shut, open_journal};
+use served_updates::journals::{
+    JournalFault, JournalState, Opened, compact_due, has_updates, open_journal,
+};
 use served_updates::moving::{Handler, Zones};
-use signed_server::{LeftToServer, SignedServer};
+use signed_server::LeftToServer;
 use sqlite_disk::{Disk, Files as TwoFiles};
 use sqlite_std_file::{File, OpenError, Unknown, open};
 use std::alloc::Global;
@@ -133,6 +137,11 @@ fn tell_shut<R: Eprint>(rt: &R, file: &str) {
     );
 }
 
+/// Tells that a journal could not be compacted. That it cannot be told changes nothing.
+fn tell_long<R: Eprint>(rt: &R, file: &str, fault: JournalFault) {
+    let _ = eprintln!(rt; "zone_serve: {file}: the journal is long, and is not compacted: {fault}");
+}
+
 /// Tells what an operator is to know of a journal that was opened. That it cannot be told changes nothing.
 fn tell_opened<R: Eprint>(rt: &R, file: &str, opened: Opened) {
     if opened.journal != opened.file {
@@ -242,7 +251,7 @@ pub fn open_journals<
     Ok(opened)
 }
 
-/// Tells of journals that take no updates any more, of each at most once a minute.
+/// Compacts journals that have become long, and tells of those that take no updates any more, of each at most once a minute.
 #[derive(Drop)]
 pub struct JournalWatch<'r, 'a> {
     /// The runtime.
@@ -266,15 +275,8 @@ fn moment<R: Clock>(rt: &R) -> u64 {
     now(rt).unwrap_or(0)
 }
 
-/// Tells of one journal, if it is due.
-fn look_at<R: Clock + Eprint + Alloc<A = Global>, D: Disk + Drop>(
-    rt: &R,
-    zones: &Zones<D>,
-    journal: &mut Journalled<'_>,
-) {
-    let Ok(true) = is_shut(rt.alloc(), zones, &journal.apex) else {
-        return;
-    };
+/// Tells that a journal takes no updates any more, if that is due.
+fn tell_again<R: Clock + Eprint>(rt: &R, journal: &mut Journalled<'_>) {
     let now = moment(rt);
     if is_due(journal.told, now) {
         tell_shut(rt, journal.file);
@@ -282,12 +284,34 @@ fn look_at<R: Clock + Eprint + Alloc<A = Global>, D: Disk + Drop>(
     }
 }
 
+/// Compacts one journal, if it is to be, and tells how it is. After an error its zone may be gone.
+fn look_after<R: Clock + Eprint + Alloc<A = Global>, D: Disk + Drop>(
+    rt: &R,
+    zones: &mut Zones<D>,
+    journal: &mut Journalled<'_>,
+) -> Result<(), Fault>
+    ensures stays { OnOk result (Stays (lower_name journal.old.apex) zones.old.zones zones.new.zones) }
+    ensures others { zones.new ≡ record zones.old { zones = zones.new.zones } }
+{
+    match compact_due(rt.alloc(), zones, &journal.apex)? {
+        JournalState::Open => {}
+        JournalState::Shut => tell_again(rt, journal),
+        JournalState::Long(fault) => tell_long(rt, journal.file, fault),
+    }
+    Ok(())
+}
+
 impl<'r, 'a, D: Disk + Drop> Watch<LeftToServer, Handler<D>> for JournalWatch<'r, 'a> {
-    fn after_lines(&mut self, server: &SignedServer<LeftToServer, Handler<D>>) {
+    ghost use Rattle.zone_serve.specs.Journals.{AllStay};
+
+    ghost tends = { AllStay };
+
+    fn after_lines(&mut self, catalog: &mut Zones<D>) -> Result<(), Fault> {
         for place in 0..self.journals.len() {
             if let Some(journal) = self.journals.get_mut(place) {
-                look_at(self.rt, &server.server.catalog, journal);
+                look_after(self.rt, catalog, journal)?;
             }
         }
+        Ok(())
     }
 }

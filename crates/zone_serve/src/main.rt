@@ -4,8 +4,8 @@
 //!
 //! `udp`: the input is one datagram. `tcp`: it is messages behind their lengths (RFC 1035 section 4.2.2), and each is answered as soon
 //! as it is whole. `lines`: it is lines `udp|tcp ADDRESS HEX`. The status is 0 where all of the input was answered, 1 where some of it
-//! was not, 2 for wrong arguments or a wrong address of the peer, 3 without memory, 4 where input, output or clock fail, and 5 where a
-//! file is not taken.
+//! was not, 2 for wrong arguments or a wrong address of the peer, 3 without memory, 4 where input, output or clock fail, 5 where a
+//! file is not taken, and 6 where updates at hand are not written.
 #![tactic(auto)]
 
 ghost use Rattle.std.specs.Prelude.{◌≡◌, [], IfOk, MatchOption, None, OnOk, is_none, map, option_map};
@@ -304,7 +304,7 @@ fn serve_with_journals(
 ) -> Result<(), Fault> {
     let files = SystemFiles { rt };
     let journals = open_journals(rt, &files, &settings.journals, &mut server.server.catalog)?;
-    let holder = JournalHolder::of(rt.alloc(), &journals)?;
+    let holder = JournalHolder::of(rt.alloc(), &journals, !settings.no_groups)?;
     let mut watch = JournalWatch { rt, journals };
     serve_input(rt, settings.mode, address, server, &holder, &mut watch)
 }
@@ -390,6 +390,7 @@ zone_serve [--zone NAME=FILE].. [OPTION].. udp|tcp|lines
   --allow-update ZONE=RULE   who may update what in a zone, by a rule
                              'KEY [zone|subdomain NAME|name NAME|self] [TYPE..]'
   --journal NAME=FILE        where the updates of a zone are kept, in the mode lines
+  --no-groups                updates at hand are not written together
   --nsid TEXT                what identifies this server
   --max-udp N                bytes of a reply over UDP at most, 1232
   udp|tcp|lines              one datagram, a stream, or lines 'udp|tcp ADDRESS HEX'

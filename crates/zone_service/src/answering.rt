@@ -13,6 +13,7 @@ use hickory_server::zone_handler::{ReplySigner, ZoneHandler};
 use query_lines::QueryLog;
 use signed_server::SignedServer;
 use std::alloc::Global;
+use std::mem;
 use std::net::SocketAddr;
 
 /// Why a message has no reply.
@@ -69,6 +70,20 @@ impl<S: ReplySigner, H: ZoneHandler> Answering<S, H> {
         }
     }
 
+    /// The replies to the message before, for their memory to be used again; none where some of them wait, which stay.
+    // speed: served, an address
+    #[inline(always)]
+    fn take_spare(&mut self, alloc: Global) -> Items<Octets>
+        ensures others { self.new ≡ record self.old { pending = self.new.pending; taken = self.new.taken } }
+        ensures kept { waiting_in self.new ≡ waiting_in self.old }
+    {
+        if self.waiting() > 0 {
+            return Items::new(alloc);
+        }
+        self.taken = 0;
+        mem::replace(&mut self.pending, Items::new(alloc))
+    }
+
     /// Serves a message: its replies wait to be taken. Those to the message before it that still wait are let go, unless this one is refused.
     fn serve(
         &mut self,
@@ -85,7 +100,9 @@ impl<S: ReplySigner, H: ZoneHandler> Answering<S, H> {
         ensures err { IfErr result (λ refusal. IsRefused (keyed_of H.ZoneHandler S.signature_for self.old.server) bytes.now source protocol now refusal self.new.server.server.catalog.zones) }
         ensures kept { IfErr result (λ _. (waiting_in self.new ≡ waiting_in self.old) × (self.new.log ≡ self.old.log)) }
     {
-        match self.server.serve(alloc, bytes, source, protocol, now) {
+        let spare = self.take_spare(alloc);
+        let server = &mut self.server;
+        match server.serve_reusing(alloc, bytes, source, protocol, now, spare) {
             Ok(Answer::Replies(replies)) => {
                 let sent = replies.as_slice();
                 log_replies(&mut self.log, alloc, now, source, protocol, bytes, sent);

@@ -144,3 +144,8 @@ inserted_before (Err e) old given now new index within same h = (index, within, 
 
 pub inserted_all : (old given now : List Network) (index : ℕ) → length given ≤ index → Inserts old (take index given) now → Inserts old given now
 inserted_all old given now index past h = subst (λ (g : List Network). Inserts old g now) (take_all index given past) h
+
+-- ---- the two are empty where all of it is
+pub first_empty : (xs ys : List Network) → xs ++ ys ≡ [] → xs ≡ []
+first_empty [] ys none = refl
+first_empty (x ∷ xs) ys none = absurd (cc)

@@ -1,5 +1,5 @@
 -- Digits, and addresses, which have no slash.
-use Rattle.std.proofs.Common.{◌≡◌, ◌≢◌, ◌<◌, ◌≤◌, ◌+◌, ◌^◌, ◌++◌, ◌⊎◌, ◌==◌, ◌&&◌, [], ◌∷◌, ℕ, zero, suc, Bool, true, false, List, length, length-append, get_or, take, drop, ne_eqb, eqb-true, add-one, arith, ap, refl, sym, subst, ◌∙◌, inl, inr, Result, Ok, Err, IfErr}
+use Rattle.std.proofs.Common.{◌≡◌, ◌≢◌, ◌<◌, ◌≤◌, ◌+◌, ◌^◌, ◌++◌, ◌==◌, ◌&&◌, [], ◌∷◌, ℕ, suc, Bool, true, false, List, length, length-append, get_or, take, drop, ne_eqb, eqb-true, add-one, arith, ap, refl, sym, subst, ◌∙◌, inl, inr, Result, Ok, Err, IfErr}
 use Rattle.std.proofs.NetLemmas.Theorems.{IsIpText_unique}
 use Rattle.std.proofs.lemmas.Grind.{common_steps}
 use Rattle.std.proofs.lemmas.Fmt.{decimal_is_IsNumeral}
@@ -9,8 +9,7 @@ use Rattle.std.specs.Fmt.{decimal}
 use Rattle.std.specs.Char.{digit_value, is_ascii_digit}
 use Rattle.std.specs.List.{list_all, position_or_len}
 use Rattle.std.specs.Net.Addr.{ipv4_octets, ipv6_segments}
-use Rattle.std.specs.Net.Grammar.{IsColonHex, IsDotted, IsElided, IsGroups, IsGroupsAfter, IsIpText, IsNumber, Parses}
-use Rattle.std.specs.Net.Text.{dotted_text}
+use Rattle.std.specs.Net.Grammar.{IsColonHex, IsDotted, IsElided, IsGroupsAfter, IsIpText, IsNumber, Parses}
 use Rattle.std.specs.Str.{all_ascii_digits}
 use Rattle.std.specs.Str.Parse.{AllDigits, IsNumeral, ParsesUnsigned, digits_value}
 use Rattle.std.specs.declared.net.ip_addr.IpAddr.{IpAddr}

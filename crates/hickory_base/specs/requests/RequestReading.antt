@@ -1,5 +1,5 @@
 -- Requests as they are read (RFC 1035 section 4.1).
-use Rattle.std.specs.Prelude.{◌≡◌, ◌≢◌, ℕ, List, [], None, Ok, slice_range}
+use Rattle.std.specs.Prelude.{◌≡◌, ◌≢◌, ℕ, List, [], None, Ok, false, slice_range}
 use Rattle.wire_messages.specs.serialize.reading.Cursor.{Cursor}
 use Rattle.wire_messages.specs.serialize.layout.MessageLayout.{ItemsAt, QuestionRead, high_code, with_high_code}
 use Rattle.wire_messages.specs.op.Metadata.{bare_metadata}
@@ -28,12 +28,13 @@ HasNoAdditional m = (m.additionals ≡ []) × (m.signature ≡ None) × (m.edns 
 abbrev pub HasNoRecord : MessageRequest → Type 0
 HasNoRecord m = (m.answers ≡ []) × (m.authorities ≡ []) × HasNoAdditional m
 
--- Nothing is left of the message of a request: it has no bytes, no question and no record, and the header of a query with id 0.
+-- Nothing is left of the message of a request: it has no bytes, no question and no record, and the header of a query with id 0; and it was not read.
 pub record IsCleared (request : ReceivedRequest) : Type 0 where
   pub bytes : request.bytes ≡ []
   pub metadata : request.message.metadata ≡ bare_metadata 0 message_type.Query 0
   pub queries : request.message.queries ≡ record { queries = []; bytes = [] }
   pub records : HasNoRecord request.message
+  pub unread : request.was_read ≡ false
 
 -- so many questions, and the bytes from the first of them to the place behind the last
 unfoldable pub question_section : ℕ → Cursor → Read QuestionSection

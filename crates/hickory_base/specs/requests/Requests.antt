@@ -1,5 +1,5 @@
 -- A request as a server sees it: the message, its bytes, and where it came from.
-use Rattle.std.specs.Prelude.{ℕ, List}
+use Rattle.std.specs.Prelude.{ℕ, Bool, List}
 use Rattle.std.specs.declared.net.SocketAddr.{SocketAddr}
 use Rattle.wire_messages.specs.declared.op.header.Metadata.{Metadata}
 use Rattle.wire_messages.specs.declared.protocol.Protocol.{Protocol}
@@ -7,12 +7,13 @@ use Rattle.wire_messages.specs.declared.op.query.Query.{Query}
 use Rattle.hickory_base.specs.declared.requests.message_request.MessageRequest.{MessageRequest}
 use Rattle.hickory_base.specs.declared.server.RequestInfo.{RequestInfo}
 
--- a request
+-- A request. Whether it was read tells that its message is the one that its bytes begin with; one that was put together has the bytes that are written of it.
 pub record ReceivedRequest : Type 0 where
   pub message : MessageRequest
   pub bytes : List ℕ
   pub source : SocketAddr
   pub protocol : Protocol
+  pub was_read : Bool
 
 -- what a handler may know of a request
 pub record RequestInformation : Type 0 where

@@ -1,5 +1,5 @@
 -- Replies as iterators give their records, and what is told of a reply.
-use Rattle.std.specs.Prelude.{◌≡◌, ℕ, List, length, map, Option, None}
+use Rattle.std.specs.Prelude.{◌≡◌, ℕ, List, [], length, map, Option, None}
 use Rattle.std.specs.Iterator.{Drains}
 use Rattle.std.specs.Iterator.Adapters.{once_item}
 use Rattle.std.specs.Option.{option_copied}
@@ -70,3 +70,17 @@ pub record HasNoRecords {X : Type 0} (response : MessageResponse (Once X) (Once 
   pub authorities : once_item response.authorities ≡ None
   pub soa : once_item response.soa ≡ None
   pub additionals : once_item response.additionals ≡ None
+
+-- The reply of these records that repeats these questions, with this EDNS and this metadata, and without a signature.
+abbrev pub lent_reply : QuestionSection → Option EdnsFields → Metadata → List (Record RData) → List (Record RData) → List (Record RData) → Reply
+lent_reply questions edns metadata answers authorities additionals = record {
+  metadata = metadata;
+  question = questions.bytes;
+  question_count = length questions.queries;
+  edns = edns;
+  answers = answers;
+  authorities = authorities;
+  soa = [];
+  additionals = additionals;
+  signature = None;
+}

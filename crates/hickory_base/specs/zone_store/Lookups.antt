@@ -54,3 +54,7 @@ without_additionals other = other
 abbrev pub whole_reply : Result AuthLookup LookupError → Option WholeReply
 whole_reply (Ok (Whole reply)) = Some reply
 whole_reply other = None
+
+-- the answer that is this whole reply
+abbrev pub whole_answer : WholeReply → Flow
+whole_answer reply = Continue (Ok (Whole reply))

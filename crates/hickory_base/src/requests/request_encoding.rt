@@ -1,6 +1,6 @@
 //! Requests in bytes (RFC 1035 section 4.1).
 
-ghost use Rattle.std.specs.Prelude.{◌≡◌, ◌≢◌, ◌↔◌, ◌+◌, ◌<◌, [], length, IfOk, IfErr, OnErr};
+ghost use Rattle.std.specs.Prelude.{◌≡◌, ◌≢◌, ◌↔◌, ◌+◌, ◌<◌, [], length, IfOk, IfErr, OnErr, false};
 ghost use Rattle.hickory_base.specs.requests.RequestForm.{questions_form, written_form};
 ghost use Rattle.hickory_wire.specs.serialize.writing.Encoder.{IsSameVector, max_size, written_bytes};
 ghost use Rattle.hickory_wire.specs.serialize.writing.ReplyParts.{CannotBeWritten, ReplyWritten};
@@ -78,6 +78,7 @@ impl Request {
         ensures message { IfOk result (λ r. r.message ≡ message) }
         ensures written { IfOk result (λ r. (header : MessageHeader) × ReplyWritten 65535 (written_form message) r.bytes header) }
         ensures source { IfOk result (λ r. (r.source ≡ src) × (r.protocol ≡ protocol)) }
+        ensures was_read { IfOk result (λ r. r.was_read ≡ false) }
         ensures too_large { IfErr result (λ e. e ≢ ProtoError.Memory →
             (e ≡ ProtoError.MaxSizeExceeded) ↔ (65535 < 12 + length (questions_form message.queries.queries))) }
         ensures refused { IfErr result (λ e. e ≢ ProtoError.Memory → CannotBeWritten 65535 (written_form message) e) }

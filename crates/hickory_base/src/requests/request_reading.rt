@@ -1,6 +1,6 @@
 //! Reading requests (RFC 1035 section 4.1).
 
-ghost use Rattle.std.specs.Prelude.{◌≡◌, ◌≢◌, ◌<◌, ◌≤◌, [], length, IfOk, IfErr, MatchResult, OnErr, OnOk};
+ghost use Rattle.std.specs.Prelude.{◌≡◌, ◌≢◌, ◌<◌, ◌≤◌, [], length, IfOk, IfErr, MatchResult, OnErr, OnOk, false, true};
 ghost use Rattle.hickory_base.specs.requests.QuestionList.{question_list};
 ghost use Rattle.hickory_base.specs.requests.RepeatableQuestions.{AreRepeatable, HasRepeatableQuestions};
 ghost use Rattle.hickory_base.specs.requests.RequestReading.{FollowsHeader, HasNoAdditional, HasNoRecord, IsCleared, IsFaultOf, IsQuestionSection, message_of, question_section, additionals_of, sections};
@@ -99,6 +99,7 @@ impl Queries {
     }
 
     /// The same as `read`, in the place of other questions.
+    #[inline(always)]
     fn read_in_place(
         &mut self,
         alloc: Global,
@@ -210,6 +211,7 @@ impl MessageRequest {
     }
 
     /// Takes the records out, so that others may be read in their place.
+    #[inline(always)]
     fn clear(&mut self, alloc: Global)
         ensures { HasNoRecord self.new }
     {
@@ -281,6 +283,7 @@ impl MessageRequest {
     ///
     /// Then the decoder's place is the one behind it. After an error the place is left open.
     #[tactic(auto, unfolding(crate::specs::requests::RequestReading::question_section, crate::specs::requests::RequestReading::sections, crate::specs::requests::RequestReading::additionals_of, wire_reading::specs::serialize::reading::MessageReading::message))]
+    #[inline(always)]
     fn read_in_place(
         &mut self,
         alloc: Global,
@@ -326,9 +329,11 @@ fn reading_error(e: DecodeError) -> ProtoError
 }
 
 impl Request {
-    /// Reads the message that its bytes begin with, in the place of one without a record.
+    /// Reads the message that its bytes begin with, in the place of one without a record. That it was read is not noted yet.
+    #[inline(always)]
     fn read_own_bytes(&mut self, alloc: Global) -> Result<(), ProtoError>
-        requires { HasNoRecord self.old.message }
+        requires none { HasNoRecord self.old.message }
+        requires unread { self.old.was_read ≡ false }
         ensures stands { IfOk result (λ _. MessageAt self.old.bytes (message_of self.new.message)) }
         ensures found { IfOk result (λ _. Reads self.old.bytes (message_of self.new.message)) }
         ensures questions { IfOk result (λ _. IsQuestionSection self.old.bytes self.new.message.queries) }
@@ -336,12 +341,20 @@ impl Request {
         ensures standing { (m : Message) → MessageAt self.old.bytes m → MatchResult result (λ _. message_of self.new.message ≡ m) (λ e. e ≡ ProtoError.Memory) }
         ensures only { (m : Message) → Reads self.old.bytes m → MatchResult result (λ _. message_of self.new.message ≡ m) (λ e. e ≡ ProtoError.Memory) }
         ensures fault { IfErr result (λ e. e ≢ ProtoError.Memory → IsFaultOf self.old.bytes e) }
-        ensures kept { (self.new.bytes ≡ self.old.bytes) × (self.new.source ≡ self.old.source) × (self.new.protocol ≡ self.old.protocol) }
+        ensures kept { (self.new.bytes ≡ self.old.bytes) × (self.new.source ≡ self.old.source) × (self.new.protocol ≡ self.old.protocol) × (self.new.was_read ≡ false) }
     {
         match read_message(alloc, self.bytes.as_slice(), &mut self.message) {
             Ok(()) => Ok(()),
             Err(e) => Err(reading_error(e)),
         }
+    }
+
+    /// Notes that its message was read from its bytes.
+    fn note_read(&mut self)
+        requires { Reads self.old.bytes (message_of self.old.message) }
+        ensures { self.new ≡ record self.old { was_read = true } }
+    {
+        self.was_read = true;
     }
 
     /// The request that bytes begin with (RFC 1035 section 4.1), with the address and the transport that it came from.
@@ -366,19 +379,22 @@ impl Request {
         // An error is the first fault.
         ensures fault { IfErr result (λ e. e ≢ ProtoError.Memory → IsFaultOf bytes.items e) }
         ensures raw { IfOk result (λ r. r.bytes ≡ bytes.items) }
+        ensures was_read { IfOk result (λ r. r.was_read ≡ true) }
         ensures source { IfOk result (λ r. (r.source ≡ src) × (r.protocol ≡ protocol)) }
     {
         let message = MessageRequest::empty(alloc);
         let mut request = Request::new(message, Octets::from_vec(bytes), src, protocol);
         request.read_own_bytes(alloc)?;
+        request.note_read();
         Ok(request)
     }
 
     /// Takes the memory of its bytes, of which none are left.
     fn take_bytes(&mut self, alloc: Global) -> Vec<u8>
         ensures taken { result.items ≡ [] }
-        ensures left { self.new ≡ record self.old { bytes = [] } }
+        ensures left { self.new ≡ record self.old { bytes = []; was_read = false } }
     {
+        self.was_read = false;
         let mut own = mem::replace(&mut self.bytes, Octets::from_vec(Vec::new(alloc))).into_vec();
         own.clear();
         own
@@ -386,7 +402,7 @@ impl Request {
 
     /// Puts a copy of bytes in the place of its own, whose memory is used again.
     fn set_bytes(&mut self, alloc: Global, bytes: &[u8]) -> Result<(), AllocError>
-        ensures bytes { OnOk result (self.new ≡ record self.old { bytes = bytes.now }) }
+        ensures bytes { OnOk result (self.new ≡ record self.old { bytes = bytes.now; was_read = false }) }
         ensures kept { (self.new.source ≡ self.old.source) × (self.new.protocol ≡ self.old.protocol) }
     {
         let mut own = self.take_bytes(alloc);
@@ -396,6 +412,7 @@ impl Request {
     }
 
     /// Leaves nothing of its message.
+    #[inline(never)]
     fn clear(&mut self, alloc: Global)
         ensures cleared { IsCleared self.new }
         ensures kept { (self.new.source ≡ self.old.source) × (self.new.protocol ≡ self.old.protocol) }
@@ -415,17 +432,21 @@ impl Request {
         ensures only { (m : Message) → Reads bytes.now m → MatchResult result (λ _. message_of self.new.message ≡ m) (λ e. e ≡ ProtoError.Memory) }
         ensures fault { IfErr result (λ e. e ≢ ProtoError.Memory → IsFaultOf bytes.now e) }
         ensures raw { OnOk result (self.new.bytes ≡ bytes.now) }
+        ensures was_read { OnOk result (self.new.was_read ≡ true) }
         ensures kept { (self.new.source ≡ self.old.source) × (self.new.protocol ≡ self.old.protocol) }
     {
         self.set_bytes(alloc, bytes)?;
         self.message.clear(alloc);
-        self.read_own_bytes(alloc)
+        self.read_own_bytes(alloc)?;
+        self.note_read();
+        Ok(())
     }
 
     /// The same as `from_bytes`, in the place of this request: its memory is used again, and no request is made or handed
     /// on. So a server may read each message that comes.
     ///
-    /// After an error nothing is left of its message: it has no bytes, no question and no record, and the header of a query with id 0.
+    /// After an error nothing is left of its message: it has no bytes, no question and no record, and the header of a query with id 0; and it was not read.
+    #[inline(always)]
     pub fn read_in_place(
         &mut self,
         alloc: Global,
@@ -444,6 +465,7 @@ impl Request {
         ensures fault { IfErr result (λ e. e ≢ ProtoError.Memory → IsFaultOf bytes.now e) }
         ensures err { OnErr result (IsCleared self.new) }
         ensures raw { OnOk result (self.new.bytes ≡ bytes.now) }
+        ensures was_read { OnOk result (self.new.was_read ≡ true) }
         ensures source { (self.new.source ≡ src) × (self.new.protocol ≡ protocol) }
     {
         self.source = src;

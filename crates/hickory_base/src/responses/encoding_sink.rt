@@ -8,14 +8,17 @@ ghost use Rattle.hickory_wire.specs.serialize.writing.ReplyParts.{ReplyEncoded};
 ghost use Rattle.hickory_base.specs.responses.EncodingSinks.{IsEncodingOf, TellsEncoding};
 ghost use Rattle.hickory_base.specs.responses.Responses.{IsReplyBy, header_of};
 
-use crate::responses::message_response::{MessageResponse, ResponseInfo};
+use crate::requests::message_request::Queries;
+use crate::responses::message_response::{MessageResponse, ResponseInfo, size_limit};
 use crate::responses::response_encoding::encode_response;
 use crate::responses::response_handler::{RecordRef, ResponseHandler};
-use hickory_wire::{Items, Octets, Protocol};
+use hickory_wire::{
+    Edns, Items, Metadata, Octets, Protocol, Record, ReplyParts, encode_message_parts_in,
+};
 use std::alloc::Global;
-use std::io;
 use std::io::ErrorKind;
 use std::marker::Model;
+use std::{io, mem};
 
 /// A sink that keeps the bytes of each reply over one transport, in the order in which the replies came.
 ///
@@ -28,6 +31,8 @@ pub struct EncodingSink {
     protocol: Protocol,
     replies: Items<Octets>,
     failures: u64,
+    // Room for the bytes of the next reply.
+    spare: Vec<u8>,
 }
 
 impl Model for EncodingSink {
@@ -43,10 +48,26 @@ impl EncodingSink {
     pub fn new(alloc: Global, protocol: Protocol) -> EncodingSink
         ensures { result ≡ record { protocol = protocol; replies = []; failures = 0 } }
     {
+        EncodingSink::reusing(alloc, protocol, Items::new(alloc))
+    }
+
+    /// The same in the place of replies that were sent, whose memory it uses again.
+    // speed: served, an address
+    #[inline(always)]
+    pub fn reusing(alloc: Global, protocol: Protocol, sent: Items<Octets>) -> EncodingSink
+        ensures { result ≡ record { protocol = protocol; replies = []; failures = 0 } }
+    {
+        let mut list = sent.into_vec();
+        let spare = match list.pop() {
+            Some(last) => last.into_vec(),
+            None => Vec::new(alloc),
+        };
+        list.clear();
         EncodingSink {
             protocol,
-            replies: Items::new(alloc),
+            replies: Items::from_vec(list),
             failures: 0,
+            spare,
         }
     }
 
@@ -145,6 +166,41 @@ impl ResponseHandler for EncodingSink {
         };
         match self.replies.push(Octets::from_vec(bytes)) {
             Ok(()) => Ok(info),
+            Err(_) => Err(self.fail()),
+        }
+    }
+
+    // speed: served, an address
+    #[inline(always)]
+    fn send_lent<'q>(
+        &mut self,
+        alloc: Global,
+        queries: &'q Queries,
+        edns: Option<&'q Edns>,
+        metadata: Metadata,
+        answers: &[Record],
+        authorities: &[Record],
+        additionals: &[Record],
+    ) -> Result<ResponseInfo, io::Error> {
+        let nothing: &[Record] = &[];
+        let parts = ReplyParts {
+            metadata,
+            question: queries.as_bytes(),
+            question_count: queries.count(),
+            edns,
+            answers: answers.iter(),
+            authorities: authorities.iter(),
+            soa: nothing.iter(),
+            additionals: additionals.iter(),
+            signature: None,
+        };
+        let limit = size_limit(self.protocol, edns);
+        let Ok(header) = encode_message_parts_in(&mut self.spare, limit, parts) else {
+            return Err(self.fail());
+        };
+        let bytes = mem::replace(&mut self.spare, Vec::new(alloc));
+        match self.replies.push(Octets::from_vec(bytes)) {
+            Ok(()) => Ok(ResponseInfo::from(header)),
             Err(_) => Err(self.fail()),
         }
     }

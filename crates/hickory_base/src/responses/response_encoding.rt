@@ -31,6 +31,7 @@ where
 }
 
 /// The bytes of a reply whose records are lent by these items, and its header.
+#[inline(always)]
 fn encode_lent<A: RecordRef, N: RecordRef, S: RecordRef, D: RecordRef>(
     alloc: Global,
     limit: u16,

@@ -3,11 +3,12 @@
 ghost use Rattle.std.specs.Prelude.{◌≡◌};
 
 use crate::errors::CatalogError;
-use crate::responses::message_response::{MessageResponse, ResponseInfo};
+use crate::requests::message_request::Queries;
+use crate::responses::message_response::{MessageResponse, MessageResponseBuilder, ResponseInfo};
 use crate::server::Request;
-use hickory_wire::Record;
+use hickory_wire::{Edns, Metadata, Record};
 use std::alloc::Global;
-use std::io;
+use std::{io, iter};
 
 /// A reference to a record, as an item of an iterator.
 pub trait RecordRef: Drop {
@@ -39,9 +40,10 @@ impl RecordRef for &Record {
 pub trait ResponseHandler {
     ghost use Rattle.std.specs.Prelude.{◌≡◌, ◌+◌, ◌%◌, ◌^◌, ◌⊎◌, ℕ, List, IfOk, OnOk, OnErr};
     ghost use Rattle.std.specs.Iterator.{IsFinite};
+    ghost use Rattle.std.specs.Option.{option_copied};
     ghost use Rattle.wire_messages.specs.serialize.writing.Reply.{Reply};
     ghost use Rattle.wire_messages.specs.declared.op.header.Header.{Header};
-    ghost use Rattle.hickory_base.specs.responses.Responses.{IsReplyBy, header_of};
+    ghost use Rattle.hickory_base.specs.responses.Responses.{IsReplyBy, header_of, lent_reply};
     ghost use Rattle.hickory_base.specs.responses.Sinks.{AddsEntry};
 
     /// What the sink keeps of a reply.
@@ -90,6 +92,38 @@ pub trait ResponseHandler {
             AddsEntry (shows (settings self.old) reply) (entries self.old) (entries self.new)) ⊎ (entries self.new ≡ entries self.old)) }
         ensures counted { OnErr result (failures self.new ≡ (failures self.old + 1) % 2 ^ 64) }
         ensures settled { settings self.new ≡ settings self.old };
+
+    /// Hands a reply over that has these records where they lie, and no signature. The answer, and what stands after it, are those of `send_response`, which a sink
+    /// is handed that does not say otherwise.
+    fn send_lent<'q>(
+        &mut self,
+        alloc: Global,
+        queries: &'q Queries,
+        edns: Option<&'q Edns>,
+        metadata: Metadata,
+        answers: &[Record],
+        authorities: &[Record],
+        additionals: &[Record],
+    ) -> Result<ResponseInfo, io::Error>
+        ensures ok { IfOk result (λ info. AddsEntry
+            (λ entry. shows (settings self.old) (lent_reply queries.now (option_copied edns.entry) metadata answers.now authorities.now additionals.now) entry ×
+            informs (settings self.old) (lent_reply queries.now (option_copied edns.entry) metadata answers.now authorities.now additionals.now) entry (header_of info))
+            (entries self.old) (entries self.new)) }
+        ensures uncounted { OnOk result (failures self.new ≡ failures self.old) }
+        ensures err { OnErr result (AddsEntry (shows (settings self.old) (lent_reply queries.now (option_copied edns.entry) metadata answers.now authorities.now additionals.now))
+            (entries self.old) (entries self.new) ⊎ (entries self.new ≡ entries self.old)) }
+        ensures counted { OnErr result (failures self.new ≡ (failures self.old + 1) % 2 ^ 64) }
+        ensures settled { settings self.new ≡ settings self.old }
+    {
+        let response = MessageResponseBuilder::new(queries, edns).build(
+            metadata,
+            answers.iter(),
+            authorities.iter(),
+            iter::empty::<&Record>(),
+            additionals.iter(),
+        );
+        self.send_response(alloc, response)
+    }
 }
 
 /// What answers requests: for each it hands a sink one reply, or for a transfer the list of replies that it takes.

@@ -5,7 +5,9 @@ ghost use Rattle.std.specs.Prelude.{◌≡◌};
 use crate::errors::{LookupError, UpdateFault};
 use crate::server::{Request, RequestInfo};
 use crate::zone_store::handler::{AxfrPolicy, Nsec3QueryInfo, NxProofKind, ZoneHandler, ZoneType};
-use crate::zone_store::lookup::{AuthLookup, LookupControlFlow, LookupOptions, ZoneTransfer};
+use crate::zone_store::lookup::{
+    AuthLookup, LookupControlFlow, LookupOptions, WholeReply, ZoneTransfer,
+};
 use hickory_wire::{LowerName, RecordType, TSigResponseContext};
 use std::alloc::Global;
 
@@ -75,6 +77,16 @@ impl ZoneHandler for Box<dyn ZoneHandler> {
         Option<TSigResponseContext>,
     ) {
         (**self).search(alloc, request, options)
+    }
+
+    fn search_whole<'z>(
+        &'z self,
+        alloc: Global,
+        request: &Request,
+        options: LookupOptions,
+        reply: &mut WholeReply<'z>,
+    ) -> bool {
+        (**self).search_whole(alloc, request, options, reply)
     }
 
     fn consult<'z>(

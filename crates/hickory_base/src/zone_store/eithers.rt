@@ -7,7 +7,9 @@ ghost use Rattle.hickory_base.specs.zone_store.Eithers.{UpdatesEither};
 use crate::errors::{LookupError, UpdateFault};
 use crate::server::{Request, RequestInfo};
 use crate::zone_store::handler::{AxfrPolicy, Nsec3QueryInfo, NxProofKind, ZoneHandler, ZoneType};
-use crate::zone_store::lookup::{AuthLookup, LookupControlFlow, LookupOptions, ZoneTransfer};
+use crate::zone_store::lookup::{
+    AuthLookup, LookupControlFlow, LookupOptions, WholeReply, ZoneTransfer,
+};
 use either::{Either, Left, Right};
 use hickory_wire::{LowerName, RecordType, TSigResponseContext};
 use std::alloc::Global;
@@ -98,6 +100,20 @@ impl<L: ZoneHandler, R: ZoneHandler> ZoneHandler for Either<L, R> {
         match self {
             Left(handler) => handler.search(alloc, request, options),
             Right(handler) => handler.search(alloc, request, options),
+        }
+    }
+
+    #[inline(always)]
+    fn search_whole<'z>(
+        &'z self,
+        alloc: Global,
+        request: &Request,
+        options: LookupOptions,
+        reply: &mut WholeReply<'z>,
+    ) -> bool {
+        match self {
+            Left(handler) => handler.search_whole(alloc, request, options, reply),
+            Right(handler) => handler.search_whole(alloc, request, options, reply),
         }
     }
 

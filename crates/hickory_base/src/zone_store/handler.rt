@@ -4,7 +4,9 @@ ghost use Rattle.std.specs.Prelude.{◌≡◌};
 
 use crate::errors::{LookupError, UpdateFault};
 use crate::server::{Request, RequestInfo};
-use crate::zone_store::lookup::{AuthLookup, LookupControlFlow, LookupOptions, ZoneTransfer};
+use crate::zone_store::lookup::{
+    AuthLookup, LookupControlFlow, LookupOptions, WholeReply, ZoneTransfer,
+};
 use hickory_wire::{LowerName, Octets, RecordType, TSigResponseContext};
 use std::alloc::Global;
 
@@ -71,12 +73,12 @@ pub struct Nsec3QueryInfo<'q> {
 /// state and the arguments of a call with the answer. Want of memory is `LookupError::Memory` or
 /// `UpdateFault::Memory` within the answer.
 pub trait ZoneHandler: Drop {
-    ghost use Rattle.std.specs.Prelude.{◌≡◌, ℕ, Bool, Option, Result, OnErr};
+    ghost use Rattle.std.specs.Prelude.{◌≡◌, ℕ, Bool, None, Option, Result, IsTrue, OnErr};
     ghost use Rattle.std.specs.Option.{option_copied, option_map};
     ghost use Rattle.wire_names.specs.rr.domain.DomainName.{DomainName};
     ghost use Rattle.wire_messages.specs.declared.rr.tsig.TSigResponseContext.{TSigResponseContext};
     ghost use Rattle.hickory_base.specs.zone_store.Denials.{Nsec3Question, nsec3_question};
-    ghost use Rattle.hickory_base.specs.zone_store.Lookups.{Flow};
+    ghost use Rattle.hickory_base.specs.zone_store.Lookups.{Flow, whole_answer};
     ghost use Rattle.hickory_base.specs.requests.Requests.{ReceivedRequest, RequestInformation, information_of};
     ghost use Rattle.hickory_base.specs.declared.errors.LookupError.{LookupError};
     ghost use Rattle.hickory_base.specs.declared.errors.UpdateFault.{UpdateFault};
@@ -152,6 +154,20 @@ pub trait ZoneHandler: Drop {
         Option<TSigResponseContext>,
     )
         ensures { search_gives self.now request.now options result.0 result.1 };
+
+    /// Puts the whole reply to a request where the caller sends it from, where `search` may answer with it and with nothing for a signer. Returns whether it did; where
+    /// it did not, `search` is to be asked, and nothing is promised of the reply. A handler that does not say otherwise never does.
+    fn search_whole<'z>(
+        &'z self,
+        alloc: Global,
+        request: &Request,
+        options: LookupOptions,
+        reply: &mut WholeReply<'z>,
+    ) -> bool
+        ensures { IsTrue result → search_gives self.now request.now options (whole_answer reply.new) None }
+    {
+        false
+    }
 
     /// Looks at what another handler of the chain answered, and answers in its place or gives it back.
     fn consult<'z>(

@@ -6,7 +6,9 @@ ghost use Rattle.hickory_base.specs.declared.errors.UpdateFault.TheVariants.{Cod
 use crate::errors::{LookupError, UpdateFault};
 use crate::server::{Request, RequestInfo};
 use crate::zone_store::handler::{AxfrPolicy, Nsec3QueryInfo, NxProofKind, ZoneHandler, ZoneType};
-use crate::zone_store::lookup::{AuthLookup, LookupControlFlow, LookupOptions, ZoneTransfer};
+use crate::zone_store::lookup::{
+    AuthLookup, LookupControlFlow, LookupOptions, WholeReply, ZoneTransfer,
+};
 use hickory_wire::{LowerName, RecordType, ResponseCode, TSigResponseContext};
 use std::alloc::Global;
 use std::rc::Rc;
@@ -77,6 +79,17 @@ impl<H: ZoneHandler> ZoneHandler for Rc<H> {
         Option<TSigResponseContext>,
     ) {
         (**self).search(alloc, request, options)
+    }
+
+    #[inline(always)]
+    fn search_whole<'z>(
+        &'z self,
+        alloc: Global,
+        request: &Request,
+        options: LookupOptions,
+        reply: &mut WholeReply<'z>,
+    ) -> bool {
+        (**self).search_whole(alloc, request, options, reply)
     }
 
     fn consult<'z>(

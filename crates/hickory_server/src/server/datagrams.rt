@@ -222,6 +222,7 @@ fn are_within(replies: &[Octets], limit: u16) -> bool
 }
 
 /// What is sent of replies to a request: over UDP each within the limit, and over a stream each as it is. It takes no memory where all are within it.
+#[inline(always)]
 pub(crate) fn sent(
     alloc: Global,
     request: &Request,

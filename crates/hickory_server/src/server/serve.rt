@@ -92,12 +92,13 @@ fn hand_over<S: ReplySigner, H: ZoneHandler>(
     Ok(())
 }
 
-/// The bytes of the replies to a request, in their order.
+/// The bytes of the replies to a request, in their order, in the memory of these others.
 pub(crate) fn replies_to<S: ReplySigner, H: ZoneHandler>(
     alloc: Global,
     catalog: &mut Catalog<S, H>,
     request: &Request,
     now: u64,
+    spare: Items<Octets>,
 ) -> Result<Items<Octets>, ServeError>
     ensures others { catalog.new ≡ record catalog.old { zones = catalog.new.zones } }
     ensures ok { IfOk result (λ encoded. (replies : List Reply) ×
@@ -106,7 +107,7 @@ pub(crate) fn replies_to<S: ReplySigner, H: ZoneHandler>(
     ensures err { IfErr result (λ e. (sink : EncodedReplies) ×
         LeavesRequest (server_of H.ZoneHandler S.signature_for catalog.old) request.now now sink e catalog.new.zones) }
 {
-    let mut sink = EncodingSink::new(alloc, request.protocol());
+    let mut sink = EncodingSink::reusing(alloc, request.protocol(), spare);
     hand_over(alloc, catalog, request, now, &mut sink)?;
     Ok(sink.into_replies())
 }
@@ -137,7 +138,7 @@ pub fn serve<S: ReplySigner, H: ZoneHandler>(
     // It is lent where it was read: a request is too large to be handed on.
     let read = Request::from_bytes(alloc, bytes, src, protocol);
     let outcome = match &read {
-        Ok(request) => match replies_to(alloc, catalog, request, now) {
+        Ok(request) => match replies_to(alloc, catalog, request, now, Items::new(alloc)) {
             Ok(replies) => Ok(Outcome::Replies(replies)),
             Err(e) => Err(e),
         },

@@ -59,13 +59,14 @@ fn refused(
 {
     let mut nothing: Catalog<NoKeys, InMemoryZoneHandler> = Catalog::new(alloc, NoKeys);
     nothing.set_nsid(copied(alloc, nsid)?);
-    match replies_to(alloc, &mut nothing, request, now) {
+    match replies_to(alloc, &mut nothing, request, now, Items::new(alloc)) {
         Ok(replies) => Ok(replies),
         Err(_) => Err(AllocError),
     }
 }
 
 /// What is sent to a request that is refused.
+#[inline(never)]
 fn refuse<S: ReplySigner, H: ZoneHandler>(
     alloc: Global,
     rules: &Rules,
@@ -83,6 +84,7 @@ fn refuse<S: ReplySigner, H: ZoneHandler>(
 }
 
 /// What is sent to a request that is truncated.
+#[inline(never)]
 fn truncate<S: ReplySigner, H: ZoneHandler>(
     alloc: Global,
     rules: &Rules,
@@ -142,6 +144,7 @@ fn transfer_replies<S: ReplySigner, H: ZoneHandler>(
 }
 
 /// What is sent to a request that is answered by the whole zone. It changes nothing, so want of memory leaves nothing handled.
+#[inline(never)]
 fn transferred<S: ReplySigner, H: ZoneHandler>(
     alloc: Global,
     rules: &Rules,
@@ -169,13 +172,14 @@ fn unhandled<T: Drop>(made: Result<T, AllocError>) -> Result<T, ServeError>
     }
 }
 
-/// What is sent to a request that passes.
+/// What is sent to a request that passes, in the memory of these other replies.
 fn passed<S: ReplySigner, H: ZoneHandler>(
     alloc: Global,
     rules: &Rules,
     catalog: &mut Catalog<S, H>,
     request: &Request,
     now: u64,
+    spare: Items<Octets>,
 ) -> Result<Items<Octets>, ServeError>
     requires { IsRuling rules.now request.now Ruling.Pass }
     ensures others { catalog.new ≡ record catalog.old { zones = catalog.new.zones } }
@@ -185,20 +189,21 @@ fn passed<S: ReplySigner, H: ZoneHandler>(
     ensures err { IfErr result (λ e. (sink : EncodedReplies) ×
         LeavesRequest (server_of H.ZoneHandler S.signature_for catalog.old) request.now now sink e catalog.new.zones) }
 {
-    let replies = replies_to(alloc, catalog, request, now)?;
+    let replies = replies_to(alloc, catalog, request, now, spare)?;
     match sent(alloc, request, rules.udp_limit(), replies) {
         Ok(sent) => Ok(sent),
         Err(_) => Err(ServeError::MemoryAfterHandling),
     }
 }
 
-/// What is sent to a request.
+/// What is sent to a request, in the memory of these other replies where it passes.
 fn answered<S: ReplySigner, H: ZoneHandler>(
     alloc: Global,
     rules: &Rules,
     catalog: &mut Catalog<S, H>,
     request: &Request,
     now: u64,
+    spare: Items<Octets>,
 ) -> Result<Items<Octets>, ServeError>
     ensures others { catalog.new ≡ record catalog.old { zones = catalog.new.zones } }
     ensures ok { IfOk result (λ sent. (encoded : List (List ℕ)) ×
@@ -208,7 +213,7 @@ fn answered<S: ReplySigner, H: ZoneHandler>(
         LeavesRequest (server_of H.ZoneHandler S.signature_for catalog.old) request.now now sink e catalog.new.zones) }
 {
     match rules.ruling(request) {
-        Ruling::Pass => passed(alloc, rules, catalog, request, now),
+        Ruling::Pass => passed(alloc, rules, catalog, request, now, spare),
         Ruling::Refuse => unhandled(refuse(alloc, rules, catalog, request, now)),
         Ruling::Truncate => unhandled(truncate(alloc, rules, catalog, request, now)),
         Ruling::Transfer => unhandled(transferred(alloc, rules, catalog, request, now)),
@@ -262,6 +267,7 @@ impl<S: ReplySigner, H: ZoneHandler> Server<S, H> {
     /// and 4). Over UDP no reply is longer than the client takes, nor than the limit of the rules.
     ///
     /// `Memory` says that the catalog is as before, and `MemoryAfterHandling` that the message was handled and its replies are missing.
+    #[inline(never)]
     pub fn serve(
         &mut self,
         alloc: Global,
@@ -275,6 +281,31 @@ impl<S: ReplySigner, H: ZoneHandler> Server<S, H> {
         ensures ok { IfOk result (λ answer. BytesServed self.old.rules (server_of H.ZoneHandler S.signature_for self.old.catalog) bytes.now src protocol now answer self.new.catalog.zones) }
         ensures err { IfErr result (λ e. LeavesBytes self.old.rules (server_of H.ZoneHandler S.signature_for self.old.catalog) bytes.now src protocol now e self.new.catalog.zones) }
     {
+        self.serve_reusing(alloc, bytes, src, protocol, now, Items::new(alloc))
+    }
+
+    /// Serves one message as `serve` does. The memory of these replies, as those to an earlier message, is used again for
+    /// those that the zones give to this one.
+    // speed: served, an address
+    #[inline(always)]
+    pub fn serve_reusing(
+        &mut self,
+        alloc: Global,
+        bytes: &[u8],
+        src: SocketAddr,
+        protocol: Protocol,
+        now: u64,
+        spare: Items<Octets>,
+    ) -> Result<Answer, ServeError>
+        ensures rules { self.new.rules ≡ self.old.rules }
+        ensures others { self.new.catalog ≡ record self.old.catalog { zones = self.new.catalog.zones } }
+        ensures ok { IfOk result (λ answer. BytesServed self.old.rules
+            (server_of H.ZoneHandler S.signature_for self.old.catalog)
+            bytes.now src protocol now answer self.new.catalog.zones) }
+        ensures err { IfErr result (λ e. LeavesBytes self.old.rules
+            (server_of H.ZoneHandler S.signature_for self.old.catalog)
+            bytes.now src protocol now e self.new.catalog.zones) }
+    {
         if !self.rules.access.allow(src.ip()) {
             return Ok(Answer::Denied);
         }
@@ -285,12 +316,14 @@ impl<S: ReplySigner, H: ZoneHandler> Server<S, H> {
             return Ok(Answer::Response);
         }
         match self.request.read_in_place(alloc, bytes, src, protocol) {
-            Ok(()) => match answered(alloc, &self.rules, &mut self.catalog, &self.request, now) {
-                Ok(sent) => Ok(Answer::Replies(sent)),
-                Err(e) => Err(e),
-            },
-            Err(ProtoError::Memory) => Err(ServeError::Memory),
-            Err(_) => Ok(Answer::Unreadable),
+            Ok(()) => {}
+            Err(ProtoError::Memory) => return Err(ServeError::Memory),
+            Err(_) => return Ok(Answer::Unreadable),
+        }
+        let catalog = &mut self.catalog;
+        match answered(alloc, &self.rules, catalog, &self.request, now, spare) {
+            Ok(sent) => Ok(Answer::Replies(sent)),
+            Err(e) => Err(e),
         }
     }
 }

@@ -7,3 +7,4 @@ pub mod Handling
 pub mod Hosts
 pub mod OneChain
 pub mod OneReply
+pub mod Searching

@@ -1,6 +1,6 @@
 //! Bytes with no form of their own.
 
-ghost use Rattle.std.specs.Prelude.{◌≡◌, length, nat_eq, IfOk, [], List, ℕ};
+ghost use Rattle.std.specs.Prelude.{◌≡◌, length, nat_eq, IfOk, OnOk, OnErr, [], List, ℕ};
 ghost use Rattle.std.specs.Cmp.{partial_equiv_from_equiv};
 ghost use Rattle.std.specs.Cmp.Lexicographic.{pointwise, nat_list_eq_equiv};
 
@@ -35,6 +35,15 @@ impl Octets {
         Ok(Octets {
             bytes: Vec::from_slice(alloc, bytes)?,
         })
+    }
+
+    /// Puts a copy of these bytes in the place of its own, whose memory is used again. Where memory is refused, it has none.
+    pub fn set(&mut self, bytes: &[u8]) -> Result<(), AllocError>
+        ensures done { OnOk result (self.new ≡ bytes.now) }
+        ensures emptied { OnErr result (self.new ≡ []) }
+    {
+        self.bytes.clear();
+        self.bytes.extend_from_slice(bytes)
     }
 
     /// The bytes as a vector. It needs no memory.

@@ -1,22 +1,26 @@
-use Rattle.std.proofs.Common.{None}
-use Rattle.hickory_base.specs.requests.Requests.{information}
-use Rattle.hickory_catalog.specs.Queries.{consult_options}
-use Rattle.hickory_catalog.proofs.OneHandler.{answers_alone, skips_alone}
+use Rattle.hickory_catalog.specs.Queries.{whole_contents}
+use Rattle.hickory_catalog.specs.Replies.{unsigned_reply}
+use Rattle.hickory_catalog.specs.Server.{server_of}
+use Rattle.hickory_catalog.proofs.OneHandler.{whole_alone}
 use Rattle.hickory_catalog.proofs.queries.answer_alone.Goals as goal
 
-pub answer_chained-requires-clause-skipped : goal.answer_chained-requires-clause-skipped
-answer_chained-requires-clause-skipped g c =
-    let gave = rw c.options_of-options.ensures at c.search.ensures in
-    rw c.requires.alone (λ none. (
-      1,
-      None,
-      skips_alone g.H.ZoneHandler c.args.asked.now.request.now (information c.args.asked.now.request.now c.args.asked.now.query.now) (consult_options c.args.edns.now) c.args.handler.now
-          c.search.result.0 c.search.result.1 gave none,
-    ))
+pub returns-in-Some-clause-replied : goal.returns-in-Some-clause-replied
+returns-in-Some-clause-replied g c =
+    let asked = c.args.asked.now in
+    let whole = c.answer_put.new.whole in (
+      unsigned_reply asked.request.now.message c.args.edns.now (whole_contents asked.request.now.message.metadata whole),
+      rw c.requires.alone
+          (whole_alone (server_of g.H.ZoneHandler g.S.ReplySigner.signature_for asked.catalog.now) asked.request.now c.args.edns.now asked.moment asked.query.now c.args.handler.now whole c.requires.lookup
+          c.in-Some.ensures.gives c.in-Some.ensures.in_range),
+      c.in-Some.ensures.sent,
+    )
 
-pub answer_chained-requires-clause-answered : goal.answer_chained-requires-clause-answered
-answer_chained-requires-clause-answered g c =
-    let gave = rw c.options_of-options.ensures at c.search.ensures in
-    rw c.requires.alone (λ is.
-    answers_alone g.H.ZoneHandler c.args.asked.now.request.now (information c.args.asked.now.request.now c.args.asked.now.query.now) (consult_options c.args.edns.now) c.args.handler.now
-    c.search.result.0 c.search.result.1 gave is)
+pub returns-clause-replied : goal.returns-clause-replied
+returns-clause-replied g c =
+    let unput = rw c.in_default.is at c.answer_put.ensures.unput in
+    rw (unput.0, unput.1) at c.answer_searched.ensures.replied
+
+pub returns-clause-refused : goal.returns-clause-refused
+returns-clause-refused g c =
+    let unput = rw c.in_default.is at c.answer_put.ensures.unput in
+    rw unput.0 at c.answer_searched.ensures.refused

@@ -1,7 +1,3 @@
-use Rattle.std.proofs.Common.{ℕ, List, Option}
-use Rattle.wire_messages.specs.op.EdnsFields.{EdnsFields}
-use Rattle.wire_messages.specs.serialize.writing.Reply.{Reply}
-use Rattle.hickory_base.specs.requests.Requests.{ReceivedRequest}
 use Rattle.hickory_catalog.specs.Server.{server_of}
 use Rattle.hickory_catalog.proofs.QueryReplies.{if_ok_map, transferred}
 use Rattle.hickory_catalog.proofs.queries.answer_transfer.Goals as goal

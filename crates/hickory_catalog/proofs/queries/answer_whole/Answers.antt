@@ -10,7 +10,7 @@ returns-in-Some-clause-replied g c = rw c.in-Some.is c.answer_whole_signed.ensur
 pub returns-in-None-clause-replied : goal.returns-in-None-clause-replied
 returns-in-None-clause-replied g c = (
   unsigned_reply c.args.request.now c.args.edns.now (whole_contents c.args.request.now.metadata c.args.whole.now),
-  c.whole_metadata-metadata.ensures.in_range,
+  c.send_whole.ensures.in_range,
   rw c.in-None.is (plain refl),
-  rw (c.as_ref.ensures.value, c.set_high_code.ensures, c.whole_metadata-metadata.ensures.says, c.as_slice.ensures, c.as_slice-in-None.ensures, c.as_slice-in-None-2.ensures) at c.send_lent.ensures,
+  c.send_whole.ensures.sent,
 )

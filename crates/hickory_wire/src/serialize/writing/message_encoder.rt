@@ -70,6 +70,7 @@ fn question_fits(limit: u16, len: usize) -> bool
 }
 
 // Takes the records of all lists.
+#[inline(never)]
 fn drain_lists<'q, 'a, A, N, S, D>(parts: ReplyParts<'q, A, N, S, D>)
 where
     A: Iterator<Item = &'a Record> + Drop,
@@ -138,6 +139,38 @@ where
     ensures header { OnOk result (12 ≤ length bytes.new.items) }
     ensures in_range { IfOk result (λ sections. sections.stops.fault ≡ None → IfSome (option_copied parts.entry.edns) IsEdnsInRange) }
 {
+    let alloc = *bytes.allocator();
+    // speed: served, an address; a table is wide, and this makes it where it stays
+    write_lists_by(bytes, &mut CompressionTable::new(alloc), limit, parts)
+}
+
+// The same by a table, which has no notes.
+#[inline(always)]
+fn write_lists_by<'q: 'n, 'n, 'a: 'n, A, N, S, D>(
+    bytes: &mut Vec<u8>,
+    table: &mut CompressionTable<'n>,
+    limit: u16,
+    parts: ReplyParts<'q, A, N, S, D>,
+) -> Result<Sections, AllocError>
+where
+    A: Iterator<Item = &'a Record> + Drop,
+    N: Iterator<Item = &'a Record> + Drop,
+    S: Iterator<Item = &'a Record> + Drop,
+    D: Iterator<Item = &'a Record> + Drop,
+    requires answers { A.can_next parts.answers × IsFinite (A.remaining parts.answers) }
+    requires authorities { N.can_next parts.authorities × IsFinite (N.remaining parts.authorities) }
+    requires soa { S.can_next parts.soa × IsFinite (S.remaining parts.soa) }
+    requires additionals { D.can_next parts.additionals × IsFinite (D.remaining parts.additionals) }
+    requires header { 12 ≤ length bytes.old.items }
+    requires fits { length bytes.old.items ≤ limit }
+    requires empty { table.old ≡ [] }
+    requires asked { bytes.old.items ≡ replicate 12 0 ++ parts.question.now }
+    ensures written { IfOk result (λ sections. (lists : RecordLists) ×
+        GivesLists A.next_gives N.next_gives S.next_gives D.next_gives parts.entry lists ×
+        WritesLists limit bytes.old.items (reply_of parts.entry lists) bytes.new.items sections) }
+    ensures header { OnOk result (12 ≤ length bytes.new.items) }
+    ensures in_range { IfOk result (λ sections. sections.stops.fault ≡ None → IfSome (option_copied parts.entry.edns) IsEdnsInRange) }
+{
     let has_records = may_have_records(&parts);
     let ReplyParts {
         metadata: _,
@@ -150,17 +183,16 @@ where
         additionals,
         signature,
     } = parts;
-    let mut table = CompressionTable::new(*bytes.allocator());
     if has_records {
-        note_question(&mut table, question);
+        note_question(table, question);
     }
     let mut stops = Stops {
         is_cut: false,
         fault: None,
     };
-    let answers = write_list(bytes, &mut table, limit, answers, &mut stops)?;
-    let authorities = write_list(bytes, &mut table, limit, authorities.chain(soa), &mut stops)?;
-    let additionals = write_list(bytes, &mut table, limit, additionals, &mut stops)?;
+    let answers = write_list(bytes, table, limit, answers, &mut stops)?;
+    let authorities = write_list(bytes, table, limit, authorities.chain(soa), &mut stops)?;
+    let additionals = write_list(bytes, table, limit, additionals, &mut stops)?;
     let opts = write_optional_edns(bytes, limit, edns, &mut stops)?;
     let signatures = write_optional_signature(bytes, limit, signature, &mut stops)?;
     Ok(Sections {
@@ -271,6 +303,7 @@ where
 }
 
 // Writes the shortest reply there is, in the place of what the bytes hold.
+#[inline(never)]
 fn write_fallback(bytes: &mut Vec<u8>, id: u16) -> Result<Header, ProtoError>
     ensures written { IfOk result (λ header. (header ≡ fallback_header id) ×
         (bytes.new.items ≡ header_octets (fallback_header id))) }
@@ -311,14 +344,39 @@ where
         ReplyEncoded limit (reply_of parts.entry lists) made.1.items made.0) }
     ensures err { OnErr result (result ≡ Err ProtoError.Memory) }
 {
+    let mut bytes = Vec::new(alloc);
+    let header = encode_message_parts_in(&mut bytes, limit, parts)?;
+    Ok((header, bytes))
+}
+
+/// Puts the bytes of a reply in the place of others, whose memory is used again, and gives their header, as
+/// `encode_message_parts` does. After an `Err` any bytes may stand there.
+#[inline(always)]
+pub fn encode_message_parts_in<'q, 'a, A, N, S, D>(
+    bytes: &mut Vec<u8>,
+    limit: u16,
+    parts: ReplyParts<'q, A, N, S, D>,
+) -> Result<Header, ProtoError>
+where
+    A: Iterator<Item = &'a Record> + Drop,
+    N: Iterator<Item = &'a Record> + Drop,
+    S: Iterator<Item = &'a Record> + Drop,
+    D: Iterator<Item = &'a Record> + Drop,
+    requires answers { A.can_next parts.answers × IsFinite (A.remaining parts.answers) }
+    requires authorities { N.can_next parts.authorities × IsFinite (N.remaining parts.authorities) }
+    requires soa { S.can_next parts.soa × IsFinite (S.remaining parts.soa) }
+    requires additionals { D.can_next parts.additionals × IsFinite (D.remaining parts.additionals) }
+    ensures encoded { IfOk result (λ header. (lists : RecordLists) ×
+        GivesLists A.next_gives N.next_gives S.next_gives D.next_gives parts.entry lists ×
+        ReplyEncoded limit (reply_of parts.entry lists) bytes.new.items header) }
+    ensures err { OnErr result (result ≡ Err ProtoError.Memory) }
+{
     let id = parts.metadata.id;
-    let mut bytes = Vec::with_capacity(alloc, FIRST_CAPACITY)?;
-    match write_reply(&mut bytes, limit, parts) {
-        Ok(header) => Ok((header, bytes)),
+    bytes.clear();
+    bytes.reserve(FIRST_CAPACITY)?;
+    match write_reply(bytes, limit, parts) {
+        Ok(header) => Ok(header),
         Err(ProtoError::Memory) => Err(ProtoError::Memory),
-        Err(_) => {
-            let header = write_fallback(&mut bytes, id)?;
-            Ok((header, bytes))
-        }
+        Err(_) => write_fallback(bytes, id),
     }
 }

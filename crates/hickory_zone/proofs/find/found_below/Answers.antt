@@ -1,4 +1,4 @@
-use Rattle.std.proofs.Common.{◌≡◌, Option, None, Some, ap, refl, sym, subst}
+use Rattle.std.proofs.Common.{◌≡◌, Option, None, Some, ap, refl, subst}
 use Rattle.std.specs.Option.{option_copied}
 use Rattle.hickory_base.specs.zone_store.ZoneSets.{sets_of}
 use Rattle.hickory_zone.specs.declared.find.Found.{Found}

@@ -1,46 +1,20 @@
-use Rattle.std.proofs.Common.{◌≡◌, ◌∙◌, ap, arith, subst, sym}
+use Rattle.std.proofs.Common.{None, inr, subst, sym}
 use Rattle.std.specs.Option.{option_copied}
 use Rattle.hickory_base.specs.zone_store.ZoneSets.{sets_of}
-use Rattle.wire_names.specs.rr.domain.DomainName.{DomainName}
-use Rattle.hickory_zone.proofs.lemmas.zones.Outcomes.{within}
+use Rattle.hickory_zone.proofs.lemmas.zones.Missing.{answered_bare, none_wild}
 use Rattle.hickory_zone.proofs.lemmas.zones.Wild.{told}
-use Rattle.hickory_zone.specs.FoundRecords.{IsEncloser}
-use Rattle.hickory_zone.specs.Zones.{Exists, Sets, Zone, ancestor}
+use Rattle.hickory_zone.specs.FoundRecords.{IsBare}
+use Rattle.hickory_zone.specs.Zones.{Answers, Exists, Zone, ancestor}
 use Rattle.hickory_zone.proofs.find.look_above.Goals as goal
 
--- where the name right above one that does not exist does
-encloser : (sets : Sets) (name parent : DomainName) → parent ≡ ancestor name 1 → ¬ (Exists sets name) → Exists sets parent → IsEncloser sets name parent
-encloser sets name parent is missing x = record {
-  off = 1;
-  is = is;
-  closest = record {
-    exists = subst (Exists sets) is x;
-    longest = λ j less y. let e : j ≡ 0 = omega arith in missing (subst (λ k. Exists sets (ancestor name k)) e y);
-  };
-}
-
-pub find_wild-requires-clause-qualified : goal.find_wild-requires-clause-qualified
-find_wild-requires-clause-qualified c = ap (λ d. d.is_fqdn) c.remove_first_label.ensures ∙ ap (λ d. d.is_fqdn) c.in_ok-parent.ensures.cases ∙ c.requires.qualified
-
-pub found_below-requires-clause-within : goal.found_below-requires-clause-within
-found_below-requires-clause-within c =
+pub returns-then-is_bare : goal.returns-then-is_bare
+returns-then-is_bare c =
     let zone : Zone = record { origin = c.args.origin.now; sets = sets_of c.args.sets.now } in
     let name = c.args.first.now.name in
-    let parent = c.remove_first_label.new.self in
-    let up : parent ≡ ancestor name 1 = c.remove_first_label.ensures ∙ ap (λ d. ancestor d 1) c.in_ok-parent.ensures.cases in
-    within zone name parent c.requires.owners c.requires.within
-    (encloser zone.sets name parent up c.requires.missing
-    (told c.args.sets.now c.args.first.now (option_copied c.args.behind) c.args.origin.now parent c.args.record_type c.in_ok-wild.wild c.requires.least c.requires.qualified c.requires.owners c.requires.behind
-    (c.in_ok-wild.ensures c.args.origin.now c.requires.owners) (c.is_told.ensures c.if-is_told.true)))
-
-pub returns-then-is_told : goal.returns-then-is_told
-returns-then-is_told c =
-    let zone : Zone = record { origin = c.args.origin.now; sets = sets_of c.args.sets.now } in
-    let name = c.args.first.now.name in
-    let parent = c.remove_first_label.new.self in
-    let up : parent ≡ ancestor name 1 = c.remove_first_label.ensures ∙ ap (λ d. ancestor d 1) c.in_ok-parent.ensures.cases in
-    let wild = c.in_ok-wild.ensures c.args.origin.now c.requires.owners in
-    let e : IsEncloser zone.sets name parent = encloser zone.sets name parent up c.requires.missing
-    (told c.args.sets.now c.args.first.now (option_copied c.args.behind) c.args.origin.now parent c.args.record_type c.in_ok-wild.wild c.requires.least c.requires.qualified c.requires.owners c.requires.behind wild
-    (c.is_told.ensures c.if-is_told.true)) in
-    c.found_below.ensures name c.args.record_type e c.requires.missing c.requires.above wild
+    let behind = option_copied c.args.behind in
+    let bare : IsBare c.args.has name behind = c.is_bare.ensures c.if-is_bare.true in
+    let x : Exists zone.sets (ancestor name 1) =
+    told c.args.sets.now c.args.first.now behind c.args.origin.now (ancestor name 1) c.args.record_type None c.requires.least c.requires.qualified c.requires.owners c.requires.behind
+    (none_wild zone name c.args.record_type c.args.has behind c.requires.features bare) (inr bare.used) in
+    subst (Answers zone name c.args.record_type) (sym (c.found_missing.ensures zone.sets name))
+    (answered_bare zone name c.args.record_type c.args.has behind (option_copied c.args.above) c.requires.features bare c.requires.missing x c.requires.above)

@@ -1,15 +1,14 @@
 -- The names of wildcards, and how long names are.
-use Rattle.std.proofs.Common.{◌≡◌, ℕ, zero, suc, ◌+◌, ◌-◌, ◌<◌, ◌≤◌, List, [], ◌∷◌, ◌++◌, length, take, drop, get_or, refl, sym, ap, ◌∙◌, arith, length-append}
+use Rattle.std.proofs.Common.{◌≡◌, ℕ, ◌+◌, ◌<◌, ◌≤◌, List, [], ◌∷◌, ◌++◌, length, refl, ap, ◌∙◌, arith}
 use Rattle.std.proofs.Common.{Bool}
 use Rattle.wire_names.specs.rr.domain.NameOrder.{Encloses, lower_labels, lower_name}
 use Rattle.std.specs.Char.{to_ascii_lowercase}
 use Rattle.std.specs.Map.{keys_of}
 use Rattle.std.proofs.lemmas.List.Elements.{All-contains}
 use Rattle.hickory_zone.specs.Zones.{AreOwners, Exists, IsOwner, Sets, wildcard}
-use Rattle.std.proofs.lemmas.List.{length-map, length-take, length-drop, take_more, take_all}
-use Rattle.wire_names.specs.rr.domain.DomainName.{IsLabel, IsWire, DomainName, cut, label_offset, name_len, wire_form}
-use Rattle.wire_names.proofs.lemmas.rr.domain.LabelOrder.{Advance, Site, advance, site}
-use Rattle.wire_names.proofs.lemmas.rr.domain.WireForm.{below_at, cut-wire, name_len-wire_form}
+use Rattle.std.proofs.lemmas.List.{length-map}
+use Rattle.wire_names.specs.rr.domain.DomainName.{DomainName, cut, name_len, wire_form}
+use Rattle.wire_names.proofs.lemmas.rr.domain.WireForm.{cut-wire, name_len-wire_form}
 
 pub too_long : (ls : List (List ℕ)) → 254 < length (wire_form ls) + 2 → 255 < name_len ((42 ∷ []) ∷ ls)
 too_long ls h = omega (arith, name_len-wire_form ls)

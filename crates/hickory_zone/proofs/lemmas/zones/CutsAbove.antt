@@ -10,6 +10,7 @@ use Rattle.wire_names.specs.rr.domain.NameOrder.{Encloses, lower_label, lower_la
 use Rattle.wire_names.proofs.lemmas.rr.domain.WireForm.{Step, cut_of, is_wire_of, name_len-wire_form, offset-rest, offset-size, step}
 use Rattle.hickory_zone.proofs.lemmas.names.Enclosers.{ancestor-ancestor}
 use Rattle.hickory_zone.proofs.lemmas.names.WildcardLabels.{enclosing_len, lower_len}
+use Rattle.hickory_zone.proofs.lemmas.zones.Beside.{encloses_drop}
 use Rattle.hickory_zone.proofs.lemmas.zones.Cuts.{below_the_apex}
 use Rattle.hickory_zone.specs.declared.features.Features.{Features}
 use Rattle.hickory_zone.specs.FoundRecords.{CutAbove, CutAt, EndsAbove, IsEncloser, first_or, may_be_cut, name_of}
@@ -150,18 +151,29 @@ module _ (zone : Zone) (name : DomainName) where
         subst (AboveSoFar zone name (seen + 1)) (sym own)
         (chosen seen (may_be_cut (length (wire_form zone.origin.labels)) has (length (wire_form (drop (seen + 1) name.labels)))) before (is_one (seen + 1)) (is_none (seen + 1)) h)
 
-  -- above the last label nothing is cut
-  no_labels : (i : ℕ) → length name.labels ≤ i → ¬ (IsCut zone (ancestor name i))
-  no_labels i h c = absurd (omega (arith, c.below_apex, length-drop i name.labels))
+  -- a name that is no longer than the apex is no cut, and none above it is
+  none_from : (seen i : ℕ) → length (wire_form (drop seen name.labels)) ≤ length (wire_form zone.origin.labels) → seen ≤ i → ¬ (IsCut zone (ancestor name i))
+  none_from seen i short h c =
+      let e : seen + (i - seen) ≡ i = omega arith in
+      let same : ancestor (ancestor name seen) (i - seen) ≡ ancestor name i = ancestor-ancestor name (i - seen) seen ∙ ap (ancestor name) e in
+      let up : Encloses (drop i name.labels) (drop seen name.labels) = subst (λ (n : DomainName). Encloses n.labels (drop seen name.labels)) same (encloses_drop (i - seen) (drop seen name.labels)) in
+      absurd (omega (
+        arith,
+        short,
+        longer zone.origin.labels (drop i name.labels) c.within c.below_apex,
+        enclosing_len (drop i name.labels) (drop seen name.labels) up,
+        name_len-wire_form (drop i name.labels),
+        name_len-wire_form (drop seen name.labels),
+      ))
 
-  pub in_the_end : (seen : ℕ) (found : Option Records) → length name.labels ≤ seen → AboveSoFar zone name seen found → CutAbove zone name found
-  in_the_end seen None all h = λ k some. elim (cases_lt seen k) [ inl over ↦ no_labels k (omega arith) | inr under ↦ h k some under ]
-  in_the_end seen (Some servers) all h = record {
+  pub in_the_end : (seen : ℕ) (found : Option Records) → length (wire_form (drop seen name.labels)) ≤ length (wire_form zone.origin.labels) → AboveSoFar zone name seen found → CutAbove zone name found
+  in_the_end seen None short h = λ k some. elim (cases_lt seen k) [ inl over ↦ none_from seen k short (omega arith) | inr under ↦ h k some under ]
+  in_the_end seen (Some servers) short h = record {
     off = h.off;
     above = h.above;
     delegates = record {
       cut = h.is_cut;
-      highest = λ j above. elim (cases_lt seen j) [ inl over ↦ no_labels j (omega arith) | inr under ↦ h.highest j above under ];
+      highest = λ j above. elim (cases_lt seen j) [ inl over ↦ none_from seen j short (omega arith) | inr under ↦ h.highest j above under ];
     };
     servers = h.servers;
   }

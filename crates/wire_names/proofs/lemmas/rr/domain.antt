@@ -5,6 +5,7 @@ pub mod KeyWords
 pub mod LabelOrder
 pub mod NameSpelling
 pub mod OrderKeys
+pub mod OrderWords
 pub mod PaddedBytes
 pub mod SameNames
 pub mod SharedEnds

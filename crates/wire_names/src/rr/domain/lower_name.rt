@@ -1,6 +1,6 @@
 //! Domain names in lower case.
 
-ghost use Rattle.std.specs.Prelude.{◌≡◌, ◌↔◌, IfOk, OnOk, IsTrue, [], drop, true};
+ghost use Rattle.std.specs.Prelude.{◌≡◌, ◌↔◌, ◌<◌, IfOk, OnOk, IsTrue, [], drop, length, true};
 ghost use Rattle.std.specs.Ordering.{as_partial_cmp};
 ghost use Rattle.std.specs.Cmp.{eq_by_cmp_equiv, partial_equiv_from_equiv, partial_order_from_total};
 ghost use Rattle.std.specs.Cmp.Rules.{comparing};
@@ -8,6 +8,8 @@ ghost use Rattle.std.proofs.Common.{rules};
 ghost use Rattle.wire_names.specs.rr.domain.DomainName.{DomainName};
 ghost use Rattle.wire_names.specs.rr.domain.NameOrder.{Encloses, IsSharedEnd, name_cmp, name_eq, name_cmp_total, lower_name, lower_labels};
 ghost use Rattle.wire_names.specs.rr.domain.NameHash.{name_hash_input, name_hash_alike};
+ghost use Rattle.wire_names.specs.rr.domain.OrderKey.{order_key, order_word};
+ghost use Rattle.wire_names.specs.serialize.layout.Bytes.{AreBytes};
 
 use crate::rr::domain::name::Name;
 use crate::rr::domain::order_key::{
@@ -119,6 +121,36 @@ impl LowerName {
         are_same(&all[..own.len()], own)
     }
 
+    /// Whether the name right above this one equals or encloses the other; `false` for the root, above which there is none.
+    // speed: served, a name that is not there
+    pub fn has_parent_above(&self, other: &LowerName) -> bool
+        ensures { IsTrue result ↔ (0 < length self.now.labels) × Encloses (drop 1 self.now.labels) other.now.labels }
+    {
+        let wire = self.name.as_wire();
+        if wire.is_empty() {
+            return false;
+        }
+        let end = 1 + usize::from(wire[0]);
+        let own = self.key.as_slice();
+        let rest = own.len() - escaped_len(&wire[1..end]) - 1;
+        let all = other.key.as_slice();
+        if rest > all.len() {
+            return false;
+        }
+        are_same(&all[..rest], &own[..rest])
+    }
+
+    /// Eight bytes of its order key, from where that of a name above it ends, as a number. Names at or below that one are in the order
+    /// of their numbers where these differ.
+    // speed: served, an address
+    #[inline(always)]
+    pub fn order_word(&self, above: &LowerName) -> u64
+        ensures is { result ≡ order_word above.now.labels self.now.labels }
+        ensures bytes { AreBytes (order_key self.now.labels) }
+    {
+        self.key.word_from(above.key.as_slice().len())
+    }
+
     /// Takes the first label off, so that the name above is left. A name without labels stays. It takes no memory.
     pub fn remove_first_label(&mut self)
         ensures { self.new ≡ record self.old { labels = drop 1 self.old.labels } }
@@ -188,6 +220,7 @@ impl Ord for LowerName {
 
     ghost matches_eq = { Prim.search (comparing, rules) };
 
+    #[inline(always)]
     fn cmp(&self, other: &LowerName) -> Ordering {
         match self.key.compare(&other.key) {
             Ordering::Equal => self.name.is_fqdn().cmp(&other.name.is_fqdn()),

@@ -89,6 +89,7 @@ pub(crate) fn wire_len(key: &[u8]) -> usize
 }
 
 /// The key of the name whose labels these are, made at the end of a room.
+#[inline(never)]
 fn make_key_in(room: &mut [u8], alloc: Global, wire: &[u8]) -> Result<Wire, AllocError>
     requires wire { IsWire wire.now }
     requires enough { 2 * length wire.now ≤ length room.old }
@@ -106,6 +107,7 @@ fn make_key_in(room: &mut [u8], alloc: Global, wire: &[u8]) -> Result<Wire, Allo
 }
 
 /// The same for a label without a byte below 2, as nearly all are. For any other it returns nothing.
+#[inline(always)]
 fn put_plain(room: &mut [u8], end: usize, label: &[u8]) -> Option<usize>
     requires enough { length label.now < end }
     requires within { end ≤ length room.old }
@@ -127,6 +129,7 @@ fn put_plain(room: &mut [u8], end: usize, label: &[u8]) -> Option<usize>
 }
 
 /// Makes the key in a room of as many bytes as the labels take, where none of theirs is below 2. Returns whether none is.
+#[inline(always)]
 fn fill_plain_key(room: &mut [u8], wire: &[u8]) -> bool
     requires wire { IsWire wire.now }
     requires exact { length room.old ≡ length wire.now }

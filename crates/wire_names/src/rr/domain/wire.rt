@@ -1,13 +1,15 @@
 //! Where bytes are kept that are mostly few, as those of a name.
 
-ghost use Rattle.std.specs.Prelude.{◌≡◌, ◌≤◌, [], ◌-◌, length, take, drop, map, replicate, false, IsTrue, IfOk, OnOk, OnErr};
+ghost use Rattle.std.specs.Prelude.{◌≡◌, ◌≤◌, [], ◌+◌, ◌-◌, length, take, drop, map, replicate, false, IsTrue, IfOk, OnOk, OnErr};
 ghost use Rattle.std.specs.Char.{to_ascii_lowercase};
 ghost use Rattle.std.specs.Cmp.Lexicographic.{slice_cmp};
 ghost use Rattle.std.specs.Ordering.{nat_cmp};
 ghost use Rattle.wire_names.specs.rr.domain.NameBytes.{wire_bytes};
+ghost use Rattle.wire_names.specs.rr.domain.OrderKey.{word_behind};
+ghost use Rattle.wire_names.specs.serialize.layout.Bytes.{AreBytes};
 
 use crate::rr::domain::order_key::compare_keys;
-use crate::values::words::word_at;
+use crate::values::words::{WORD_LEN, word_at};
 use std::alloc::{AllocError, Global};
 use std::cmp::Ordering;
 use std::marker::Model;
@@ -167,6 +169,16 @@ impl ShortBytes {
         }
     }
 
+    /// The eight bytes from a place on as a number.
+    #[inline(always)]
+    fn word_from(&self, place: usize) -> u64
+        requires { place + 8 ≤ 30 }
+        ensures is { result ≡ word_behind place self.now }
+        ensures bytes { AreBytes self.now }
+    {
+        word_at(&self.bytes, place)
+    }
+
     /// Compares them as lists of bytes compare: the first bytes that differ decide, and where none do, the lengths.
     #[inline(always)]
     fn compare(&self, other: &ShortBytes) -> Ordering
@@ -207,6 +219,21 @@ fn remove_front(bytes: &mut Vec<u8>, count: usize)
     bytes.copy_within(count.., 0);
     let rest = bytes.len() - count;
     bytes.truncate(rest);
+}
+
+/// The eight bytes from a place on as a number, with zeros behind the end.
+#[inline(never)]
+fn padded_word(bytes: &[u8], place: usize) -> u64
+    ensures is { result ≡ word_behind place bytes.now }
+    ensures bytes { AreBytes bytes.now }
+{
+    let rest = &bytes[place.min(bytes.len())..];
+    if rest.len() >= WORD_LEN {
+        return word_at(rest, 0);
+    }
+    let mut padded = [0; WORD_LEN];
+    padded[..rest.len()].copy_from_slice(rest);
+    word_at(&padded, 0)
 }
 
 impl Wire {
@@ -313,6 +340,20 @@ impl Wire {
             }
         }
         compare_keys(self.as_slice(), other.as_slice())
+    }
+
+    /// The eight bytes from a place on as a number, with zeros behind the end.
+    #[inline(always)]
+    pub(crate) fn word_from(&self, place: usize) -> u64
+        ensures is { result ≡ word_behind place (wire_bytes self.now) }
+        ensures bytes { AreBytes (wire_bytes self.now) }
+    {
+        if let Wire::Short(short) = self {
+            if place <= SHORT_LEN - WORD_LEN {
+                return short.word_from(place);
+            }
+        }
+        padded_word(self.as_slice(), place)
     }
 
     /// Leaves the first bytes alone.

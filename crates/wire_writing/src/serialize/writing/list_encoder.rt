@@ -143,6 +143,7 @@ fn close_one(stops: &mut Stops, ending: Ending) -> u16
 }
 
 /// Writes a list of a section behind others, of which one may have been stuck; if so, the list is only taken. Answers how many records were written.
+#[inline(always)]
 pub fn write_list<'n, 'a: 'n, I: Iterator<Item = &'a Record> + Drop>(
     bytes: &mut Vec<u8>,
     table: &mut CompressionTable<'n>,

@@ -11,7 +11,7 @@ loop-init g c = (stays_so c.args.server.now, [], [], none, Consumes-nil _, Appen
 pub loop-preserved : goal.loop-preserved
 loop-preserved g c =
     let (stays, read, written, served, consumes, appends) = c.loop.invariant in
-    let (frame, frames, next, consumes_next, appends_next) = c.in_ok-serve_next.ensures.served in
+    let (frame, frames, next, consumes_next, appends_next) = rw c.source_of-source.ensures at c.in_ok-serve_next.ensures.served in
     let is_more : c.in_ok-serve_next.field-0 ≡ true = search rules in (
       stays_on c.args.server.now c.loop.server c.serve_next.new.server stays c.in_ok-serve_next.ensures.stays,
       read ++ frame,
@@ -25,7 +25,7 @@ loop-preserved g c =
 pub returns-then-not-branch-clause-served : goal.returns-then-not-branch-clause-served
 returns-then-not-branch-clause-served g c =
     let (stays, read, written, served, consumes, appends) = c.loop.invariant in
-    let (frame, frames, next, consumes_next, appends_next) = c.in_ok-serve_next.ensures.served in
+    let (frame, frames, next, consumes_next, appends_next) = rw c.source_of-source.ensures at c.in_ok-serve_next.ensures.served in
     let is_end : c.in_ok-serve_next.field-0 ≡ false = search rules in
     let ended = stream_end g.H.ZoneHandler g.S.ReplySigner.signature_for c.args.address c.args.server.now c.loop.server c.serve_next.new.server stays
     _ _ _ _ _ _ read written frame frames served (rw is_end at next) consumes consumes_next appends appends_next in

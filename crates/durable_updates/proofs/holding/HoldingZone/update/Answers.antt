@@ -4,6 +4,7 @@ use Rattle.std.specs.declared.alloc.Global.{Global}
 use Rattle.update_journal.specs.Read.{contents}
 use Rattle.durable_updates.specs.Holding.{IsKeptBut}
 use Rattle.durable_updates.specs.Recorded.{IsDurable}
+use Rattle.durable_updates.specs.ReadRequests.{those_read}
 use Rattle.durable_updates.specs.Runs.{ServesOne, after_answer}
 use Rattle.durable_updates.proofs.HeldZones.{more_held}
 use Rattle.durable_updates.proofs.Histories.{one_on}
@@ -20,11 +21,11 @@ invariant_of-self g c =
     let durable : IsDurable g.D.Disk c.update_durably.new.zone.zone c.update_durably.new.journal = λ clean.
     let was = kept (subst IsTrue c.update_durably.ensures.clean clean) in
     let serves : ServesOne g.V.Verifier g.D.Disk c.args.request.now c.args.now c.update_durably.result.0 c.update_durably.result.1 (record { zone = c.self.inside.zone; journal = c.self.inside.journal }) (record { zone = c.update_durably.new.zone; journal = c.update_durably.new.journal }) =
-    record { answers = c.update_durably.ensures.answers; made = c.update_durably.ensures.made; kept = c.update_durably.ensures.kept; journals = c.update_durably.ensures.journals } in (
+    record { answers = c.update_durably.ensures.answers; read = c.update_durably.ensures.read; accepted = c.update_durably.ensures.accepted; unread = c.update_durably.ensures.unread; made = c.update_durably.ensures.made; kept = c.update_durably.ensures.kept; journals = c.update_durably.ensures.journals } in (
       was.0,
       was.1,
       was.2,
-      after_answer was.3 (c.args.request.now ∷ []) c.update_durably.result.0 c.update_durably.new.journal.is_open,
+      after_answer was.3 (those_read (c.args.request.now ∷ [])) c.update_durably.result.0 c.update_durably.new.journal.is_open,
       was.4,
       one_on g.V.Verifier g.D.Disk was.2 was.1 was.3 c.args.request.now c.args.now c.update_durably.result.0 c.update_durably.result.1 (record { zone = c.self.inside.zone; journal = c.self.inside.journal }) (record { zone = c.update_durably.new.zone; journal = c.update_durably.new.journal }) was.5 serves,
     ) in

@@ -48,7 +48,7 @@ returns-clause-stands c =
 pub returns-clause-repeatable : goal.returns-clause-repeatable
 returns-clause-repeatable c =
     let same : c.as_slice.result.now ≡ c.args.self.now.bytes = c.as_slice.ensures ∙ ap (λ (r : ReceivedRequest). r.bytes) c.self.view_is in
-    let request : ReceivedRequest = record { message = c.read_message.new.message; bytes = c.self.inside.bytes; source = c.self.inside.source; protocol = c.self.inside.protocol } in
+    let request : ReceivedRequest = record { message = c.read_message.new.message; bytes = c.self.inside.bytes; source = c.self.inside.source; protocol = c.self.inside.protocol; was_read = c.self.inside.was_read } in
     elim c.match-read_message.branch [
       | in-Ok w ↦ rw w.result-is (λ repeats.
           let section : IsQuestionSection c.args.self.now.bytes request.message.queries = subst (λ (b : List ℕ). IsQuestionSection b request.message.queries) same w.in-Ok.ensures.questions in

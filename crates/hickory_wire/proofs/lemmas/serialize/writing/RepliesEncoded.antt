@@ -1,5 +1,5 @@
 -- Replies that were encoded: written, or in the place of one that was refused.
-use Rattle.std.proofs.Common.{◌≡◌, ℕ, ◌<◌, ◌^◌, List, refl, sym, subst}
+use Rattle.std.proofs.Common.{◌≡◌, ℕ, List, Result, Ok, Err, OnOk, IfOk, refl, sym, subst}
 use Rattle.wire_names.specs.serialize.layout.Bytes.{AreBytes}
 use Rattle.wire_messages.specs.serialize.layout.HeaderLayout.{header_octets}
 use Rattle.wire_messages.specs.serialize.writing.Reply.{Reply}
@@ -36,3 +36,8 @@ pub metadata_ranges : (metadata : Metadata) (question_count : ℕ) (s : Sections
 metadata_ranges metadata question_count s header is r =
     let same : IsMetadataInRange (header_by metadata question_count s).metadata = subst (λ (h : Header). IsMetadataInRange h.metadata) is r in
     record { id = same.id; op_code = same.op_code; response_code = same.response_code }
+
+-- two facts where there is a value
+pub where_both_ok : {X E A : Type 0} {P Q : X → Type 0} (r : Result X E) → OnOk r A → IfOk r P → ((x : X) → A → P x → Q x) → IfOk r Q
+where_both_ok (Ok x) a p both = both x a p
+where_both_ok (Err e) a p both = tt

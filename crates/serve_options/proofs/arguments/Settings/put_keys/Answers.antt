@@ -13,8 +13,8 @@ returns c = λ options say.
     elim c.match-option.branch [
       | in-text w ↦ rw (w.self-is, w.in-text.is)
           (say_more options (codes "--keys") c.args.text.now c.args.self.now _ say
-          (keys_gives c.args.text.now c.args.self.now _ (first_one c.args.self.now.keys (λ (f : Bor (List ℕ)). f.now) c.args.text.now (not_there _ _ w.is_none.ensures w.if-is_none.true)) refl refl refl refl refl refl refl refl refl refl refl))
+          (keys_gives c.args.text.now c.args.self.now _ (first_one c.args.self.now.keys (λ (f : Bor (List ℕ)). f.now) c.args.text.now (not_there _ _ w.is_none.ensures w.if-is_none.true)) refl refl refl refl refl refl refl refl refl refl refl refl))
       | in-text-2+in_ok-push-in-text-2 w ↦ rw (w.self-is, w.in-text-2.is)
           (say_more options (codes "--allow-transfer-key") c.args.text.now c.args.self.now _ say
-          (transfer_key_gives c.args.text.now c.args.self.now _ (key_more _ _ _ w.in_ok-push-in-text-2.ensures.items) refl refl refl refl refl refl refl refl refl refl refl))
+          (transfer_key_gives c.args.text.now c.args.self.now _ (key_more _ _ _ w.in_ok-push-in-text-2.ensures.items) refl refl refl refl refl refl refl refl refl refl refl refl))
     ]

@@ -69,7 +69,7 @@ same_first : (x y : ℕ) (o : Ordering) → x ≡ y → ordering_then (nat_cmp x
 same_first x y o e = ap (λ z. ordering_then (nat_cmp x z) o) (sym e) ∙ ap (λ r. ordering_then r o) (equal_is x)
 
 -- bytes that begin in the same way compare as what is behind does
-past : (i : ℕ) (xs ys : List ℕ) → i ≤ length xs → i ≤ length ys → take i xs ≡ take i ys → slice_cmp nat_cmp xs ys ≡ slice_cmp nat_cmp (drop i xs) (drop i ys)
+pub past : (i : ℕ) (xs ys : List ℕ) → i ≤ length xs → i ≤ length ys → take i xs ≡ take i ys → slice_cmp nat_cmp xs ys ≡ slice_cmp nat_cmp (drop i xs) (drop i ys)
 past zero xs ys p q e = refl
 past (suc i) [] ys p q e = absurd (omega arith)
 past (suc i) (x ∷ xs) [] p q e = absurd (omega arith)

@@ -1,12 +1,12 @@
 -- Order keys compare as the labels that they are made of.
-use Rattle.std.proofs.Common.{◌≡◌, ◌↔◌, ℕ, Bool, zero, suc, ◌+◌, ◌-◌, ◌*◌, ◌<◌, ◌≤◌, List, [], ◌∷◌, ◌++◌, length, map, take, drop, get_or, reverse, append_assoc, length-append, refl, sym, ap, ◌∙◌, arith}
+use Rattle.std.proofs.Common.{◌≡◌, ◌↔◌, ℕ, Bool, zero, suc, ◌+◌, ◌-◌, ◌*◌, ◌<◌, ◌≤◌, List, [], ◌∷◌, ◌++◌, length, map, take, drop, get_or, reverse, append_assoc, length-append, length-take, refl, sym, ap, ◌∙◌, subst, arith}
 use Rattle.std.specs.declared.cmp.Ordering.{Ordering}
 use Rattle.std.specs.declared.cmp.Ordering.TheVariants.{Less, Equal, Greater}
 use Rattle.std.specs.Ordering.{nat_cmp, ordering_then}
 use Rattle.std.specs.Bool.{IsTrue}
 use Rattle.std.specs.Cmp.Lexicographic.{slice_cmp, nat_list_cmp_total}
 use Rattle.std.proofs.lemmas.Map.Lookups.{exact_bytes}
-use Rattle.std.proofs.lemmas.List.{reverse-append, reverse-reverse, take-append-le, take-append-drop}
+use Rattle.std.proofs.lemmas.List.{reverse-append, reverse-reverse, take-append-le, take-append-drop, drop-map}
 use Rattle.std.proofs.Math.Seq.{take-length}
 use Rattle.std.specs.Cmp.Derive.Mapped.{lex_map}
 use Rattle.std.proofs.lemmas.Grind.{common_steps}
@@ -182,3 +182,20 @@ key_encloses own other key all b p q k a e = (
       let is : all ≡ key ++ order_key h.front = a ∙ key_of_enclosed own other p q h ∙ ap (λ xs. xs ++ order_key h.front) (sym k) in
       e.1 (ap (take (length key)) is ∙ take-append-le (length key) key (order_key h.front) (omega arith) ∙ take-length key),
 )
+
+some_labels : (ls : List (List ℕ)) → 0 < length (wire_form ls) → 0 < length ls
+some_labels [] h = absurd (omega arith)
+some_labels (l ∷ ls) h = omega arith
+
+-- and whether the name right above one encloses another, by the key of the one without its first label
+pub parent_encloses : (own other : List (List ℕ)) (wire key all : List ℕ) (count rest : ℕ) (b : Bool) → lower_labels own ≡ own → lower_labels other ≡ other
+    → wire ≡ wire_form own → 0 < length wire → FirstOff own key count → rest ≡ length key - count - 1 → all ≡ order_key other → IsTrue b ↔ (take rest all ≡ take rest key)
+    → IsTrue b ↔ (0 < length own) × Encloses (drop 1 own) other
+parent_encloses own other wire key all count rest b p q w some f is a e =
+    let some : 0 < length own = some_labels own (omega (arith, ap length w)) in
+    let front = take rest key in
+    let size : length front ≡ rest = omega (arith, length-take rest key) in
+    let lower : lower_labels (drop 1 own) ≡ drop 1 own = sym (drop-map lower_label 1 own) ∙ ap (drop 1) p in
+    let told : IsTrue b ↔ (take (length front) all ≡ front) = subst (λ n. IsTrue b ↔ (take n all ≡ front)) (sym size) e in
+    let inside : IsTrue b ↔ Encloses (drop 1 own) other = key_encloses (drop 1 own) other front all b lower q (ap (λ n. take n key) is ∙ f.rest) a told in
+    (λ h. (some, inside.0 h), λ h. inside.1 h.1)

@@ -48,7 +48,8 @@ greatest (b ∷ bs) p (suc q) e = elim (cases_lt 0 b) [
       ∙ greatest bs p q (omega (arith, e))
 ]
 
-padded : (cs bs : List ℕ) (p q : ℕ) → length cs + p ≡ length bs + q
+-- bytes compare as they do with zeros behind them, and where those tie, as their lengths
+pub padded : (cs bs : List ℕ) (p q : ℕ) → length cs + p ≡ length bs + q
     → ordering_then (slice_cmp nat_cmp (cs ++ replicate p zero) (bs ++ replicate q zero)) (nat_cmp (length cs) (length bs)) ≡ slice_cmp nat_cmp cs bs
 padded [] [] p q e =
     let level : p ≡ q = omega (arith, e) in

@@ -1,0 +1,16 @@
+use Rattle.std.proofs.Common.{ap, subst, sym, ◌∙◌}
+use Rattle.std.specs.Option.{option_copied}
+use Rattle.std.proofs.lemmas.Bool.{false≢true}
+use Rattle.hickory_zone.specs.Features.{IsOfLength}
+use Rattle.hickory_zone.specs.FoundRecords.{IsAbove}
+use Rattle.hickory_zone.specs.Zones.{ancestor}
+use Rattle.hickory_zone.proofs.find.is_bare.Goals as goal
+
+pub returns-in-Some : goal.returns-in-Some
+returns-in-Some c =
+    λ told. record {
+      dnames = c.if-has.false;
+      labels = c.parent_len.ensures.labels;
+      wildcards = λ among. false≢true (sym c.if-has_length.false ∙ c.has_length.ensures.1 (subst (IsOfLength c.args.has.wildcards) (sym c.parent_len.ensures.len) among));
+      used = subst (IsAbove (ancestor c.args.name.now 1)) (sym (ap option_copied c.in-Some.is)) (c.has_parent_above.ensures.0 told).1;
+    }

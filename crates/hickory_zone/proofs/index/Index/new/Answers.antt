@@ -1,0 +1,61 @@
+use Rattle.std.proofs.Common.{◌≡◌, ◌∙◌, ◌++◌, [], ◌∷◌, sym, subst, ap, append_assoc}
+use Rattle.std.specs.Map.{keys_of}
+use Rattle.std.specs.List.{AllByRecursion}
+use Rattle.std.specs.List.Sorted.{IsStrictlySortedBy}
+use Rattle.std.proofs.lemmas.List.{append-nil, map-append}
+use Rattle.std.proofs.lemmas.List.Elements.{recursion_from_All}
+use Rattle.wire_messages.specs.rr.RrKeys.{key_cmp}
+use Rattle.hickory_base.specs.zone_store.ZoneSets.{shared_sets}
+use Rattle.hickory_base.proofs.lemmas.zone_store.ZoneByName.{keys-shared}
+use Rattle.hickory_zone.specs.Indexes.{AreWordsOf, IsWordOf}
+use Rattle.hickory_zone.specs.KeysBeside.{Entry}
+use Rattle.hickory_zone.specs.Zones.{IsOwner}
+use Rattle.hickory_zone.proofs.lemmas.zones.Indexed.{one_more}
+use Rattle.hickory_zone.proofs.index.Index.new.Goals as goal
+
+pub loop-key-init : goal.loop-key-init
+loop-key-init c =
+    let origin = c.args.origin.now in
+    let none : c.in_ok-entries.entries.items ≡ [] = c.in_ok-entries.ensures.items in
+    let unnumbered : c.in_ok-words.words.items ≡ [] = c.in_ok-words.ensures.items in
+    let gives : c.into_iter-key-iterator.result ≡ c.args.sets.now.entries = c.into_iter-key-iterator.ensures.into_iter_gives.0 in
+    record {
+      sets = ap (λ es. shared_sets es ++ shared_sets c.into_iter-key-iterator.result) none ∙ ap shared_sets gives;
+      numbered = subst (λ es. AreWordsOf origin es c.in_ok-words.words.items) (sym none) (subst (AreWordsOf origin []) (sym unnumbered) tt);
+      owners = subst (λ es. AllByRecursion (IsOwner origin) (keys_of (shared_sets es))) (sym gives) (recursion_from_All (IsOwner origin) (keys_of (shared_sets c.args.sets.now.entries)) c.requires.owners);
+    }
+
+pub word_of-requires : goal.word_of-requires
+word_of-requires c =
+    let owners = subst (λ es. AllByRecursion (IsOwner c.args.origin.now) (keys_of (shared_sets es))) c.in-Some.ensures.steps c.loop-key.invariant.owners in
+    owners.0.within
+
+pub loop-key-preserved : goal.loop-key-preserved
+loop-key-preserved c =
+    let origin = c.args.origin.now in
+    let e : Entry = (c.in_ok-clone.field-0, c.in_ok-clone-2.field-0) in
+    let key : e.0 ≡ c.in-Some.key.now = c.in_ok-clone.ensures.cases in
+    let set : e.1.value ≡ c.in-Some.set.now.value = c.in_ok-clone-2.ensures.cases in
+    let words : c.push.new.self.items ≡ c.loop-key.words.items ++ c.word_of.result ∷ [] = c.in_ok-push.ensures.items in
+    let entries : c.push-in-loop-key.new.self.items ≡ c.loop-key.entries.items ++ e ∷ [] = c.in_ok-push-2.ensures.items in
+    let step = c.in-Some.ensures.steps in
+    let before = shared_sets c.loop-key.entries.items in
+    let rest = shared_sets c.next.new.self in
+    let word : IsWordOf origin e.0 c.word_of.result = subst (λ k. IsWordOf origin k c.word_of.result) (sym key) c.word_of.ensures in
+    record {
+      sets = ap (λ es. shared_sets es ++ rest) entries ∙ ap (λ es. es ++ rest) (map-append (λ (x : Entry). (x.0, x.1.value)) c.loop-key.entries.items (e ∷ []))
+          ∙ append_assoc before ((e.0, e.1.value) ∷ []) rest ∙ ap (λ k. before ++ (k, e.1.value) ∷ rest) key ∙ ap (λ s. before ++ (c.in-Some.key.now, s) ∷ rest) set
+          ∙ sym (ap (λ es. before ++ shared_sets es) step) ∙ c.loop-key.invariant.sets;
+      numbered = subst (λ es. AreWordsOf origin es c.push.new.self.items) (sym entries) (subst (AreWordsOf origin (c.loop-key.entries.items ++ e ∷ [])) (sym words)
+          (one_more origin c.loop-key.entries.items c.loop-key.words.items e c.word_of.result c.loop-key.invariant.numbered word));
+      owners = (subst (λ es. AllByRecursion (IsOwner origin) (keys_of (shared_sets es))) step c.loop-key.invariant.owners).1;
+    }
+
+pub invariant_of-result : goal.invariant_of-result
+invariant_of-result c =
+    let whole : shared_sets c.loop-key.entries.items ≡ shared_sets c.args.sets.now.entries =
+    sym (append-nil (shared_sets c.loop-key.entries.items)) ∙ sym (ap (λ es. shared_sets c.loop-key.entries.items ++ shared_sets es) c.in-None.ensures.steps.0) ∙ c.loop-key.invariant.sets in
+    record {
+      ordered = subst (IsStrictlySortedBy key_cmp) (sym (ap keys_of whole) ∙ keys-shared c.loop-key.entries.items) c.requires.ordered;
+      numbered = subst (λ d. AreWordsOf d c.loop-key.entries.items c.loop-key.words.items) (sym c.in_ok-clone-3.ensures.cases) c.loop-key.invariant.numbered;
+    }
