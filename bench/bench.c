@@ -28,6 +28,7 @@ enum call {
     ANSWER_REQUEST,
     ANSWER_TRANSFER,
     SERVE,
+    SERVE_FILTERED,
     UPDATE,
     FIND_ZONE,
     ALLOW,
@@ -43,6 +44,7 @@ struct side {
     uint64_t (*answer_request)(const uint8_t *, size_t, const uint8_t *, size_t, uint64_t);
     uint64_t (*answer_transfer)(const uint8_t *, size_t, const uint8_t *, size_t, uint64_t);
     uint64_t (*serve)(const uint8_t *, size_t, const uint8_t *, size_t, uint64_t);
+    uint64_t (*serve_filtered)(const uint8_t *, size_t, const uint8_t *, size_t, const uint8_t *, size_t, uint64_t);
     uint64_t (*update)(const uint8_t *, size_t, const uint8_t *, size_t, uint64_t);
     uint64_t (*find_zone)(const uint8_t *, size_t, const uint8_t *, size_t, uint64_t);
     uint64_t (*allow)(const uint8_t *, size_t, uint32_t, uint64_t);
@@ -52,11 +54,11 @@ struct side {
 
 static const struct side sides[] = {
     {"ours", bench_calls_read_request, bench_calls_read_message, bench_calls_write_message,
-     bench_calls_answer_request, bench_calls_answer_transfer, bench_calls_serve, bench_calls_update, bench_calls_find_zone,
-     bench_calls_allow, bench_calls_read_blocklist, bench_calls_is_blocked},
+     bench_calls_answer_request, bench_calls_answer_transfer, bench_calls_serve, bench_calls_serve_filtered, bench_calls_update,
+     bench_calls_find_zone, bench_calls_allow, bench_calls_read_blocklist, bench_calls_is_blocked},
     {"peer", peer_read_request, peer_read_message, peer_write_message, peer_answer_request, peer_answer_transfer,
-     NULL, peer_update, peer_find_zone, NULL, NULL, peer_is_blocked},
-    {"ldns", NULL, ldns_read_message, ldns_write_message, NULL, NULL, NULL, NULL, NULL, NULL, NULL, NULL},
+     NULL, NULL, peer_update, peer_find_zone, NULL, NULL, peer_is_blocked},
+    {"ldns", NULL, ldns_read_message, ldns_write_message, NULL, NULL, NULL, NULL, NULL, NULL, NULL, NULL, NULL},
 };
 
 #define SIDES (sizeof sides / sizeof sides[0])
@@ -68,7 +70,7 @@ struct job {
     // The message, zone, names, networks or list; then the request, the updates or the name, where there are any.
     struct bytes input;
     struct bytes second;
-    // The limit or the address.
+    // The limit, the address, or how many names are blocked.
     uint32_t number;
     // A bit for each side that does not take the input, where a side may refuse it.
     unsigned refused_by;
@@ -96,6 +98,8 @@ static int has_call(const struct side *side, const struct job *job)
         return side->answer_transfer != NULL && (job->size < 100000 || strcmp(side->name, "ours") == 0);
     case SERVE:
         return side->serve != NULL;
+    case SERVE_FILTERED:
+        return side->serve_filtered != NULL;
     case UPDATE:
         return side->update != NULL;
     case FIND_ZONE:
@@ -133,6 +137,12 @@ static uint64_t run_or_refuse(const struct side *side, const struct job *job, ui
     case SERVE:
         answer = side->serve(in->at, in->len, second->at, second->len, rounds);
         break;
+    case SERVE_FILTERED: {
+        struct bytes list = blocked_names(job->number);
+        answer = side->serve_filtered(list.at, list.len, in->at, in->len, second->at, second->len, rounds);
+        free(list.at);
+        break;
+    }
     case UPDATE:
         answer = side->update(in->at, in->len, second->at, second->len, rounds);
         break;
@@ -416,6 +426,7 @@ static void measure_served(void)
     measure("served, NXDomain", 1004, SERVE, standard_zone(), address_query("none.example.com."), 0);
     measure("served, a wildcard", 1004, SERVE, standard_zone(), address_query("x.w.example.com."), 0);
     measure("served, a referral", 1004, SERVE, standard_zone(), address_query("www.c.example.com."), 0);
+    measure("served, an address past a block list", 1004, SERVE_FILTERED, standard_zone(), address_query("h500.example.com."), 1000);
 }
 
 // An update that adds names and one that deletes them again; the zone is then as before, but for its serial.

@@ -15,6 +15,8 @@ uint64_t bench_calls_write_message(const uint8_t *bytes, size_t len, uint16_t li
 uint64_t bench_calls_answer_request(const uint8_t *zone, size_t zone_len, const uint8_t *bytes, size_t len, uint64_t rounds);
 uint64_t bench_calls_answer_transfer(const uint8_t *zone, size_t zone_len, const uint8_t *bytes, size_t len, uint64_t rounds);
 uint64_t bench_calls_serve(const uint8_t *zone, size_t zone_len, const uint8_t *bytes, size_t len, uint64_t rounds);
+uint64_t bench_calls_serve_filtered(const uint8_t *list, size_t list_len, const uint8_t *zone, size_t zone_len, const uint8_t *bytes, size_t len,
+                                    uint64_t rounds);
 uint64_t bench_calls_update(const uint8_t *zone, size_t zone_len, const uint8_t *updates, size_t len, uint64_t rounds);
 uint64_t bench_calls_find_zone(const uint8_t *zones, size_t zones_len, const uint8_t *wanted, size_t len, uint64_t rounds);
 uint64_t bench_calls_allow(const uint8_t *networks, size_t len, uint32_t address, uint64_t rounds);

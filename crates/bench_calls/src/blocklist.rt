@@ -8,7 +8,7 @@ use hickory_wire::{BinDecoder, LowerName, Name, RecordType};
 use std::alloc::Global;
 
 /// A handler that blocks the names that the lines of a text list.
-fn blocklist(alloc: Global, text: &[u8]) -> Option<BlocklistZoneHandler> {
+pub(crate) fn blocklist(alloc: Global, text: &[u8]) -> Option<BlocklistZoneHandler> {
     let config = BlocklistConfig::default();
     let mut list = BlocklistZoneHandler::new(alloc, Name::root(), config).ok()?;
     list.add(&mut CountedReader::new(text)).ok()?;

@@ -1,16 +1,24 @@
-//! Datagrams served as programs serve them: each is read as a request of its own, a zone answers as RFC 1034 says, and the reply is handed on.
+//! Datagrams served as programs serve them: a server reads each in the place of the one before it, its zones answer as RFC 1034 says, and the replies are
+//! made in the memory of those before.
 
 use crate::WRONG;
 use crate::answers::catalog;
+use crate::blocklist::blocklist;
 use crate::messages::source;
 use crate::zone::authoritative_zone;
+use hickory_base::zone_store::{Either, ZoneHandler};
 use hickory_catalog::catalog::Catalog;
-use hickory_server::access::AccessControl;
-use hickory_server::server::NoKeys;
-use hickory_server::server::serve::{Incoming, Outcome, serve};
-use hickory_wire::{Items, Octets, Protocol};
+use hickory_server::server::{Answer, NoKeys, Rules, Server};
+use hickory_store::blocklist::BlocklistZoneHandler;
+use hickory_wire::{Items, LowerName, Octets, Protocol};
 use hickory_zone::AuthoritativeZone;
+use signed_server::SignedServer;
 use std::alloc::Global;
+use std::mem;
+use tsig::Keys;
+
+/// A zone, or a list of blocked names behind it.
+type Filtered = Either<AuthoritativeZone, BlocklistZoneHandler>;
 
 /// How many bytes replies have together.
 fn total_len(replies: &Items<Octets>) -> u64 {
@@ -21,53 +29,122 @@ fn total_len(replies: &Items<Octets>) -> u64 {
     total
 }
 
-/// Serves a datagram; answers how many bytes its replies have.
-fn served(
-    alloc: Global,
-    access: &AccessControl,
-    catalog: &mut Catalog<NoKeys, AuthoritativeZone>,
-    bytes: &[u8],
-) -> Option<u64> {
-    let message = Incoming {
-        bytes: Vec::from_slice(alloc, bytes).ok()?,
-        src: source(),
-        protocol: Protocol::Udp,
-        now: 0,
-    };
-    match serve(alloc, access, catalog, message) {
-        Ok(Outcome::Replies(replies)) => Some(total_len(&replies)),
-        _ => None,
-    }
-}
-
 #[inline(never)]
-fn measured_serve(
+fn measured_serve<H: ZoneHandler>(
     alloc: Global,
-    access: &AccessControl,
-    catalog: &mut Catalog<NoKeys, AuthoritativeZone>,
+    server: &mut SignedServer<NoKeys, H>,
+    kept: &mut Items<Octets>,
     bytes: &[u8],
     rounds: u64,
 ) -> Option<u64> {
+    let source = source();
     let mut total = 0u64;
     for _ in 0..rounds {
-        total = total.wrapping_add(served(alloc, access, catalog, bytes)?);
+        let spare = mem::replace(kept, Items::new(alloc));
+        match server.serve_reusing(alloc, bytes, source, Protocol::Udp, 0, spare) {
+            Ok(Answer::Replies(replies)) => {
+                total = total.wrapping_add(total_len(&replies));
+                *kept = replies;
+            }
+            _ => return None,
+        }
     }
     Some(total)
 }
 
-/// Serves a datagram, in each round anew, by the zone of these records.
-fn serve_rounds(alloc: Global, zone: &[u8], bytes: &[u8], rounds: u64) -> Option<u64> {
-    let (origin, zone) = authoritative_zone(alloc, zone)?;
-    let mut catalog = catalog(alloc, origin, zone)?;
-    let access = AccessControl::new(alloc);
-    let total = measured_serve(alloc, &access, &mut catalog, bytes, rounds);
-    drop(access);
-    drop(catalog);
+/// The server of these zones, which has no keys.
+fn server<H: ZoneHandler>(
+    alloc: Global,
+    catalog: Catalog<NoKeys, H>,
+) -> Option<SignedServer<NoKeys, H>> {
+    let server = Server::new(alloc, Rules::new(alloc), catalog).ok()?;
+    SignedServer::new(alloc, server, Keys::new(alloc)).ok()
+}
+
+/// Serves a datagram, in each round anew, by the handlers of this zone.
+fn serve_rounds<H: ZoneHandler>(
+    alloc: Global,
+    catalog: Catalog<NoKeys, H>,
+    bytes: &[u8],
+    rounds: u64,
+) -> Option<u64> {
+    let mut server = server(alloc, catalog)?;
+    let mut kept = Items::new(alloc);
+    let total = measured_serve(alloc, &mut server, &mut kept, bytes, rounds);
+    drop(kept);
+    drop(server);
     total
+}
+
+/// Serves a datagram, in each round anew, by the zone of these records.
+fn serve_zone(alloc: Global, zone: &[u8], bytes: &[u8], rounds: u64) -> Option<u64> {
+    let (origin, zone) = authoritative_zone(alloc, zone)?;
+    serve_rounds(alloc, catalog(alloc, origin, zone)?, bytes, rounds)
 }
 
 /// Serves a datagram by a zone, whose records are the answers of messages, each behind its length; answers how many bytes all replies had.
 #[unsafe(no_mangle)]
 pub extern "C" fn bench_calls_serve(alloc: Global, zone: &[u8], bytes: &[u8], rounds: u64) -> u64 {
-    serve_rounds(alloc, zone, bytes, rounds).unwrap_or(WRONG)
+    serve_zone(alloc, zone, bytes, rounds).unwrap_or(WRONG)
+}
+
+/// The chain of a zone and of a list of blocked names, which is consulted about what the zone answers.
+fn filtered(
+    alloc: Global,
+    zone: AuthoritativeZone,
+    list: BlocklistZoneHandler,
+) -> Option<Vec<Filtered>> {
+    let mut chain = Vec::new(alloc);
+    chain.push(Either::Left(zone)).ok()?;
+    chain.push(Either::Right(list)).ok()?;
+    Some(chain)
+}
+
+/// The catalog with a zone of this origin, and a list of blocked names behind it.
+fn filtered_catalog(
+    alloc: Global,
+    origin: LowerName,
+    zone: AuthoritativeZone,
+    list: BlocklistZoneHandler,
+) -> Option<Catalog<NoKeys, Filtered>> {
+    let chain = filtered(alloc, zone, list)?;
+    let mut catalog = Catalog::new(alloc, NoKeys);
+    match catalog.upsert(origin, chain) {
+        Ok(old) => {
+            drop(old);
+            Some(catalog)
+        }
+        Err(back) => {
+            drop(back);
+            drop(catalog);
+            None
+        }
+    }
+}
+
+/// Serves a datagram, in each round anew, by the zone of these records and a list of blocked names behind it.
+fn serve_filtered(
+    alloc: Global,
+    list: &[u8],
+    zone: &[u8],
+    bytes: &[u8],
+    rounds: u64,
+) -> Option<u64> {
+    let list = blocklist(alloc, list)?;
+    let (origin, zone) = authoritative_zone(alloc, zone)?;
+    let catalog = filtered_catalog(alloc, origin, zone, list)?;
+    serve_rounds(alloc, catalog, bytes, rounds)
+}
+
+/// Serves a datagram by a zone, whose records are the answers of messages, each behind its length, and a list of blocked names, a line of text for each, behind it;
+/// answers how many bytes all replies had.
+#[unsafe(no_mangle)]
+pub extern "C" fn bench_calls_serve_filtered(
+    alloc: Global,
+    list: &[u8],
+    zone: &[u8],
+    bytes: &[u8],
+    rounds: u64,
+) -> u64 {
+    serve_filtered(alloc, list, zone, bytes, rounds).unwrap_or(WRONG)
 }
