@@ -1,6 +1,7 @@
 -- What is found, where it lies.
-use Rattle.std.specs.Prelude.{◌≡◌, ◌⊎◌, ◌↔◌, ◌&&◌, ◌-◌, ◌<◌, ◌≤◌, ℕ, nat_le, nat_lt, Bool, true, false, IsTrue, List, length, drop, Option, Some, None}
+use Rattle.std.specs.Prelude.{◌≡◌, ◌∷◌, [], ◌⊎◌, ◌↔◌, ◌&&◌, ◌-◌, ◌<◌, ◌≤◌, ℕ, nat_le, nat_lt, Bool, true, false, IsTrue, List, length, drop, Option, Some, None}
 use Rattle.std.specs.Borrow.{Bor}
+use Rattle.std.specs.List.{Contains}
 use Rattle.std.specs.Option.{IsSomeAnd, option_copied}
 use Rattle.wire_names.specs.rr.domain.DomainName.{AreLabels, DomainName, cut, wire_form}
 use Rattle.wire_names.specs.rr.domain.NameOrder.{Encloses, lower_labels}
@@ -8,6 +9,7 @@ use Rattle.wire_messages.specs.declared.rr.rr_key.RrKey.{RrKey}
 use Rattle.hickory_base.specs.zone_store.ZoneAnswers.{records_at}
 use Rattle.hickory_zone.specs.Zones.{Records, Sets, Zone, any_of, at_node, type_dname, type_ns, Delegates, Exists, HasClosestEncloser, HasDname, IsAuthoritativeAt, IsCut, Outcome, Redirects, answer, alias, referral, no_data, no_name, redirection, ancestor, by_wildcard, rrset, wild_alias, wild_answer, wildcard}
 use Rattle.hickory_zone.specs.Features.{IsOfLength}
+use Rattle.hickory_zone.specs.KeysBeside.{Entry}
 use Rattle.hickory_zone.specs.declared.features.Features.{Features}
 use Rattle.hickory_zone.specs.declared.find.Found.{Found}
 use Rattle.hickory_zone.specs.declared.find.Found.TheVariants as found
@@ -34,6 +36,19 @@ pub record IsBare (has : Features) (name : DomainName) (behind : Option RrKey) :
 abbrev pub missing_outcome : Option Records → Outcome
 missing_outcome (Some servers) = referral servers
 missing_outcome None = no_name
+
+-- Among the entries are these records, of the type, of the wildcard right below the name above this one.
+pub record IsWildAmong (entries : List Entry) (name : DomainName) (t : ℕ) (rs : Records) : Type 0 where
+  pub entry : Entry
+  pub among : Contains entries entry
+  pub is : entry.0.name.labels ≡ (42 ∷ []) ∷ drop 1 name.labels
+  pub of_type : entry.0.record_type ≡ t
+  pub records : entry.1.value ≡ rs
+
+-- what is answered for a name for which a wildcard stands that owns these records, below these servers of a cut, if there is one
+abbrev pub wild_or_referral : Option Records → Records → Outcome
+wild_or_referral (Some servers) rs = referral servers
+wild_or_referral None rs = wild_answer rs
 
 -- The name was taken up to its closest encloser.
 pub record IsEncloser (sets : Sets) (name encloser : DomainName) : Type 0 where

@@ -1,6 +1,6 @@
 //! How the names of a zone are found.
 
-ghost use Rattle.std.specs.Prelude.{◌≡◌, ◌↔◌, ◌⊎◌, ℕ, IfOk, MatchOption, IsTrue, true, false, cond, Some, None};
+ghost use Rattle.std.specs.Prelude.{◌≡◌, ◌↔◌, ◌⊎◌, [], ℕ, IfOk, MatchOption, IsTrue, true, false, cond, Some, None};
 ghost use Rattle.std.specs.Bool.{OnTrue};
 ghost use Rattle.std.specs.Option.{option_copied};
 ghost use Rattle.hickory_base.specs.zone_store.ZoneAnswers.{records_at};
@@ -11,16 +11,17 @@ ghost use Rattle.wire_names.specs.rr.domain.DomainName.{AreLabels, IsWire, wire_
 ghost use Rattle.hickory_zone.specs.Features.{AreFeatures, IsOfLength};
 ghost use Rattle.hickory_zone.specs.FoundRecords.{first_or};
 ghost use Rattle.hickory_zone.specs.Indexes.{IsIndexOf};
-ghost use Rattle.hickory_zone.specs.KeysBeside.{SharedMap, StandsBehind};
+ghost use Rattle.std.specs.List.{Contains};
+ghost use Rattle.hickory_zone.specs.KeysBeside.{AreSetsAmong, Entry, SharedMap, StandsBehind};
 ghost use Rattle.std.specs.Option.{unwrap_or};
 ghost use Rattle.wire_names.specs.rr.domain.DomainName.{DomainName};
-ghost use Rattle.hickory_zone.specs.FoundRecords.{CutAbove, CutAt, WildFound, may_be_cut, name_of, outcome_of, IsAbove, IsBare, IsEncloser, Tells, missing_outcome};
+ghost use Rattle.hickory_zone.specs.FoundRecords.{CutAbove, CutAt, WildFound, may_be_cut, name_of, outcome_of, IsAbove, IsBare, IsEncloser, IsWildAmong, Tells, missing_outcome, wild_or_referral};
 ghost use Rattle.wire_names.specs.rr.domain.NameOrder.{Encloses};
 
 use crate::features::{Features, has_length};
-use crate::index::Index;
+use crate::index::{Index, SharedSet};
 use crate::redirections::{Redirection, redirection_from, redirection_of};
-use crate::wildcards::wildcard_below;
+use crate::wildcards::{is_wildcard_beside, wildcard_below};
 use hickory_base::zone_store::RecordSet;
 use hickory_wire::{LowerName, Name, Record, RecordType, RrKey};
 use std::alloc::{AllocError, Global};
@@ -38,6 +39,8 @@ pub(crate) struct Node<'z> {
     pub(crate) servers: Option<&'z [Record]>,
     /// The first key from the name's first on.
     pub(crate) behind: Option<&'z RrKey>,
+    /// The sets before the name's first key, where an index tells them, and else none.
+    pub(crate) before: &'z [SharedSet],
 }
 
 /// The key that was found before, or else this one.
@@ -76,6 +79,7 @@ fn node_at<'z>(
     ensures alias { option_copied result.alias ≡ rrset (sets_of sets.now) first.now.name type_cname }
     ensures servers { option_copied result.servers ≡ rrset (sets_of sets.now) first.now.name type_ns }
     ensures behind { StandsBehind sets.now first.now (option_copied result.behind) }
+    ensures before { result.before.now ≡ [] }
 {
     let mut wanted = None;
     let mut alias = None;
@@ -96,6 +100,7 @@ fn node_at<'z>(
         alias,
         servers,
         behind,
+        before: &[],
     }
 }
 
@@ -109,12 +114,14 @@ fn node_in<'z>(index: &'z Index, first: &RrKey, record_type: RecordType) -> Node
     ensures alias { option_copied result.alias ≡ rrset (shared_sets index.now.entries) first.now.name type_cname }
     ensures servers { option_copied result.servers ≡ rrset (shared_sets index.now.entries) first.now.name type_ns }
     ensures behind { (sets : SharedMap) → sets_of sets ≡ shared_sets index.now.entries → StandsBehind sets first.now (option_copied result.behind) }
+    ensures before { (e : Entry) → Contains result.before.now e → Contains index.now.entries e }
 {
     let mut wanted = None;
     let mut alias = None;
     let mut servers = None;
     let mut behind = None;
-    for (key, set) in index.from_key(first) {
+    let sides = index.beside_key(first);
+    for (key, set) in sides.from {
         behind = first_key(behind, key);
         if first.name != key.name {
             break;
@@ -129,6 +136,7 @@ fn node_in<'z>(index: &'z Index, first: &RrKey, record_type: RecordType) -> Node
         alias,
         servers,
         behind,
+        before: sides.before,
     }
 }
 
@@ -148,6 +156,7 @@ fn node_by<'z>(
     ensures alias { option_copied result.alias ≡ rrset (sets_of sets.now) first.now.name type_cname }
     ensures servers { option_copied result.servers ≡ rrset (sets_of sets.now) first.now.name type_ns }
     ensures behind { StandsBehind sets.now first.now (option_copied result.behind) }
+    ensures before { AreSetsAmong result.before.now (sets_of sets.now) }
 {
     match index {
         Some(index) => node_in(index, first, record_type),
@@ -649,6 +658,58 @@ fn is_bare(name: &LowerName, behind: Option<&RrKey>, has: Features) -> bool
     }
 }
 
+/// How many of the sets before a name are looked at for a wildcard's, of which most own no more.
+const MOST_WILD: usize = 4;
+
+/// The last of these sets, as many as are looked at.
+fn last_of(before: &[SharedSet]) -> &[SharedSet]
+    ensures { (e : Entry) → Contains result.now e → Contains before.now e }
+{
+    &before[before.len().saturating_sub(MOST_WILD)..]
+}
+
+/// The records of a type of the wildcard right below the name above this one, where they are among the last of these sets.
+fn wild_among<'z>(
+    name: &LowerName,
+    record_type: RecordType,
+    before: &'z [SharedSet],
+) -> Option<&'z [Record]>
+    ensures { IfSome result (λ records. IsWildAmong before.now name.now record_type records.now) }
+{
+    for (key, set) in last_of(before) {
+        if key.record_type == record_type && is_wildcard_beside(&key.name, name) {
+            return Some(set.records());
+        }
+    }
+    None
+}
+
+/// The same where nothing redirects the name, and records of one type are asked for.
+#[inline(always)]
+fn wild_at_once<'z>(
+    name: &LowerName,
+    record_type: RecordType,
+    before: &'z [SharedSet],
+    has: Features,
+) -> Option<&'z [Record]>
+    ensures { IfSome result (λ records. (has.dnames ≡ false) × ¬ (record_type ≡ type_any) × IsWildAmong before.now name.now record_type records.now) }
+{
+    if has.dnames || is_any(record_type) {
+        return None;
+    }
+    wild_among(name, record_type, before)
+}
+
+/// What is found where a wildcard that owns these records stands for a name that does not exist, and no DNAME redirects it.
+fn found_wild_answer<'z>(above: Option<&'z [Record]>, records: &'z [Record]) -> Found<'z>
+    ensures { (sets : Sets) (name : DomainName) → outcome_of sets name result ≡ wild_or_referral (option_copied above.entry) records.now }
+{
+    match above {
+        Some(cut) => Found::Referral(cut),
+        None => Found::WildAnswer(records),
+    }
+}
+
 /// What is found where no wildcard stands for a name that does not exist, and no DNAME redirects it.
 fn found_missing<'z>(above: Option<&'z [Record]>) -> Found<'z>
     ensures { (sets : Sets) (name : DomainName) → outcome_of sets name result ≡ missing_outcome (option_copied above.entry) }
@@ -692,7 +753,7 @@ fn look_above_by_name<'z>(
     look_beside(alloc, origin, sets, first, record_type, behind, above, has)
 }
 
-/// The same. Mostly the key behind the name tells that the name above exists, and then that one is not copied.
+/// The same. Mostly the key behind the name tells that the name above exists, or one before it is of the wildcard that stands for it, and then no name is made.
 #[inline(always)]
 fn look_above<'z>(
     alloc: Global,
@@ -701,6 +762,7 @@ fn look_above<'z>(
     first: &RrKey,
     record_type: RecordType,
     behind: Option<&'z RrKey>,
+    before: &'z [SharedSet],
     above: Option<&'z [Record]>,
     has: Features,
 ) -> Result<Found<'z>, AllocError>
@@ -709,6 +771,7 @@ fn look_above<'z>(
     requires owners { AreOwners origin.now (sets_of sets.now) }
     requires within { Encloses origin.now.labels first.now.name.labels }
     requires behind { StandsBehind sets.now first.now (option_copied behind) }
+    requires before { AreSetsAmong before.now (sets_of sets.now) }
     requires missing { ¬ (Exists (sets_of sets.now) first.now.name) }
     requires above { CutAbove (record { origin = origin.now; sets = sets_of sets.now }) first.now.name (option_copied above) }
     requires features { AreFeatures (record { origin = origin.now; sets = sets_of sets.now }) has }
@@ -717,6 +780,10 @@ fn look_above<'z>(
     // speed: served, a name that is not there
     if is_bare(&first.name, behind, has) {
         return Ok(found_missing(above));
+    }
+    // speed: served, a wildcard
+    if let Some(records) = wild_at_once(&first.name, record_type, before, has) {
+        return Ok(found_wild_answer(above, records));
     }
     look_above_by_name(alloc, origin, sets, first, record_type, behind, above, has)
 }
@@ -822,6 +889,7 @@ pub(crate) fn look_up_by<'z>(
             first,
             record_type,
             node.behind,
+            node.before,
             above,
             has,
         )

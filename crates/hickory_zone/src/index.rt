@@ -1,6 +1,6 @@
 //! The sets of a zone that does not change, in an order that is searched by numbers.
 
-ghost use Rattle.std.specs.Prelude.{◌≡◌, ◌<◌, ◌≤◌, IfOk, Some, drop, length};
+ghost use Rattle.std.specs.Prelude.{◌≡◌, ◌<◌, ◌≤◌, ◌++◌, IfOk, Some, drop, length};
 ghost use Rattle.std.specs.List.{slice_get};
 ghost use Rattle.std.specs.List.Sorted.{IsStrictlySortedBy};
 ghost use Rattle.std.specs.Map.{keys_of};
@@ -42,6 +42,15 @@ impl Model for Index {
     ghost view = { λ index. record { apex = index.apex; entries = index.entries.items } };
 
     ghost invariant = { λ index. IsSearched index.apex index.entries.items index.words.items };
+}
+
+/// The sets of an index on both sides of a key.
+#[derive(Clone, Copy)]
+pub(crate) struct Sides<'z> {
+    /// The sets before the key.
+    pub(crate) before: &'z [SharedSet],
+    /// The sets from the key on.
+    pub(crate) from: &'z [SharedSet],
 }
 
 /// The number of a key's name, which is at the apex or below it.
@@ -117,14 +126,19 @@ impl Index {
         })
     }
 
-    /// The sets from a key on, whose name is at the apex or below it.
+    /// The sets on both sides of a key, whose name is at the apex or below it.
     #[inline(always)]
-    pub(crate) fn from_key(&self, first: &RrKey) -> &[SharedSet]
+    pub(crate) fn beside_key(&self, first: &RrKey) -> Sides<'_>
         requires { Encloses self.now.apex.labels first.now.name.labels }
-        ensures is { result.now ≡ entries_between key_cmp (Included first.now) Unbounded self.now.entries }
+        ensures whole { result.before.now ++ result.from.now ≡ self.now.entries }
+        ensures is { result.from.now ≡ entries_between key_cmp (Included first.now) Unbounded self.now.entries }
         ensures ordered { IsStrictlySortedBy key_cmp (keys_of self.now.entries) }
     {
         let entries = self.entries.as_slice();
-        &entries[place_of(&self.apex, entries, self.words.as_slice(), first)..]
+        let place = place_of(&self.apex, entries, self.words.as_slice(), first);
+        Sides {
+            before: &entries[..place],
+            from: &entries[place..],
+        }
     }
 }

@@ -15,4 +15,5 @@ pub mod Redirected
 pub mod Searches
 pub mod Unique
 pub mod Wild
+pub mod WildBeside
 pub mod Written

@@ -13,9 +13,9 @@ pub loop-key-init : goal.loop-key-init
 loop-key-init c =
     let first = c.args.first.now in
     let entries = c.args.index.now.entries in
-    let range = c.from_key-key-items.result.now in
-    let is = c.from_key-key-items.ensures.is in
-    let ordered = c.from_key-key-items.ensures.ordered in
+    let range = c.beside_key-sides.result.from.now in
+    let is = c.beside_key-sides.ensures.is in
+    let ordered = c.beside_key-sides.ensures.ordered in
     record {
       wanted = front_is first c.args.record_type entries range c.requires.least ordered is;
       alias = front_is first 5 entries range c.requires.least ordered is;
@@ -27,7 +27,7 @@ pub loop-key-preserved : goal.loop-key-preserved
 loop-key-preserved c =
     let first = c.args.first.now in
     let sets = shared_sets c.args.index.now.entries in
-    let range = c.from_key-key-items.result.now in
+    let range = c.beside_key-sides.result.from.now in
     let e : Entry = c.loop-key-item.result in
     let rest = drop (c.loop-key.key-index + 1) range in
     let turn : drop c.loop-key.key-index range ≡ e ∷ rest = in_turn range c.loop-key.key-index e c.loop-key-test.true c.loop-key-item.is in
@@ -43,7 +43,7 @@ loop-key-preserved c =
 
 pub returns-clause-behind : goal.returns-clause-behind
 returns-clause-behind c =
-    let range = c.from_key-key-items.result.now in
+    let range = c.beside_key-sides.result.from.now in
     let place = c.loop-key.key-index in
     let before = c.loop-key.invariant.behind in
     let met : IsFirst range (option_copied c.loop-key-test.behind) = elim c.loop-key-test.branch [
@@ -55,4 +55,4 @@ returns-clause-behind c =
           (in_turn range place w.loop-key-item.result w.loop-key-test.true w.loop-key-item.is) w.first_key-behind.ensures))
           before)
     ] in
-    behind_in c.args.index.now.entries range c.args.first.now (option_copied c.loop-key-test.behind) c.from_key-key-items.ensures.ordered c.from_key-key-items.ensures.is met
+    behind_in c.args.index.now.entries range c.args.first.now (option_copied c.loop-key-test.behind) c.beside_key-sides.ensures.ordered c.beside_key-sides.ensures.is met

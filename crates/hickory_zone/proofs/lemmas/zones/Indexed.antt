@@ -1,6 +1,7 @@
 -- Sets that are searched by numbers.
 use Rattle.std.proofs.Common.{◌≡◌, ℕ, zero, suc, ◌+◌, ◌<◌, Bool, true, false, cond, List, [], ◌∷◌, ◌++◌, length, drop, filter, get_or, Option, Some, None, refl, sym, ap, subst, ◌∙◌, arith}
 use Rattle.std.specs.Prelude.{◌==◌, nat_lt, slice_get}
+use Rattle.std.specs.List.{Contains}
 use Rattle.std.specs.Ordering.{is_lt, nat_cmp, ordering_then}
 use Rattle.std.specs.declared.cmp.Ordering.{Ordering}
 use Rattle.std.specs.declared.cmp.Ordering.TheVariants.{Less, Equal, Greater}
@@ -119,3 +120,15 @@ behind_in es range first key sorted is least sets same =
       of = is_range key_total first sets ordered part refl;
       least = first_of_keys range part key parts least;
     }
+
+-- an entry of an index is one of its sets
+pub among_sets : (es : List Entry) (i : ℕ) (e : Entry) → i < length es → get_or es i e ≡ e → Contains (shared_sets es) (e.0, e.1.value)
+among_sets [] i e h is = absurd (omega arith)
+among_sets (x ∷ es) zero e h is = (0, omega arith, ap (λ (y : Entry). (y.0, y.1.value)) is)
+among_sets (x ∷ es) (suc i) e h is = let rest = among_sets es i e (omega arith) is in (suc rest.0, omega (arith, rest.1), rest.2)
+
+-- what stands behind a place is there
+pub among_rest : (es : List Entry) (s i : ℕ) (e : Entry) → i < length (drop s es) → get_or (drop s es) i e ≡ e → Contains es e
+among_rest es zero i e h is = (i, h, is)
+among_rest [] (suc s) i e h is = absurd (omega arith)
+among_rest (x ∷ es) (suc s) i e h is = let rest = among_rest es s i e h is in (suc rest.0, omega (arith, rest.1), rest.2)

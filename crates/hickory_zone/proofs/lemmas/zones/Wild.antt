@@ -28,7 +28,7 @@ module _ (sets : SharedMap) (encloser : DomainName) (t : ℕ) (first : RrKey) (b
   none_stands apart origin owners = λ x. apart ((exists_behind sets first behind origin least marked owners b).0 (subst (Exists (sets_of sets)) (sym is) x))
 
 -- a name exists where the wildcard right below it does
-below_it : (sets : Sets) (name : DomainName) → Exists sets (wildcard name) → Exists sets name
+pub below_it : (sets : Sets) (name : DomainName) → Exists sets (wildcard name) → Exists sets name
 below_it sets name x = record {
   owner = x.owner;
   held = x.held;
