@@ -67,7 +67,7 @@ pub beside_bytes : (own ls : List (List ℕ)) (w v : List ℕ) → w ≡ wire_fo
 beside_bytes own ls w v of_own of_name =
     subst (λ (x : List ℕ). 0 < length v → 1 < length x → get_or x 0 0 ≡ 1 → get_or x 1 0 ≡ 42 → drop 2 x ≡ drop (1 + get_or v 0 0) v → own ≡ (42 ∷ []) ∷ drop 1 ls) (sym of_own)
     (subst (λ (y : List ℕ). 0 < length y → 1 < length (wire_form own) → get_or (wire_form own) 0 0 ≡ 1 → get_or (wire_form own) 1 0 ≡ 42
-        → drop 2 (wire_form own) ≡ drop (1 + get_or y 0 0) y → own ≡ (42 ∷ []) ∷ drop 1 ls) (sym of_name) (beside own ls))
+    → drop 2 (wire_form own) ≡ drop (1 + get_or y 0 0) y → own ≡ (42 ∷ []) ∷ drop 1 ls) (sym of_name) (beside own ls))
 
 -- what is taken of the rest, as long as it is, is the rest
 rest_taken : (xs : List ℕ) (n m : ℕ) → n ≡ m → take (length xs - n) (drop n xs) ≡ drop m xs

@@ -32,7 +32,6 @@ key_among (x ∷ sets) (suc i) s h is = let rest = key_among sets i s (omega ari
 
 module _ (zone : Zone) (name : DomainName) (t : ℕ) (entries : List Entry) (records : Bor Records) (qualified : name.is_fqdn ≡ true) (owners : AreOwners zone.origin zone.sets)
     (sorted : IsStrictlySortedBy key_cmp (keys_of zone.sets)) (among : AreSetsAmong entries zone.sets) (w : IsWildAmong entries name t records.now) where
-
   abbrev parent : DomainName
   parent = ancestor name 1
 
@@ -60,7 +59,7 @@ module _ (zone : Zone) (name : DomainName) (t : ℕ) (entries : List Entry) (rec
   owns =
       let own : RrKey = record { name = wildcard parent; record_type = t } in
       let is : key ≡ own = ap (λ (n : DomainName). let k : RrKey = record { name = n; record_type = key.record_type } in k) named
-          ∙ ap (λ (u : ℕ). let k : RrKey = record { name = wildcard parent; record_type = u } in k) w.of_type in
+      ∙ ap (λ (u : ℕ). let k : RrKey = record { name = wildcard parent; record_type = u } in k) w.of_type in
       lookup-from_Contains (eq_by_cmp_equiv key_total) own records.now zone.sets (IsDistinct-from_sorted key_cmp (keys_of zone.sets) sorted)
       (subst (λ (k : RrKey). Contains zone.sets (k, records.now)) is (subst (λ (rs : Records). Contains zone.sets (key, rs)) w.records there))
 
