@@ -1,7 +1,10 @@
 -- The sets of a zone in the order of their keys, with numbers by which they are searched.
-use Rattle.std.specs.Prelude.{◌≡◌, ℕ, List, [], ◌∷◌}
+use Rattle.std.specs.Prelude.{◌≡◌, ℕ, List, [], ◌∷◌, false}
+use Rattle.std.specs.BTreeMap.Range.{range_contains}
+use Rattle.std.specs.List.{AllByRecursion}
 use Rattle.std.specs.List.Sorted.{IsStrictlySortedBy}
 use Rattle.std.specs.Map.{keys_of}
+use Rattle.std.specs.declared.ops.Bound.TheVariants.{Included, Unbounded}
 use Rattle.wire_names.specs.rr.domain.DomainName.{DomainName}
 use Rattle.wire_names.specs.rr.domain.NameOrder.{Encloses, lower_labels}
 use Rattle.wire_names.specs.rr.domain.OrderKey.{order_key, order_word}
@@ -40,3 +43,7 @@ AreWordsOf apex es words = ⊥
 pub record IsSearched (apex : DomainName) (entries : List Entry) (words : List ℕ) : Type 0 where
   pub ordered : IsStrictlySortedBy key_cmp (keys_of entries)
   pub numbered : AreWordsOf apex entries words
+
+-- All their keys are before this one.
+abbrev pub AreBefore : RrKey → List Entry → Type 0
+AreBefore first entries = AllByRecursion (λ (e : Entry). range_contains key_cmp (Included first) Unbounded e.0 ≡ false) entries

@@ -1,6 +1,6 @@
 //! The sets of a zone that does not change, in an order that is searched by numbers.
 
-ghost use Rattle.std.specs.Prelude.{◌≡◌, ◌<◌, ◌≤◌, ◌++◌, IfOk, Some, drop, length};
+ghost use Rattle.std.specs.Prelude.{◌≡◌, ◌<◌, ◌≤◌, ◌++◌, IfOk, List, Some, drop, length, take};
 ghost use Rattle.std.specs.List.{slice_get};
 ghost use Rattle.std.specs.List.Sorted.{IsStrictlySortedBy};
 ghost use Rattle.std.specs.Map.{keys_of};
@@ -11,7 +11,7 @@ ghost use Rattle.wire_names.specs.rr.domain.DomainName.{DomainName};
 ghost use Rattle.wire_names.specs.rr.domain.NameOrder.{Encloses};
 ghost use Rattle.wire_messages.specs.rr.RrKeys.{key_cmp};
 ghost use Rattle.hickory_base.specs.zone_store.ZoneSets.{AreSetsInOrder, sets_of};
-ghost use Rattle.hickory_zone.specs.Indexes.{AreWordsOf, IsIndexOf, IsSearched, IsWordOf};
+ghost use Rattle.hickory_zone.specs.Indexes.{AreBefore, AreWordsOf, IsIndexOf, IsSearched, IsWordOf};
 ghost use Rattle.hickory_zone.specs.KeysBeside.{Entry};
 ghost use Rattle.hickory_zone.specs.Zones.{AreOwners};
 
@@ -81,15 +81,41 @@ fn is_before(entries: &[SharedSet], words: &[u64], place: usize, word: u64, firs
     }
 }
 
-/// The place from which on no key is before this one.
-fn place_of(apex: &LowerName, entries: &[SharedSet], words: &[u64], first: &RrKey) -> usize
-    requires searched { IsSearched apex.now entries.now words.now }
-    requires within { Encloses apex.now.labels first.now.name.labels }
+/// A place before which there are only keys before one of this number, as the numbers alone tell. Mostly the key there, if there is one, is not.
+#[inline(always)]
+fn place_by_words(words: &[u64], word: u64) -> usize
+    ensures within { result ≤ length words.now }
+    ensures before { (apex : DomainName) (first : RrKey) (entries : List Entry) → IsSearched apex entries words.now → IsWordOf apex first word → AreBefore first (take result entries) }
+{
+    let mut low = 0;
+    let mut high = words.len();
+    while low < high {
+        let middle = low + (high - low) / 2;
+        if words[middle] < word {
+            low = middle + 1;
+        } else {
+            high = middle;
+        }
+    }
+    low
+}
+
+/// The place from which on no key is before this one, whose number is known, where all before another place are.
+#[inline(never)]
+fn place_behind(
+    entries: &[SharedSet],
+    words: &[u64],
+    word: u64,
+    first: &RrKey,
+    start: usize,
+) -> usize
+    requires searched { (apex : DomainName) × IsSearched apex entries.now words.now × IsWordOf apex first.now word }
+    requires start { start ≤ length entries.now }
+    requires before { AreBefore first.now (take start entries.now) }
     ensures within { result ≤ length entries.now }
     ensures is { drop result entries.now ≡ entries_between key_cmp (Included first.now) Unbounded entries.now }
 {
-    let word = word_of(apex, first);
-    let mut low = 0;
+    let mut low = start;
     let mut high = entries.len();
     while low < high {
         let middle = low + (high - low) / 2;
@@ -100,6 +126,22 @@ fn place_of(apex: &LowerName, entries: &[SharedSet], words: &[u64], first: &RrKe
         }
     }
     low
+}
+
+/// The place from which on no key is before this one.
+fn place_of(apex: &LowerName, entries: &[SharedSet], words: &[u64], first: &RrKey) -> usize
+    requires searched { IsSearched apex.now entries.now words.now }
+    requires within { Encloses apex.now.labels first.now.name.labels }
+    ensures within { result ≤ length entries.now }
+    ensures is { drop result entries.now ≡ entries_between key_cmp (Included first.now) Unbounded entries.now }
+{
+    let word = word_of(apex, first);
+    // speed: served, an address
+    let place = place_by_words(words, word);
+    if place < entries.len() && is_before(entries, words, place, word, first) {
+        return place_behind(entries, words, word, first, place);
+    }
+    place
 }
 
 impl Index {
