@@ -1,5 +1,8 @@
 -- The sets of a zone in the order of their keys, with numbers by which they are searched.
-use Rattle.std.specs.Prelude.{◌≡◌, ℕ, List, [], ◌∷◌}
+use Rattle.std.specs.Prelude.{◌≡◌, ℕ, false, true, List, [], ◌∷◌, drop, take}
+use Rattle.std.specs.BTreeMap.Range.{range_contains}
+use Rattle.std.specs.List.{AllByRecursion}
+use Rattle.std.specs.declared.ops.Bound.TheVariants.{Included, Unbounded}
 use Rattle.std.specs.List.Sorted.{IsStrictlySortedBy}
 use Rattle.std.specs.Map.{keys_of}
 use Rattle.wire_names.specs.rr.domain.DomainName.{DomainName}
@@ -40,3 +43,8 @@ AreWordsOf apex es words = ⊥
 pub record IsSearched (apex : DomainName) (entries : List Entry) (words : List ℕ) : Type 0 where
   pub ordered : IsStrictlySortedBy key_cmp (keys_of entries)
   pub numbered : AreWordsOf apex entries words
+
+-- The place stands behind the keys that are before this one.
+pub record IsPlaceOf (first : RrKey) (entries : List Entry) (place : ℕ) : Type 0 where
+  pub before : AllByRecursion (λ e. range_contains key_cmp (Included first) Unbounded e.0 ≡ false) (take place entries)
+  pub behind : AllByRecursion (λ e. range_contains key_cmp (Included first) Unbounded e.0 ≡ true) (drop place entries)
