@@ -1,10 +1,10 @@
 -- The sets of a zone in the order of their keys, with numbers by which they are searched.
-use Rattle.std.specs.Prelude.{◌≡◌, ℕ, List, [], ◌∷◌, false}
+use Rattle.std.specs.Prelude.{◌≡◌, ℕ, false, true, List, [], ◌∷◌, drop, take}
 use Rattle.std.specs.BTreeMap.Range.{range_contains}
 use Rattle.std.specs.List.{AllByRecursion}
+use Rattle.std.specs.declared.ops.Bound.TheVariants.{Included, Unbounded}
 use Rattle.std.specs.List.Sorted.{IsStrictlySortedBy}
 use Rattle.std.specs.Map.{keys_of}
-use Rattle.std.specs.declared.ops.Bound.TheVariants.{Included, Unbounded}
 use Rattle.wire_names.specs.rr.domain.DomainName.{DomainName}
 use Rattle.wire_names.specs.rr.domain.NameOrder.{Encloses, lower_labels}
 use Rattle.wire_names.specs.rr.domain.OrderKey.{order_key, order_word}
@@ -47,3 +47,8 @@ pub record IsSearched (apex : DomainName) (entries : List Entry) (words : List �
 -- All their keys are before this one.
 abbrev pub AreBefore : RrKey → List Entry → Type 0
 AreBefore first entries = AllByRecursion (λ (e : Entry). range_contains key_cmp (Included first) Unbounded e.0 ≡ false) entries
+
+-- The place stands behind the keys that are before this one.
+pub record IsPlaceOf (first : RrKey) (entries : List Entry) (place : ℕ) : Type 0 where
+  pub before : AreBefore first (take place entries)
+  pub behind : AllByRecursion (λ e. range_contains key_cmp (Included first) Unbounded e.0 ≡ true) (drop place entries)

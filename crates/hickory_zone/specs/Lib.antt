@@ -12,6 +12,7 @@ pub mod Parents
 pub mod Redirections
 pub mod Replies
 pub mod ReplyAtOnce
+pub mod TopCuts
 pub mod WorkedRedirections
 pub mod WorkedReplies
 pub mod WorkedZones

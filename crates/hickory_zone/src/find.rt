@@ -345,8 +345,8 @@ fn servers_or<'z>(
 }
 
 /// The servers of the highest cut above a name in the zone, if it is cut there. At its apex and above it there is none.
-#[inline(always)]
-fn cut_above<'z>(
+#[inline(never)]
+fn climb_to_cut<'z>(
     alloc: Global,
     sets: &'z BTreeMap<RrKey, Rc<RecordSet>>,
     origin: &LowerName,
@@ -367,6 +367,45 @@ fn cut_above<'z>(
         highest = servers_or(alloc, sets, apex, &wire[place..], has, highest)?;
     }
     Ok(highest)
+}
+
+/// The same by the index of a zone. Only what is two labels or more below the apex can have a cut above it.
+#[inline(always)]
+fn cut_above_in<'z>(index: &'z Index, origin: &LowerName, first: &RrKey) -> Option<&'z [Record]>
+    requires least { first.now.record_type ≡ 0 }
+    requires qualified { first.now.name.is_fqdn ≡ true }
+    requires within { Encloses origin.now.labels first.now.name.labels }
+    requires index { index.now.apex ≡ origin.now }
+    ensures { CutAbove (record { origin = origin.now; sets = shared_sets index.now.entries }) first.now.name (option_copied result) }
+{
+    if parent_len(&first.name) <= origin.as_name().as_wire().len() {
+        return None;
+    }
+    // speed: served, a referral
+    index.cut_above(first)
+}
+
+/// The same by the zone's index, if it has one, for a key's name. No type is below that of the key.
+#[inline(always)]
+fn cut_above<'z>(
+    alloc: Global,
+    sets: &'z BTreeMap<RrKey, Rc<RecordSet>>,
+    origin: &LowerName,
+    first: &RrKey,
+    has: Features,
+    index: Option<&'z Index>,
+) -> Result<Option<&'z [Record]>, AllocError>
+    requires least { first.now.record_type ≡ 0 }
+    requires qualified { first.now.name.is_fqdn ≡ true }
+    requires within { Encloses origin.now.labels first.now.name.labels }
+    requires features { AreFeatures (record { origin = origin.now; sets = sets_of sets.now }) has }
+    requires index { IfSome (option_copied index) (IsIndexOf origin.now (sets_of sets.now)) }
+    ensures { IfOk result (λ found. CutAbove (record { origin = origin.now; sets = sets_of sets.now }) first.now.name (option_copied found)) }
+{
+    match index {
+        Some(index) => Ok(cut_above_in(index, origin, first)),
+        None => climb_to_cut(alloc, sets, origin, &first.name, has),
+    }
 }
 
 /// Where the authority of a zone ends above a name or at it, where the servers of the highest cut above it are known, and its own NS records.
@@ -870,7 +909,7 @@ pub(crate) fn look_up_by<'z>(
     requires index { IfSome (option_copied index) (IsIndexOf origin.now (sets_of sets.now)) }
     ensures { IfOk result (λ found. Answers (record { origin = origin.now; sets = sets_of sets.now }) first.now.name record_type (outcome_of (sets_of sets.now) first.now.name found)) }
 {
-    let above = cut_above(alloc, sets, origin, &first.name, has)?;
+    let above = cut_above(alloc, sets, origin, first, has, index)?;
     if let Some(servers) = referral_at_once(above, has) {
         return Ok(Found::Referral(servers));
     }

@@ -1,6 +1,7 @@
 //! The sets of a zone that does not change, in an order that is searched by numbers.
 
-ghost use Rattle.std.specs.Prelude.{◌≡◌, ◌<◌, ◌≤◌, ◌++◌, IfOk, List, Some, drop, length, take};
+ghost use Rattle.std.specs.Prelude.{◌≡◌, ◌<◌, ◌≤◌, ◌++◌, IfOk, List, Some, drop, length, take, true};
+ghost use Rattle.std.specs.Option.{option_copied};
 ghost use Rattle.std.specs.List.{slice_get};
 ghost use Rattle.std.specs.List.Sorted.{IsStrictlySortedBy};
 ghost use Rattle.std.specs.Map.{keys_of};
@@ -10,13 +11,15 @@ ghost use Rattle.std.specs.declared.ops.Bound.TheVariants.{Included, Unbounded};
 ghost use Rattle.wire_names.specs.rr.domain.DomainName.{DomainName};
 ghost use Rattle.wire_names.specs.rr.domain.NameOrder.{Encloses};
 ghost use Rattle.wire_messages.specs.rr.RrKeys.{key_cmp};
-ghost use Rattle.hickory_base.specs.zone_store.ZoneSets.{AreSetsInOrder, sets_of};
-ghost use Rattle.hickory_zone.specs.Indexes.{AreBefore, AreWordsOf, IsIndexOf, IsSearched, IsWordOf};
+ghost use Rattle.hickory_base.specs.zone_store.ZoneSets.{AreSetsInOrder, sets_of, shared_sets};
+ghost use Rattle.hickory_zone.specs.FoundRecords.{CutAbove};
+ghost use Rattle.hickory_zone.specs.Indexes.{AreBefore, AreWordsOf, IsIndexOf, IsPlaceOf, IsSearched, IsWordOf};
 ghost use Rattle.hickory_zone.specs.KeysBeside.{Entry};
 ghost use Rattle.hickory_zone.specs.Zones.{AreOwners};
 
+use crate::cuts::Cuts;
 use hickory_base::zone_store::RecordSet;
-use hickory_wire::{LowerName, RrKey};
+use hickory_wire::{LowerName, Record, RrKey};
 use std::alloc::{AllocError, Global};
 use std::collections::BTreeMap;
 use std::marker::Model;
@@ -25,23 +28,27 @@ use std::rc::Rc;
 /// A set and its key.
 pub(crate) type SharedSet = (RrKey, Rc<RecordSet>);
 
-/// The sets of a zone in the order of their keys, and beside each the number of its name below the apex, which stands in this order too.
+/// The sets of a zone in the order of their keys, and beside each the number of its name below the apex, which stands in this order too;
+/// and its topmost cuts.
 // speed: served, an address
 #[derive(Drop)]
 pub(crate) struct Index {
     apex: LowerName,
     words: Vec<u64>,
     entries: Vec<SharedSet>,
+    cuts: Cuts,
 }
 
 impl Model for Index {
+    ghost use Rattle.hickory_base.specs.zone_store.ZoneSets.{shared_sets};
     ghost use Rattle.hickory_zone.specs.Indexes.{IndexedSets, IsSearched};
+    ghost use Rattle.hickory_zone.specs.TopCuts.{AreCutsOf};
 
     ghost Value = { IndexedSets };
 
     ghost view = { λ index. record { apex = index.apex; entries = index.entries.items } };
 
-    ghost invariant = { λ index. IsSearched index.apex index.entries.items index.words.items };
+    ghost invariant = { λ index. IsSearched index.apex index.entries.items index.words.items × AreCutsOf (record { origin = index.apex; sets = shared_sets index.entries.items }) index.cuts };
 }
 
 /// The sets of an index on both sides of a key.
@@ -55,7 +62,7 @@ pub(crate) struct Sides<'z> {
 
 /// The number of a key's name, which is at the apex or below it.
 #[inline(always)]
-fn word_of(apex: &LowerName, key: &RrKey) -> u64
+pub(crate) fn word_of(apex: &LowerName, key: &RrKey) -> u64
     requires { Encloses apex.now.labels key.now.name.labels }
     ensures { IsWordOf apex.now key.now result }
 {
@@ -113,6 +120,7 @@ fn place_behind(
     requires start { start ≤ length entries.now }
     requires before { AreBefore first.now (take start entries.now) }
     ensures within { result ≤ length entries.now }
+    ensures place { IsPlaceOf first.now entries.now result }
     ensures is { drop result entries.now ≡ entries_between key_cmp (Included first.now) Unbounded entries.now }
 {
     let mut low = start;
@@ -129,10 +137,16 @@ fn place_behind(
 }
 
 /// The place from which on no key is before this one.
-fn place_of(apex: &LowerName, entries: &[SharedSet], words: &[u64], first: &RrKey) -> usize
+pub(crate) fn place_of(
+    apex: &LowerName,
+    entries: &[SharedSet],
+    words: &[u64],
+    first: &RrKey,
+) -> usize
     requires searched { IsSearched apex.now entries.now words.now }
     requires within { Encloses apex.now.labels first.now.name.labels }
     ensures within { result ≤ length entries.now }
+    ensures place { IsPlaceOf first.now entries.now result }
     ensures is { drop result entries.now ≡ entries_between key_cmp (Included first.now) Unbounded entries.now }
 {
     let word = word_of(apex, first);
@@ -161,10 +175,12 @@ impl Index {
             words.push(word_of(origin, key))?;
             entries.push((key.clone()?, set.clone()?))?;
         }
+        let cuts = Cuts::new(alloc, origin, entries.as_slice())?;
         Ok(Index {
             apex: origin.clone()?,
             words,
             entries,
+            cuts,
         })
     }
 
@@ -182,5 +198,15 @@ impl Index {
             before: &entries[..place],
             from: &entries[place..],
         }
+    }
+
+    /// The servers of the highest cut above a key's name, which is at the apex or below it, if the zone is cut there. No type is below that of the key.
+    pub(crate) fn cut_above(&self, first: &RrKey) -> Option<&[Record]>
+        requires least { first.now.record_type ≡ 0 }
+        requires qualified { first.now.name.is_fqdn ≡ true }
+        requires within { Encloses self.now.apex.labels first.now.name.labels }
+        ensures { CutAbove (record { origin = self.now.apex; sets = shared_sets self.now.entries }) first.now.name (option_copied result) }
+    {
+        self.cuts.above(&self.apex, first)
     }
 }

@@ -5,6 +5,7 @@ mod additionals;
 mod answers;
 mod authoritative_zone;
 mod chains;
+mod cuts;
 pub mod denials;
 mod features;
 mod find;

@@ -13,6 +13,8 @@ pub mod Owners
 pub mod Ranges
 pub mod Redirected
 pub mod Searches
+pub mod TopCuts
+pub mod TopCutsMade
 pub mod Unique
 pub mod Wild
 pub mod WildBeside

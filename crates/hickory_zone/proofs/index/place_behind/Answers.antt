@@ -38,8 +38,15 @@ loop-low-preserved c =
       behind = on_from key_total first entries middle at.0 c.requires.searched.1.ordered at.1 from;
     }
 
+pub returns-clause-place : goal.returns-clause-place
+returns-clause-place c =
+    let met : c.loop-low.high ≡ c.loop-low.low = omega arith in
+    record {
+      before = c.loop-low.invariant.below;
+      behind = subst (λ n. AreFrom key_cmp c.args.first.now (drop n c.args.entries.now)) met c.loop-low.invariant.behind;
+    }
+
 pub returns-clause-is : goal.returns-clause-is
 returns-clause-is c =
-    let met : c.loop-low.high ≡ c.loop-low.low = omega arith in
-    found_place key_total c.args.first.now c.args.entries.now c.loop-low.low c.loop-low.invariant.below
-    (subst (λ n. AreFrom key_cmp c.args.first.now (drop n c.args.entries.now)) met c.loop-low.invariant.behind)
+    let place = returns-clause-place c in
+    found_place key_total c.args.first.now c.args.entries.now c.loop-low.low place.before place.behind

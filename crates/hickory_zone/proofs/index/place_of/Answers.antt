@@ -14,15 +14,23 @@ is_before-requires-clause-words c = as_many _ _ _ c.requires.searched.numbered
 pub returns-clause-within : goal.returns-clause-within
 returns-clause-within c = omega (arith, as_many _ _ _ c.requires.searched.numbered, c.place_by_words-place.ensures.within)
 
-pub returns-clause-is : goal.returns-clause-is
-returns-clause-is c =
+pub returns-clause-place : goal.returns-clause-place
+returns-clause-place c =
     let entries = c.args.entries.now in
     let first = c.args.first.now in
     let place = c.place_by_words-place.result in
-    found_place key_total first entries place (c.place_by_words-place.ensures.before c.args.apex.now first entries c.requires.searched c.word_of-word.ensures) (elim c.else-place-entries.branch [
-      | else-place-entries-via-then-place-entries+else-is_before w ↦
-          let at = entry_at entries place w.if-place-entries.true in
-          let from : is_lt (key_cmp at.0.0 first) ≡ false = sym (w.is_before.ensures c.args.apex.now at.0 c.requires.searched.numbered c.word_of-word.ensures at.1) ∙ w.if-is_before.false in
-          on_from key_total first entries place at.0 c.requires.searched.ordered at.1 from
-      | else-place-entries-via-else-place-entries w ↦ subst (AreFrom key_cmp first) (sym (drop_all place entries w.if-place-entries.false)) tt
-    ])
+    record {
+      before = c.place_by_words-place.ensures.before c.args.apex.now first entries c.requires.searched c.word_of-word.ensures;
+      behind = elim c.else-place-entries.branch [
+        | else-place-entries-via-then-place-entries+else-is_before w ↦
+            let at = entry_at entries place w.if-place-entries.true in
+            let from : is_lt (key_cmp at.0.0 first) ≡ false = sym (w.is_before.ensures c.args.apex.now at.0 c.requires.searched.numbered c.word_of-word.ensures at.1) ∙ w.if-is_before.false in
+            on_from key_total first entries place at.0 c.requires.searched.ordered at.1 from
+        | else-place-entries-via-else-place-entries w ↦ subst (AreFrom key_cmp first) (sym (drop_all place entries w.if-place-entries.false)) tt
+      ];
+    }
+
+pub returns-clause-is : goal.returns-clause-is
+returns-clause-is c =
+    let place = returns-clause-place c in
+    found_place key_total c.args.first.now c.args.entries.now c.place_by_words-place.result place.before place.behind

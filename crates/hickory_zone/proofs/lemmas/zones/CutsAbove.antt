@@ -152,7 +152,7 @@ module _ (zone : Zone) (name : DomainName) where
         (chosen seen (may_be_cut (length (wire_form zone.origin.labels)) has (length (wire_form (drop (seen + 1) name.labels)))) before (is_one (seen + 1)) (is_none (seen + 1)) h)
 
   -- a name that is no longer than the apex is no cut, and none above it is
-  none_from : (seen i : ℕ) → length (wire_form (drop seen name.labels)) ≤ length (wire_form zone.origin.labels) → seen ≤ i → ¬ (IsCut zone (ancestor name i))
+  pub none_from : (seen i : ℕ) → length (wire_form (drop seen name.labels)) ≤ length (wire_form zone.origin.labels) → seen ≤ i → ¬ (IsCut zone (ancestor name i))
   none_from seen i short h c =
       let e : seen + (i - seen) ≡ i = omega arith in
       let same : ancestor (ancestor name seen) (i - seen) ≡ ancestor name i = ancestor-ancestor name (i - seen) seen ∙ ap (ancestor name) e in

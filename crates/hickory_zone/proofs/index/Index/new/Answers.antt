@@ -1,15 +1,17 @@
-use Rattle.std.proofs.Common.{◌≡◌, ◌∙◌, ◌++◌, [], ◌∷◌, sym, subst, ap, append_assoc}
+use Rattle.std.proofs.Common.{◌≡◌, ◌∙◌, ◌++◌, List, [], ◌∷◌, sym, subst, ap, append_assoc}
 use Rattle.std.specs.Map.{keys_of}
 use Rattle.std.specs.List.{AllByRecursion}
 use Rattle.std.specs.List.Sorted.{IsStrictlySortedBy}
 use Rattle.std.proofs.lemmas.List.{append-nil, map-append}
 use Rattle.std.proofs.lemmas.List.Elements.{recursion_from_All}
 use Rattle.wire_messages.specs.rr.RrKeys.{key_cmp}
-use Rattle.hickory_base.specs.zone_store.ZoneSets.{shared_sets}
+use Rattle.hickory_base.specs.zone_store.ZoneSets.{AreSetsInOrder, sets_of, shared_sets}
 use Rattle.hickory_base.proofs.lemmas.zone_store.ZoneByName.{keys-shared}
 use Rattle.hickory_zone.specs.Indexes.{AreWordsOf, IsWordOf}
 use Rattle.hickory_zone.specs.KeysBeside.{Entry}
-use Rattle.hickory_zone.specs.Zones.{IsOwner}
+use Rattle.hickory_zone.specs.TopCuts.{AreCutsOf}
+use Rattle.wire_names.specs.rr.domain.DomainName.{DomainName}
+use Rattle.hickory_zone.specs.Zones.{IsOwner, Sets}
 use Rattle.hickory_zone.proofs.lemmas.zones.Indexed.{one_more}
 use Rattle.hickory_zone.proofs.index.Index.new.Goals as goal
 
@@ -51,11 +53,22 @@ loop-key-preserved c =
       owners = (subst (λ es. AllByRecursion (IsOwner origin) (keys_of (shared_sets es))) step c.loop-key.invariant.owners).1;
     }
 
+-- all were put, and in order
+in_order : (es rest : List Entry) (sets : Sets) → shared_sets es ++ shared_sets rest ≡ sets → rest ≡ [] → AreSetsInOrder sets → IsStrictlySortedBy key_cmp (keys_of es)
+in_order es rest sets is none ordered =
+    let whole : shared_sets es ≡ sets = sym (append-nil (shared_sets es)) ∙ sym (ap (λ ms. shared_sets es ++ shared_sets ms) none) ∙ is in
+    subst (IsStrictlySortedBy key_cmp) (sym (ap keys_of whole) ∙ keys-shared es) ordered
+
+pub new-requires-clause-ordered : goal.new-requires-clause-ordered
+new-requires-clause-ordered c = subst (λ (es : List Entry). IsStrictlySortedBy key_cmp (keys_of es)) (sym c.as_slice.ensures.value)
+    (in_order c.loop-key.entries.items c.loop-key.key-iterator (sets_of c.args.sets.now) c.loop-key.invariant.sets c.in-None.ensures.steps.0 c.requires.ordered)
+
 pub invariant_of-result : goal.invariant_of-result
 invariant_of-result c =
-    let whole : shared_sets c.loop-key.entries.items ≡ shared_sets c.args.sets.now.entries =
-    sym (append-nil (shared_sets c.loop-key.entries.items)) ∙ sym (ap (λ es. shared_sets c.loop-key.entries.items ++ shared_sets es) c.in-None.ensures.steps.0) ∙ c.loop-key.invariant.sets in
-    record {
-      ordered = subst (IsStrictlySortedBy key_cmp) (sym (ap keys_of whole) ∙ keys-shared c.loop-key.entries.items) c.requires.ordered;
-      numbered = subst (λ d. AreWordsOf d c.loop-key.entries.items c.loop-key.words.items) (sym c.in_ok-clone-3.ensures.cases) c.loop-key.invariant.numbered;
-    }
+    let entries = c.loop-key.entries.items in
+    let apex : c.in_ok-clone-3.field-0 ≡ c.args.origin.now = c.in_ok-clone-3.ensures.cases in
+    let cuts : AreCutsOf (record { origin = c.args.origin.now; sets = shared_sets entries }) c.in_ok-cuts.cuts =
+    subst (λ (es : List Entry). AreCutsOf (record { origin = c.args.origin.now; sets = shared_sets es }) c.in_ok-cuts.cuts) c.as_slice.ensures.value c.in_ok-cuts.ensures in (
+      record { ordered = in_order entries c.loop-key.key-iterator (sets_of c.args.sets.now) c.loop-key.invariant.sets c.in-None.ensures.steps.0 c.requires.ordered; numbered = subst (λ d. AreWordsOf d entries c.loop-key.words.items) (sym apex) c.loop-key.invariant.numbered },
+      subst (λ (d : DomainName). AreCutsOf (record { origin = d; sets = shared_sets entries }) c.in_ok-cuts.cuts) (sym apex) cuts,
+    )

@@ -4,7 +4,7 @@ use Rattle.std.specs.Option.{option_copied}
 use Rattle.hickory_base.specs.zone_store.ZoneSets.{sets_of}
 use Rattle.wire_names.specs.rr.domain.DomainName.{label_offset}
 use Rattle.hickory_zone.proofs.lemmas.zones.CutsAbove.{AboveSoFar}
-use Rattle.hickory_zone.proofs.find.cut_above.Given as goal
+use Rattle.hickory_zone.proofs.find.climb_to_cut.Given as goal
 
 abbrev pub invariant-loop-place : goal.invariant-loop-place
 invariant-loop-place l = (seen : ℕ) × (l.place ≡ label_offset l.name.labels seen) × AboveSoFar (record { origin = l.origin; sets = sets_of l.sets }) l.name seen (option_copied l.highest)

@@ -5,7 +5,7 @@ use Rattle.wire_names.specs.rr.domain.DomainName.{AreLabels, wire_form}
 use Rattle.wire_names.proofs.lemmas.rr.domain.WireForm.{offset-size, wire_short}
 use Rattle.hickory_zone.proofs.lemmas.zones.CutsAbove.{Climbs, climb, climbs, in_the_end, rest_name, rest_wire}
 use Rattle.hickory_zone.specs.Zones.{Zone}
-use Rattle.hickory_zone.proofs.find.cut_above.Goals as goal
+use Rattle.hickory_zone.proofs.find.climb_to_cut.Goals as goal
 
 pub slice_bounds-servers_or-count : goal.slice_bounds-servers_or-count
 slice_bounds-servers_or-count c =

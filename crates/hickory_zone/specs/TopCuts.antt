@@ -1,0 +1,54 @@
+-- The cuts of a zone that no other cut is above (RFC 1034 section 4.2).
+use Rattle.std.specs.Prelude.{◌≡◌, ◌⊎◌, ◌-◌, List, length, Some, true}
+use Rattle.std.specs.List.{All, Contains, slice_get}
+use Rattle.std.specs.Option.{IsSomeAnd}
+use Rattle.wire_names.specs.rr.domain.DomainName.{DomainName}
+use Rattle.wire_names.specs.rr.domain.NameOrder.{Encloses}
+use Rattle.wire_messages.specs.declared.rr.rr_key.RrKey.{RrKey}
+use Rattle.hickory_zone.specs.declared.cuts.Cuts.{Cuts}
+use Rattle.hickory_zone.specs.Indexes.{IsSearched}
+use Rattle.hickory_zone.specs.KeysBeside.{Entry}
+use Rattle.hickory_zone.specs.Zones.{IsCut, Zone, rrset, type_ns}
+
+-- The zone is cut at the key's name, and these are the NS records there.
+pub record IsSetOfCut (zone : Zone) (e : Entry) : Type 0 where
+  pub cut : IsCut zone e.0.name
+  pub qualified : e.0.name.is_fqdn ≡ true
+  pub servers : rrset zone.sets e.0.name type_ns ≡ Some e.1.value
+
+-- One of the sets is of a name that is this one or above it.
+pub record IsBelowOne (cuts : List Entry) (name : DomainName) : Type 0 where
+  pub top : Entry
+  pub held : Contains cuts top
+  pub at_or_below : Encloses top.0.name.labels name.labels
+
+-- None is above another.
+abbrev pub AreApart : List Entry → Type 0
+AreApart cuts = (one other : Entry) → Contains cuts one → Contains cuts other → Encloses one.0.name.labels other.0.name.labels → one.0 ≡ other.0
+
+-- The zone is cut there, and elsewhere only below.
+pub record AreTopCuts (zone : Zone) (cuts : List Entry) : Type 0 where
+  pub each : All (IsSetOfCut zone) cuts
+  pub whole : (name : DomainName) → IsCut zone name → IsBelowOne cuts name
+  pub apart : AreApart cuts
+
+-- These sets are they, and can be searched for those above a name.
+pub record AreCutsOf (zone : Zone) (cuts : Cuts) : Type 0 where
+  pub tops : AreTopCuts zone cuts.entries.items
+  pub searched : IsSearched zone.origin cuts.entries.items cuts.words.items
+
+-- ---- how they are told, in the order of the keys
+
+-- The last of the sets is of the key's name or of one above it.
+abbrev pub IsBelowLast : List Entry → RrKey → Type 0
+IsBelowLast cuts key = IsSomeAnd (slice_get cuts (length cuts - 1)) (λ e. Encloses e.0.name.labels key.name.labels)
+
+-- The key is of NS records below the apex, and not below the last of these cuts.
+pub record IsPut (origin : DomainName) (cuts : List Entry) (key : RrKey) : Type 0 where
+  pub servers : key.record_type ≡ type_ns
+  pub below_apex : ¬ (Encloses key.name.labels origin.labels)
+  pub apart : ¬ (IsBelowLast cuts key)
+
+-- It is not.
+abbrev pub IsPassedOver : DomainName → List Entry → RrKey → Type 0
+IsPassedOver origin cuts key = ¬ (key.record_type ≡ type_ns) ⊎ (Encloses key.name.labels origin.labels ⊎ IsBelowLast cuts key)

@@ -1,0 +1,92 @@
+//! The topmost cuts of a zone that does not change, in an order that is searched by numbers.
+
+ghost use Rattle.std.specs.Prelude.{◌≡◌, ◌↔◌, IfOk, IsTrue, false, true};
+ghost use Rattle.std.specs.List.Sorted.{IsStrictlySortedBy};
+ghost use Rattle.std.specs.Map.{keys_of};
+ghost use Rattle.std.specs.Option.{option_copied};
+ghost use Rattle.wire_names.specs.rr.domain.NameOrder.{Encloses};
+ghost use Rattle.wire_messages.specs.rr.RrKeys.{key_cmp};
+ghost use Rattle.hickory_base.specs.zone_store.ZoneSets.{shared_sets};
+ghost use Rattle.hickory_zone.specs.FoundRecords.{CutAbove};
+ghost use Rattle.hickory_zone.specs.Indexes.{IsSearched};
+ghost use Rattle.hickory_zone.specs.TopCuts.{AreCutsOf, IsBelowLast, IsPassedOver, IsPut};
+ghost use Rattle.hickory_zone.specs.Zones.{AreOwners, Sets};
+
+use crate::index::{SharedSet, place_of, word_of};
+use hickory_base::zone_store::RecordSet;
+use hickory_wire::{LowerName, Record, RecordType, RrKey};
+use std::alloc::{AllocError, Global};
+use std::rc::Rc;
+
+/// The sets of type NS at the cuts that no other cut is above, in the order of their keys, and beside each the number of its name below the apex.
+// speed: served, a referral
+#[derive(Drop)]
+pub(crate) struct Cuts {
+    words: Vec<u64>,
+    entries: Vec<SharedSet>,
+}
+
+/// Whether the last of these cuts is above the key's name or at it.
+fn is_below_last(cuts: &[SharedSet], key: &RrKey) -> bool
+    ensures { IsTrue result ↔ IsBelowLast cuts.now key.now }
+{
+    match cuts.last() {
+        Some((top, _)) => top.name.zone_of(&key.name),
+        None => false,
+    }
+}
+
+/// Whether a set is that of a cut, and the last of the cuts before it is not above its name.
+fn is_top_cut(origin: &LowerName, cuts: &[SharedSet], key: &RrKey) -> bool
+    ensures cut { IsTrue result → IsPut origin.now cuts.now key.now }
+    ensures other { result ≡ false → IsPassedOver origin.now cuts.now key.now }
+{
+    key.record_type == RecordType::NS && !key.name.zone_of(origin) && !is_below_last(cuts, key)
+}
+
+impl Cuts {
+    /// The topmost cuts of the zone of this origin.
+    pub(crate) fn new(
+        alloc: Global,
+        origin: &LowerName,
+        sets: &[SharedSet],
+    ) -> Result<Cuts, AllocError>
+        requires owners { AreOwners origin.now (shared_sets sets.now) }
+        requires ordered { IsStrictlySortedBy key_cmp (keys_of sets.now) }
+        ensures { IfOk result (AreCutsOf (record { origin = origin.now; sets = shared_sets sets.now })) }
+    {
+        let mut words = Vec::new(alloc);
+        let mut entries = Vec::new(alloc);
+        for (key, set) in sets {
+            if is_top_cut(origin, entries.as_slice(), key) {
+                words.push(word_of(origin, key))?;
+                entries.push((key.clone()?, set.clone()?))?;
+            }
+        }
+        Ok(Cuts { words, entries })
+    }
+
+    /// The servers of the highest cut above a key's name, which is in the zone of this origin, if it is cut there. No type is below that of the key.
+    #[inline(never)]
+    pub(crate) fn above(&self, origin: &LowerName, first: &RrKey) -> Option<&[Record]>
+        requires searched { IsSearched origin.now self.now.entries.items self.now.words.items }
+        requires least { first.now.record_type ≡ 0 }
+        requires qualified { first.now.name.is_fqdn ≡ true }
+        requires within { Encloses origin.now.labels first.now.name.labels }
+        ensures { (sets : Sets) → AreCutsOf (record { origin = origin.now; sets = sets }) self.now → CutAbove (record { origin = origin.now; sets = sets }) first.now.name (option_copied result) }
+    {
+        // That its labels are in lower case is known of a name that was read.
+        let _ = first.name.as_name();
+        let entries = self.entries.as_slice();
+        let place = place_of(origin, entries, self.words.as_slice(), first);
+        if place == 0 {
+            return None;
+        }
+        let (top, servers) = &entries[place - 1];
+        if top.name.zone_of(&first.name) {
+            Some(servers.records())
+        } else {
+            None
+        }
+    }
+}
