@@ -22,17 +22,17 @@ pub record IsBelowOne (cuts : List Entry) (name : DomainName) : Type 0 where
   pub held : Contains cuts top
   pub at_or_below : Encloses top.0.name.labels name.labels
 
--- None is above another.
+-- None of these names is above another.
 abbrev pub AreApart : List Entry → Type 0
 AreApart cuts = (one other : Entry) → Contains cuts one → Contains cuts other → Encloses one.0.name.labels other.0.name.labels → one.0 ≡ other.0
 
--- The zone is cut there, and elsewhere only below.
+-- The zone is cut at the names of these, elsewhere only below them, and none of them is above another.
 pub record AreTopCuts (zone : Zone) (cuts : List Entry) : Type 0 where
   pub each : All (IsSetOfCut zone) cuts
   pub whole : (name : DomainName) → IsCut zone name → IsBelowOne cuts name
   pub apart : AreApart cuts
 
--- These sets are they, and can be searched for those above a name.
+-- They are these sets, in the order of their keys and with the numbers of their names, by which they are searched.
 pub record AreCutsOf (zone : Zone) (cuts : Cuts) : Type 0 where
   pub tops : AreTopCuts zone cuts.entries.items
   pub searched : IsSearched zone.origin cuts.entries.items cuts.words.items
@@ -49,6 +49,6 @@ pub record IsPut (origin : DomainName) (cuts : List Entry) (key : RrKey) : Type 
   pub below_apex : ¬ (Encloses key.name.labels origin.labels)
   pub apart : ¬ (IsBelowLast cuts key)
 
--- It is not.
+-- The key is of other records, at the apex, or below the last of these cuts.
 abbrev pub IsPassedOver : DomainName → List Entry → RrKey → Type 0
 IsPassedOver origin cuts key = ¬ (key.record_type ≡ type_ns) ⊎ (Encloses key.name.labels origin.labels ⊎ IsBelowLast cuts key)

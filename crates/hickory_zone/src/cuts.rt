@@ -10,7 +10,7 @@ ghost use Rattle.hickory_base.specs.zone_store.ZoneSets.{shared_sets};
 ghost use Rattle.hickory_zone.specs.FoundRecords.{CutAbove};
 ghost use Rattle.hickory_zone.specs.Indexes.{IsSearched};
 ghost use Rattle.hickory_zone.specs.TopCuts.{AreCutsOf, IsBelowLast, IsPassedOver, IsPut};
-ghost use Rattle.hickory_zone.specs.Zones.{AreOwners, Sets};
+ghost use Rattle.hickory_zone.specs.Zones.{AreOwners, Zone};
 
 use crate::index::{SharedSet, place_of, word_of};
 use hickory_base::zone_store::RecordSet;
@@ -67,13 +67,28 @@ impl Cuts {
     }
 
     /// The servers of the highest cut above a key's name, which is in the zone of this origin, if it is cut there. No type is below that of the key.
-    #[inline(never)]
+    #[inline(always)]
     pub(crate) fn above(&self, origin: &LowerName, first: &RrKey) -> Option<&[Record]>
         requires searched { IsSearched origin.now self.now.entries.items self.now.words.items }
         requires least { first.now.record_type ≡ 0 }
         requires qualified { first.now.name.is_fqdn ≡ true }
         requires within { Encloses origin.now.labels first.now.name.labels }
-        ensures { (sets : Sets) → AreCutsOf (record { origin = origin.now; sets = sets }) self.now → CutAbove (record { origin = origin.now; sets = sets }) first.now.name (option_copied result) }
+        ensures { (zone : Zone) → AreCutsOf zone self.now → CutAbove zone first.now.name (option_copied result) }
+    {
+        if self.entries.is_empty() {
+            return None;
+        }
+        self.last_above(origin, first)
+    }
+
+    /// The same, by the last cut before the name: another cannot be above it.
+    #[inline(never)]
+    fn last_above(&self, origin: &LowerName, first: &RrKey) -> Option<&[Record]>
+        requires searched { IsSearched origin.now self.now.entries.items self.now.words.items }
+        requires least { first.now.record_type ≡ 0 }
+        requires qualified { first.now.name.is_fqdn ≡ true }
+        requires within { Encloses origin.now.labels first.now.name.labels }
+        ensures { (zone : Zone) → AreCutsOf zone self.now → CutAbove zone first.now.name (option_copied result) }
     {
         // That its labels are in lower case is known of a name that was read.
         let _ = first.name.as_name();

@@ -48,7 +48,8 @@ impl Model for Index {
 
     ghost view = { λ index. record { apex = index.apex; entries = index.entries.items } };
 
-    ghost invariant = { λ index. IsSearched index.apex index.entries.items index.words.items × AreCutsOf (record { origin = index.apex; sets = shared_sets index.entries.items }) index.cuts };
+    ghost invariant = { λ index. IsSearched index.apex index.entries.items index.words.items
+        × AreCutsOf (record { origin = index.apex; sets = shared_sets index.entries.items }) index.cuts };
 }
 
 /// The sets of an index on both sides of a key.

@@ -1,9 +1,9 @@
 -- The topmost cuts are told by one walk over the sets in the order of their keys.
-use Rattle.std.proofs.Common.{◌≡◌, ◌⊎◌, ℕ, zero, suc, ◌-◌, ◌<◌, ◌≤◌, Bool, true, false, cond, ◌&&◌, List, [], ◌∷◌, ◌++◌, length, Option, Some, None, inl, inr, refl, sym, ap, subst, ◌∙◌, arith, append_assoc}
+use Rattle.std.proofs.Common.{◌≡◌, ◌⊎◌, ℕ, zero, suc, ◌-◌, ◌<◌, Bool, true, false, cond, ◌&&◌, List, [], ◌∷◌, ◌++◌, length, Option, Some, None, inl, inr, refl, sym, ap, subst, ◌∙◌, arith, append_assoc}
 use Rattle.std.specs.Prelude.{◌==◌, is_some, slice_get}
 use Rattle.std.specs.List.{All, AllByRecursion, Contains}
 use Rattle.std.specs.List.Sorted.{IsStrictlySortedBy}
-use Rattle.std.specs.Map.{keys_of, lookup}
+use Rattle.std.specs.Map.{keys_of}
 use Rattle.std.specs.Option.{IsSomeAnd}
 use Rattle.std.specs.BTreeMap.Range.{IsLeBy}
 use Rattle.std.specs.Cmp.{tied_itself}
@@ -13,7 +13,6 @@ use Rattle.std.specs.declared.cmp.Ordering.TheVariants.{Less}
 use Rattle.std.proofs.lemmas.Bool.Decides.{nat_tests}
 use Rattle.std.proofs.lemmas.List.{append-nil, length-map}
 use Rattle.std.proofs.lemmas.List.Elements.{All-contains, All-nil, All-push, recursion_from_All, Contains-append_left, Contains-push, Contains-push_cases}
-use Rattle.std.proofs.lemmas.Option.{slice_get_within}
 use Rattle.wire_names.specs.rr.domain.DomainName.{DomainName}
 use Rattle.wire_names.specs.rr.domain.NameHash.{same_from_eq}
 use Rattle.wire_names.specs.rr.domain.NameOrder.{Encloses, SameName, lower_label, lower_labels, name_cmp}
@@ -24,9 +23,9 @@ use Rattle.hickory_base.specs.zone_store.ZoneSets.{is_key, shared_sets}
 use Rattle.hickory_zone.proofs.lemmas.names.Between.{between, encloses_up_to}
 use Rattle.hickory_zone.proofs.lemmas.zones.Cuts.{below_the_apex, encloses_length}
 use Rattle.hickory_zone.proofs.lemmas.zones.Owners.{names_up_to}
-use Rattle.hickory_zone.proofs.lemmas.zones.TopCuts.{contained, encloses_through, in_order, key_at, not_gt_of_less, place_of_one, some_same}
+use Rattle.hickory_zone.proofs.lemmas.zones.TopCuts.{contained, in_order, key_at, not_gt_of_less, place_of_one, some_same}
 use Rattle.hickory_zone.specs.KeysBeside.{Entry}
-use Rattle.hickory_zone.specs.TopCuts.{AreApart, AreTopCuts, IsBelowLast, IsBelowOne, IsPassedOver, IsPut, IsSetOfCut}
+use Rattle.hickory_zone.specs.TopCuts.{AreApart, AreTopCuts, IsBelowOne, IsPassedOver, IsPut, IsSetOfCut}
 use Rattle.hickory_zone.specs.Zones.{AreOwners, IsCut, IsOwner, Records, Zone, rrset}
 
 module _ {K : Type 0} where

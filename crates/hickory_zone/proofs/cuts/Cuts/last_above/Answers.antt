@@ -5,23 +5,20 @@ use Rattle.std.proofs.lemmas.Option.{slice_get_read}
 use Rattle.hickory_zone.specs.FoundRecords.{CutAbove}
 use Rattle.hickory_zone.specs.Indexes.{IsPlaceOf}
 use Rattle.hickory_zone.specs.KeysBeside.{Entry}
-use Rattle.hickory_zone.specs.Zones.{Zone}
 use Rattle.hickory_zone.proofs.lemmas.zones.Indexed.{word_there}
 use Rattle.hickory_zone.proofs.lemmas.zones.TopCuts.{ends_there, none_above, none_before}
-use Rattle.hickory_zone.proofs.cuts.Cuts.above.Goals as goal
+use Rattle.hickory_zone.proofs.cuts.Cuts.last_above.Goals as goal
 
 pub returns-then-place-eq0 : goal.returns-then-place-eq0
 returns-then-place-eq0 c =
-    λ sets are.
-    let zone : Zone = record { origin = c.args.origin.now; sets = sets } in
+    λ zone are.
     let cuts = c.args.self.now.entries.items in
     let parts : IsPlaceOf c.args.first.now cuts c.place_of-place.result = subst (λ (es : List Entry). IsPlaceOf c.args.first.now es c.place_of-place.result) c.as_slice-entries.ensures.value c.place_of-place.ensures.place in
     none_before zone c.args.first.now cuts c.place_of-place.result c.requires.least c.requires.qualified are.tops c.requires.searched.ordered parts c.if-place-eq0.true
 
 pub returns-then-zone_of : goal.returns-then-zone_of
 returns-then-zone_of c =
-    λ sets are.
-    let zone : Zone = record { origin = c.args.origin.now; sets = sets } in
+    λ zone are.
     let cuts = c.args.self.now.entries.items in
     let place = c.place_of-place.result in
     let e : Entry = c.index-entries-place.result in
@@ -34,8 +31,7 @@ returns-then-zone_of c =
 
 pub returns-else-zone_of : goal.returns-else-zone_of
 returns-else-zone_of c =
-    λ sets are.
-    let zone : Zone = record { origin = c.args.origin.now; sets = sets } in
+    λ zone are.
     let cuts = c.args.self.now.entries.items in
     let place = c.place_of-place.result in
     let e : Entry = c.index-entries-place.result in
