@@ -1,14 +1,22 @@
 -- The cuts of a zone that no other cut is above (RFC 1034 section 4.2).
-use Rattle.std.specs.Prelude.{◌≡◌, ◌⊎◌, ◌-◌, List, length, Some, true}
+use Rattle.std.specs.Prelude.{◌≡◌, ◌⊎◌, ◌-◌, List, [], ◌∷◌, IfSome, length, Option, Some, true}
 use Rattle.std.specs.List.{All, Contains, slice_get}
-use Rattle.std.specs.Option.{IsSomeAnd}
+use Rattle.std.specs.Option.{IsSomeAnd, option_copied, option_map}
+use Rattle.std.specs.declared.alloc.Global.{Global}
+use Rattle.std.specs.declared.vec.Vec.{Vec}
 use Rattle.wire_names.specs.rr.domain.DomainName.{DomainName}
 use Rattle.wire_names.specs.rr.domain.NameOrder.{Encloses}
 use Rattle.wire_messages.specs.declared.rr.rr_key.RrKey.{RrKey}
+use Rattle.wire_messages.specs.declared.rr.rdata.RData.{RData}
+use Rattle.wire_messages.specs.declared.rr.record.Record.{Record}
+use Rattle.hickory_zone.specs.declared.additionals.Source.TheVariants as source
+use Rattle.hickory_zone.specs.Additionals.{AreAdditionals, hosts_of}
+use Rattle.hickory_zone.specs.declared.cuts.Cut.{Cut}
 use Rattle.hickory_zone.specs.declared.cuts.Cuts.{Cuts}
+use Rattle.hickory_zone.specs.declared.cuts.TopCut.{TopCut}
 use Rattle.hickory_zone.specs.Indexes.{IsSearched}
 use Rattle.hickory_zone.specs.KeysBeside.{Entry}
-use Rattle.hickory_zone.specs.Zones.{IsCut, Zone, rrset, type_ns}
+use Rattle.hickory_zone.specs.Zones.{IsCut, Records, Zone, rrset, type_ns}
 
 -- The zone is cut at the key's name, and these are the NS records there.
 pub record IsSetOfCut (zone : Zone) (e : Entry) : Type 0 where
@@ -36,6 +44,26 @@ pub record AreTopCuts (zone : Zone) (cuts : List Entry) : Type 0 where
 pub record AreCutsOf (zone : Zone) (cuts : Cuts) : Type 0 where
   pub tops : AreTopCuts zone cuts.entries.items
   pub searched : IsSearched zone.origin cuts.entries.items cuts.words.items
+
+-- At its place among the cuts are the NS records.
+pub record IsAt (cuts : List Entry) (top : TopCut) : Type 0 where
+  pub entry : Entry
+  pub is : slice_get cuts top.place ≡ Some entry
+  pub servers : entry.1.value ≡ top.servers.now
+
+-- Those are the addresses of the servers at each cut that stand in the zone, as a referral has them (RFC 1034 section 4.3.2, step 3b).
+abbrev pub AreGlueOf : Zone → List Entry → List (Vec (Record RData) Global) → Type 0
+AreGlueOf zone [] [] = Unit {0}
+AreGlueOf zone (e ∷ es) (glue ∷ all) = AreAdditionals source.Glue zone [] (hosts_of e.1.value) glue.items × AreGlueOf zone es all
+AreGlueOf zone es all = ⊥
+
+-- the servers of a cut, if there is one
+abbrev pub servers_at : Option Cut → Option Records
+servers_at cut = option_map (λ c. c.servers.now) cut
+
+-- Where addresses are told, they are those of the servers that stand in the zone.
+abbrev pub HasGlue : Zone → Cut → Type 0
+HasGlue zone cut = IfSome (option_copied cut.glue) (AreAdditionals source.Glue zone [] (hosts_of cut.servers.now))
 
 -- ---- how they are told, in the order of the keys
 

@@ -15,9 +15,9 @@ ghost use Rattle.hickory_zone.specs.Zones.{AreOwners, IsOwner};
 
 use crate::chains::{follow, is_in, one_link};
 use crate::features::Features;
-use crate::find::look_up_by;
+use crate::find::{cut_above, look_up_by, servers_at};
 use crate::index::Index;
-use crate::replies::{put_at_once, put_reply};
+use crate::replies::{put_at_once, put_referral_at_once, put_reply};
 use hickory_base::zone_store::{
     InMemoryZoneHandler, RecordList, RecordSet, WholeReply, ZoneHandler,
 };
@@ -79,7 +79,13 @@ fn put_within<'z>(
 {
     let origin = zone.origin();
     let sets = zone.records();
-    let found = look_up_by(alloc, origin, sets, first, record_type, has, index)?;
+    let cut = cut_above(alloc, sets, origin, first, has, index)?;
+    // speed: served, a referral
+    if put_referral_at_once(cut, has, reply) {
+        return Ok(());
+    }
+    let above = servers_at(cut);
+    let found = look_up_by(alloc, origin, sets, first, record_type, above, has, index)?;
     // Mostly the reply is made of what was found alone.
     // speed: served, an address
     if put_at_once(&found, soa, reply) {

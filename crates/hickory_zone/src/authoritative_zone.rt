@@ -66,7 +66,7 @@ impl AuthoritativeZone {
     {
         let has = features_of(zone.origin(), zone.records());
         let soa = denial_soa(alloc, &zone)?;
-        let index = Index::new(alloc, zone.origin(), zone.records())?;
+        let index = Index::new(alloc, zone.origin(), zone.records(), has)?;
         Ok(AuthoritativeZone {
             zone,
             has,

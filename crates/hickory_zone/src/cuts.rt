@@ -1,22 +1,44 @@
 //! The topmost cuts of a zone that does not change, in an order that is searched by numbers.
 
-ghost use Rattle.std.specs.Prelude.{◌≡◌, ◌↔◌, IfOk, IsTrue, false, true};
+ghost use Rattle.std.specs.Prelude.{◌≡◌, ◌↔◌, IfOk, IfSome, IsTrue, false, true};
 ghost use Rattle.std.specs.List.Sorted.{IsStrictlySortedBy};
 ghost use Rattle.std.specs.Map.{keys_of};
-ghost use Rattle.std.specs.Option.{option_copied};
+ghost use Rattle.std.specs.Option.{option_map};
 ghost use Rattle.wire_names.specs.rr.domain.NameOrder.{Encloses};
 ghost use Rattle.wire_messages.specs.rr.RrKeys.{key_cmp};
-ghost use Rattle.hickory_base.specs.zone_store.ZoneSets.{shared_sets};
+ghost use Rattle.hickory_base.specs.zone_store.ZoneSets.{sets_of, shared_sets};
+ghost use Rattle.hickory_zone.specs.Features.{AreFeatures};
 ghost use Rattle.hickory_zone.specs.FoundRecords.{CutAbove};
 ghost use Rattle.hickory_zone.specs.Indexes.{IsSearched};
-ghost use Rattle.hickory_zone.specs.TopCuts.{AreCutsOf, IsBelowLast, IsPassedOver, IsPut};
+ghost use Rattle.hickory_zone.specs.TopCuts.{AreCutsOf, AreGlueOf, IsAt, IsBelowLast, IsPassedOver, IsPut};
 ghost use Rattle.hickory_zone.specs.Zones.{AreOwners, Zone};
 
+use crate::additionals::{Source, additionals};
+use crate::features::Features;
 use crate::index::{SharedSet, place_of, word_of};
 use hickory_base::zone_store::RecordSet;
 use hickory_wire::{LowerName, Record, RecordType, RrKey};
 use std::alloc::{AllocError, Global};
+use std::collections::BTreeMap;
 use std::rc::Rc;
+
+/// A cut above a name.
+#[derive(Clone, Copy)]
+pub(crate) struct Cut<'z> {
+    /// The NS records there.
+    pub(crate) servers: &'z [Record],
+    /// The addresses of their hosts that stand in the zone, as a referral has them, where those were looked up before.
+    pub(crate) glue: Option<&'z [Record]>,
+}
+
+/// A topmost cut.
+#[derive(Clone, Copy)]
+pub(crate) struct TopCut<'z> {
+    /// Its place among them.
+    pub(crate) place: usize,
+    /// The NS records there.
+    pub(crate) servers: &'z [Record],
+}
 
 /// The sets of type NS at the cuts that no other cut is above, in the order of their keys, and beside each the number of its name below the apex.
 // speed: served, a referral
@@ -66,14 +88,15 @@ impl Cuts {
         Ok(Cuts { words, entries })
     }
 
-    /// The servers of the highest cut above a key's name, which is in the zone of this origin, if it is cut there. No type is below that of the key.
+    /// The highest cut above a key's name, which is in the zone of this origin, if it is cut there. No type is below that of the key.
     #[inline(always)]
-    pub(crate) fn above(&self, origin: &LowerName, first: &RrKey) -> Option<&[Record]>
+    pub(crate) fn above(&self, origin: &LowerName, first: &RrKey) -> Option<TopCut<'_>>
         requires searched { IsSearched origin.now self.now.entries.items self.now.words.items }
         requires least { first.now.record_type ≡ 0 }
         requires qualified { first.now.name.is_fqdn ≡ true }
         requires within { Encloses origin.now.labels first.now.name.labels }
-        ensures { (zone : Zone) → AreCutsOf zone self.now → CutAbove zone first.now.name (option_copied result) }
+        ensures cut { (zone : Zone) → AreCutsOf zone self.now → CutAbove zone first.now.name (option_map (λ top. top.servers.now) result) }
+        ensures at { IfSome result (IsAt self.now.entries.items) }
     {
         if self.entries.is_empty() {
             return None;
@@ -83,12 +106,13 @@ impl Cuts {
 
     /// The same, by the last cut before the name: another cannot be above it.
     #[inline(never)]
-    fn last_above(&self, origin: &LowerName, first: &RrKey) -> Option<&[Record]>
+    fn last_above(&self, origin: &LowerName, first: &RrKey) -> Option<TopCut<'_>>
         requires searched { IsSearched origin.now self.now.entries.items self.now.words.items }
         requires least { first.now.record_type ≡ 0 }
         requires qualified { first.now.name.is_fqdn ≡ true }
         requires within { Encloses origin.now.labels first.now.name.labels }
-        ensures { (zone : Zone) → AreCutsOf zone self.now → CutAbove zone first.now.name (option_copied result) }
+        ensures cut { (zone : Zone) → AreCutsOf zone self.now → CutAbove zone first.now.name (option_map (λ top. top.servers.now) result) }
+        ensures at { IfSome result (IsAt self.now.entries.items) }
     {
         // That its labels are in lower case is known of a name that was read.
         let _ = first.name.as_name();
@@ -99,9 +123,32 @@ impl Cuts {
         }
         let (top, servers) = &entries[place - 1];
         if top.name.zone_of(&first.name) {
-            Some(servers.records())
+            Some(TopCut {
+                place: place - 1,
+                servers: servers.records(),
+            })
         } else {
             None
         }
+    }
+
+    /// The addresses of the servers at each cut that stand in the zone.
+    pub(crate) fn glue(
+        &self,
+        alloc: Global,
+        origin: &LowerName,
+        sets: &BTreeMap<RrKey, Rc<RecordSet>>,
+        has: Features,
+    ) -> Result<Vec<Vec<Record>>, AllocError>
+        requires owners { AreOwners origin.now (sets_of sets.now) }
+        requires features { AreFeatures (record { origin = origin.now; sets = sets_of sets.now }) has }
+        ensures { IfOk result (λ glue. AreGlueOf (record { origin = origin.now; sets = sets_of sets.now }) self.now.entries.items glue.items) }
+    {
+        let mut glue = Vec::new(alloc);
+        for (_, servers) in self.entries.as_slice() {
+            let servers = servers.records();
+            glue.push(additionals(alloc, origin, sets, Source::Glue, &[], servers, has)?)?;
+        }
+        Ok(glue)
     }
 }

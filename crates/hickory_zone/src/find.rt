@@ -16,8 +16,10 @@ ghost use Rattle.hickory_zone.specs.KeysBeside.{AreSetsAmong, Entry, SharedMap, 
 ghost use Rattle.std.specs.Option.{unwrap_or};
 ghost use Rattle.wire_names.specs.rr.domain.DomainName.{DomainName};
 ghost use Rattle.hickory_zone.specs.FoundRecords.{CutAbove, CutAt, WildFound, may_be_cut, name_of, outcome_of, IsAbove, IsBare, IsEncloser, IsWildAmong, Tells, missing_outcome, wild_or_referral};
+ghost use Rattle.hickory_zone.specs.TopCuts.{HasGlue, servers_at};
 ghost use Rattle.wire_names.specs.rr.domain.NameOrder.{Encloses};
 
+use crate::cuts::Cut;
 use crate::features::{Features, has_length};
 use crate::index::{Index, SharedSet};
 use crate::redirections::{Redirection, redirection_from, redirection_of};
@@ -371,12 +373,13 @@ fn climb_to_cut<'z>(
 
 /// The same by the index of a zone. Only what is two labels or more below the apex can have a cut above it.
 #[inline(always)]
-fn cut_above_in<'z>(index: &'z Index, origin: &LowerName, first: &RrKey) -> Option<&'z [Record]>
+fn cut_above_in<'z>(index: &'z Index, origin: &LowerName, first: &RrKey) -> Option<Cut<'z>>
     requires least { first.now.record_type ≡ 0 }
     requires qualified { first.now.name.is_fqdn ≡ true }
     requires within { Encloses origin.now.labels first.now.name.labels }
     requires index { index.now.apex ≡ origin.now }
-    ensures { CutAbove (record { origin = origin.now; sets = shared_sets index.now.entries }) first.now.name (option_copied result) }
+    ensures cut { CutAbove (record { origin = origin.now; sets = shared_sets index.now.entries }) first.now.name (servers_at result) }
+    ensures glue { IfSome result (HasGlue (record { origin = origin.now; sets = shared_sets index.now.entries })) }
 {
     if parent_len(&first.name) <= origin.as_name().as_wire().len() {
         return None;
@@ -385,26 +388,54 @@ fn cut_above_in<'z>(index: &'z Index, origin: &LowerName, first: &RrKey) -> Opti
     index.cut_above(first)
 }
 
-/// The same by the zone's index, if it has one, for a key's name. No type is below that of the key.
+/// A cut with these servers, whose addresses are not known, if there are any.
+fn unknown_glue<'z>(servers: Option<&'z [Record]>) -> Option<Cut<'z>>
+    ensures servers { servers_at result ≡ option_copied servers.entry }
+    ensures glue { IfSome result (λ cut. cut.glue ≡ None) }
+{
+    match servers {
+        Some(servers) => Some(Cut {
+            servers,
+            glue: None,
+        }),
+        None => None,
+    }
+}
+
+/// The highest cut above a key's name, by the zone's index, if it has one. No type is below that of the key.
 #[inline(always)]
-fn cut_above<'z>(
+pub(crate) fn cut_above<'z>(
     alloc: Global,
     sets: &'z BTreeMap<RrKey, Rc<RecordSet>>,
     origin: &LowerName,
     first: &RrKey,
     has: Features,
     index: Option<&'z Index>,
-) -> Result<Option<&'z [Record]>, AllocError>
+) -> Result<Option<Cut<'z>>, AllocError>
     requires least { first.now.record_type ≡ 0 }
     requires qualified { first.now.name.is_fqdn ≡ true }
     requires within { Encloses origin.now.labels first.now.name.labels }
     requires features { AreFeatures (record { origin = origin.now; sets = sets_of sets.now }) has }
     requires index { IfSome (option_copied index) (IsIndexOf origin.now (sets_of sets.now)) }
-    ensures { IfOk result (λ found. CutAbove (record { origin = origin.now; sets = sets_of sets.now }) first.now.name (option_copied found)) }
+    ensures cut { IfOk result (λ found. CutAbove (record { origin = origin.now; sets = sets_of sets.now }) first.now.name (servers_at found)) }
+    ensures glue { IfOk result (λ found. IfSome found (HasGlue (record { origin = origin.now; sets = sets_of sets.now }))) }
 {
     match index {
         Some(index) => Ok(cut_above_in(index, origin, first)),
-        None => climb_to_cut(alloc, sets, origin, &first.name, has),
+        None => {
+            let servers = climb_to_cut(alloc, sets, origin, &first.name, has)?;
+            Ok(unknown_glue(servers))
+        }
+    }
+}
+
+/// The servers of a cut, if there is one.
+pub(crate) fn servers_at<'z>(cut: Option<Cut<'z>>) -> Option<&'z [Record]>
+    ensures { option_copied result ≡ servers_at cut.entry }
+{
+    match cut {
+        Some(cut) => Some(cut.servers),
+        None => None,
     }
 }
 
@@ -887,10 +918,11 @@ pub fn look_up<'z>(
     requires features { AreFeatures (record { origin = origin.now; sets = sets_of sets.now }) has }
     ensures { IfOk result (λ found. Answers (record { origin = origin.now; sets = sets_of sets.now }) first.now.name record_type (outcome_of (sets_of sets.now) first.now.name found)) }
 {
-    look_up_by(alloc, origin, sets, first, record_type, has, None)
+    let above = servers_at(cut_above(alloc, sets, origin, first, has, None)?);
+    look_up_by(alloc, origin, sets, first, record_type, above, has, None)
 }
 
-/// The same by the zone's index, if it has one.
+/// The same by the zone's index, if it has one, where the servers of the highest cut above the name are known.
 #[inline(always)]
 pub(crate) fn look_up_by<'z>(
     alloc: Global,
@@ -898,6 +930,7 @@ pub(crate) fn look_up_by<'z>(
     sets: &'z BTreeMap<RrKey, Rc<RecordSet>>,
     first: &RrKey,
     record_type: RecordType,
+    above: Option<&'z [Record]>,
     has: Features,
     index: Option<&'z Index>,
 ) -> Result<Found<'z>, AllocError>
@@ -906,10 +939,10 @@ pub(crate) fn look_up_by<'z>(
     requires owners { AreOwners origin.now (sets_of sets.now) }
     requires within { Encloses origin.now.labels first.now.name.labels }
     requires features { AreFeatures (record { origin = origin.now; sets = sets_of sets.now }) has }
+    requires above { CutAbove (record { origin = origin.now; sets = sets_of sets.now }) first.now.name (option_copied above) }
     requires index { IfSome (option_copied index) (IsIndexOf origin.now (sets_of sets.now)) }
     ensures { IfOk result (λ found. Answers (record { origin = origin.now; sets = sets_of sets.now }) first.now.name record_type (outcome_of (sets_of sets.now) first.now.name found)) }
 {
-    let above = cut_above(alloc, sets, origin, first, has, index)?;
     if let Some(servers) = referral_at_once(above, has) {
         return Ok(Found::Referral(servers));
     }

@@ -1,7 +1,6 @@
 //! The sets of a zone that does not change, in an order that is searched by numbers.
 
-ghost use Rattle.std.specs.Prelude.{◌≡◌, ◌<◌, ◌≤◌, ◌++◌, IfOk, List, Some, drop, length, take, true};
-ghost use Rattle.std.specs.Option.{option_copied};
+ghost use Rattle.std.specs.Prelude.{◌≡◌, ◌<◌, ◌≤◌, ◌++◌, IfOk, IfSome, List, Some, drop, length, take, true};
 ghost use Rattle.std.specs.List.{slice_get};
 ghost use Rattle.std.specs.List.Sorted.{IsStrictlySortedBy};
 ghost use Rattle.std.specs.Map.{keys_of};
@@ -12,12 +11,15 @@ ghost use Rattle.wire_names.specs.rr.domain.DomainName.{DomainName};
 ghost use Rattle.wire_names.specs.rr.domain.NameOrder.{Encloses};
 ghost use Rattle.wire_messages.specs.rr.RrKeys.{key_cmp};
 ghost use Rattle.hickory_base.specs.zone_store.ZoneSets.{AreSetsInOrder, sets_of, shared_sets};
+ghost use Rattle.hickory_zone.specs.Features.{AreFeatures};
 ghost use Rattle.hickory_zone.specs.FoundRecords.{CutAbove};
 ghost use Rattle.hickory_zone.specs.Indexes.{AreBefore, AreWordsOf, IsIndexOf, IsPlaceOf, IsSearched, IsWordOf};
 ghost use Rattle.hickory_zone.specs.KeysBeside.{Entry};
+ghost use Rattle.hickory_zone.specs.TopCuts.{HasGlue, servers_at};
 ghost use Rattle.hickory_zone.specs.Zones.{AreOwners};
 
-use crate::cuts::Cuts;
+use crate::cuts::{Cut, Cuts};
+use crate::features::Features;
 use hickory_base::zone_store::RecordSet;
 use hickory_wire::{LowerName, Record, RrKey};
 use std::alloc::{AllocError, Global};
@@ -37,19 +39,22 @@ pub(crate) struct Index {
     words: Vec<u64>,
     entries: Vec<SharedSet>,
     cuts: Cuts,
+    // The addresses of the servers at each cut, as a referral has them.
+    glue: Vec<Vec<Record>>,
 }
 
 impl Model for Index {
     ghost use Rattle.hickory_base.specs.zone_store.ZoneSets.{shared_sets};
     ghost use Rattle.hickory_zone.specs.Indexes.{IndexedSets, IsSearched};
-    ghost use Rattle.hickory_zone.specs.TopCuts.{AreCutsOf};
+    ghost use Rattle.hickory_zone.specs.TopCuts.{AreCutsOf, AreGlueOf};
 
     ghost Value = { IndexedSets };
 
     ghost view = { λ index. record { apex = index.apex; entries = index.entries.items } };
 
     ghost invariant = { λ index. IsSearched index.apex index.entries.items index.words.items
-        × AreCutsOf (record { origin = index.apex; sets = shared_sets index.entries.items }) index.cuts };
+        × AreCutsOf (record { origin = index.apex; sets = shared_sets index.entries.items }) index.cuts
+        × AreGlueOf (record { origin = index.apex; sets = shared_sets index.entries.items }) index.cuts.entries.items index.glue.items };
 }
 
 /// The sets of an index on both sides of a key.
@@ -165,8 +170,10 @@ impl Index {
         alloc: Global,
         origin: &LowerName,
         sets: &BTreeMap<RrKey, Rc<RecordSet>>,
+        has: Features,
     ) -> Result<Index, AllocError>
         requires owners { AreOwners origin.now (sets_of sets.now) }
+        requires features { AreFeatures (record { origin = origin.now; sets = sets_of sets.now }) has }
         requires ordered { AreSetsInOrder (sets_of sets.now) }
         ensures { IfOk result (IsIndexOf origin.now (sets_of sets.now)) }
     {
@@ -177,11 +184,13 @@ impl Index {
             entries.push((key.clone()?, set.clone()?))?;
         }
         let cuts = Cuts::new(alloc, origin, entries.as_slice())?;
+        let glue = cuts.glue(alloc, origin, sets, has)?;
         Ok(Index {
             apex: origin.clone()?,
             words,
             entries,
             cuts,
+            glue,
         })
     }
 
@@ -201,13 +210,25 @@ impl Index {
         }
     }
 
-    /// The servers of the highest cut above a key's name, which is at the apex or below it, if the zone is cut there. No type is below that of the key.
-    pub(crate) fn cut_above(&self, first: &RrKey) -> Option<&[Record]>
+    /// The highest cut above a key's name, which is at the apex or below it, if the zone is cut there. No type is below that of the key.
+    #[inline(always)]
+    pub(crate) fn cut_above(&self, first: &RrKey) -> Option<Cut<'_>>
         requires least { first.now.record_type ≡ 0 }
         requires qualified { first.now.name.is_fqdn ≡ true }
         requires within { Encloses self.now.apex.labels first.now.name.labels }
-        ensures { CutAbove (record { origin = self.now.apex; sets = shared_sets self.now.entries }) first.now.name (option_copied result) }
+        ensures cut { CutAbove (record { origin = self.now.apex; sets = shared_sets self.now.entries }) first.now.name (servers_at result) }
+        ensures glue { IfSome result (HasGlue (record { origin = self.now.apex; sets = shared_sets self.now.entries })) }
     {
-        self.cuts.above(&self.apex, first)
+        let Some(top) = self.cuts.above(&self.apex, first) else {
+            return None;
+        };
+        let glue = match self.glue.as_slice().get(top.place) {
+            Some(glue) => Some(glue.as_slice()),
+            None => None,
+        };
+        Some(Cut {
+            servers: top.servers,
+            glue,
+        })
     }
 }

@@ -8,12 +8,13 @@ ghost use Rattle.hickory_base.specs.zone_store.ZoneSets.{sets_of};
 ghost use Rattle.hickory_zone.specs.ChainEnds.{ending_of};
 ghost use Rattle.hickory_zone.specs.Endings as ended;
 ghost use Rattle.hickory_zone.specs.Features.{AreFeatures};
-ghost use Rattle.hickory_zone.specs.ReplyAtOnce.{IsReplyAtOnce};
+ghost use Rattle.hickory_zone.specs.ReplyAtOnce.{IsReferredAtOnce, IsReplyAtOnce};
 ghost use Rattle.hickory_zone.specs.Replies.{EndsIn, denial_soa, whole};
 ghost use Rattle.hickory_zone.specs.Zones.{AreOwners, Records, Zone};
 
 use crate::additionals::{Source, additionals, are_hostless};
 use crate::chains::ChainEnd;
+use crate::cuts::Cut;
 use crate::denials::soa_of;
 use crate::features::Features;
 use crate::find::Found;
@@ -99,6 +100,32 @@ pub(crate) fn put_at_once<'z>(
         Found::NoName => put_lent_denial(reply, ResponseCode::NX_DOMAIN, soa),
         _ => false,
     }
+}
+
+/// Makes this the referral to the servers of a cut, where nothing can redirect a name below it before, and their addresses were looked up before. Whether it is one.
+#[inline(always)]
+pub(crate) fn put_referral_at_once<'z>(
+    cut: Option<Cut<'z>>,
+    has: Features,
+    reply: &mut WholeReply<'z>,
+) -> bool
+    ensures { IsTrue result → IsReferredAtOnce cut.entry has reply.new }
+{
+    let Some(cut) = cut else {
+        return false;
+    };
+    let Some(glue) = cut.glue else {
+        return false;
+    };
+    if has.dnames {
+        return false;
+    }
+    reply.response_code = ResponseCode::NO_ERROR;
+    reply.authoritative = false;
+    reply.answers = RecordList::empty();
+    reply.authorities = RecordList::lent(cut.servers);
+    reply.additionals = RecordList::lent(glue);
+    true
 }
 
 /// Makes this a reply with answers alone.

@@ -4,6 +4,7 @@ pub mod Cuts
 pub mod CutsAbove
 pub mod Every
 pub mod Features
+pub mod Glue
 pub mod Indexed
 pub mod Missing
 pub mod MoreFeatures

@@ -5,8 +5,8 @@ use Rattle.hickory_zone.proofs.lemmas.zones.CutsAbove.{none_from}
 use Rattle.hickory_zone.specs.Zones.{Zone}
 use Rattle.hickory_zone.proofs.find.cut_above_in.Goals as goal
 
-pub returns-then-parent_len-as_wire : goal.returns-then-parent_len-as_wire
-returns-then-parent_len-as_wire c =
+pub returns-then-parent_len-as_wire-clause-cut : goal.returns-then-parent_len-as_wire-clause-cut
+returns-then-parent_len-as_wire-clause-cut c =
     let zone : Zone = record { origin = c.args.origin.now; sets = shared_sets c.args.index.now.entries } in
     let apex : c.as_wire.result.now ≡ wire_form zone.origin.labels = c.as_wire.ensures.labels ∙ ap (λ d. wire_form d.labels) c.as_name.ensures.name in
     let short : length (wire_form (drop 1 c.args.first.now.name.labels)) ≤ length (wire_form zone.origin.labels) = omega (arith, c.parent_len.ensures.len, ap length apex, c.if-parent_len-as_wire.true) in

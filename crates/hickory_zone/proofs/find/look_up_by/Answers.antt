@@ -23,4 +23,4 @@ pub returns-in-Some : goal.returns-in-Some
 returns-in-Some c =
     let zone : Zone = record { origin = c.args.origin.now; sets = sets_of c.args.sets.now } in
     let name = c.args.first.now.name in
-    undirected zone name c.args.record_type c.in-Some.servers.now (c.requires.features.dnames c.in-Some.ensures.1) (subst (CutAbove zone name) c.in-Some.ensures.0 c.in_ok-above.ensures)
+    undirected zone name c.args.record_type c.in-Some.servers.now (c.requires.features.dnames c.in-Some.ensures.1) (subst (CutAbove zone name) c.in-Some.ensures.0 c.requires.above)

@@ -9,15 +9,15 @@ use Rattle.hickory_zone.proofs.lemmas.zones.Indexed.{word_there}
 use Rattle.hickory_zone.proofs.lemmas.zones.TopCuts.{ends_there, none_above, none_before}
 use Rattle.hickory_zone.proofs.cuts.Cuts.last_above.Goals as goal
 
-pub returns-then-place-eq0 : goal.returns-then-place-eq0
-returns-then-place-eq0 c =
+pub returns-then-place-eq0-clause-cut : goal.returns-then-place-eq0-clause-cut
+returns-then-place-eq0-clause-cut c =
     λ zone are.
     let cuts = c.args.self.now.entries.items in
     let parts : IsPlaceOf c.args.first.now cuts c.place_of-place.result = subst (λ (es : List Entry). IsPlaceOf c.args.first.now es c.place_of-place.result) c.as_slice-entries.ensures.value c.place_of-place.ensures.place in
     none_before zone c.args.first.now cuts c.place_of-place.result c.requires.least c.requires.qualified are.tops c.requires.searched.ordered parts c.if-place-eq0.true
 
-pub returns-then-zone_of : goal.returns-then-zone_of
-returns-then-zone_of c =
+pub returns-then-zone_of-clause-cut : goal.returns-then-zone_of-clause-cut
+returns-then-zone_of-clause-cut c =
     λ zone are.
     let cuts = c.args.self.now.entries.items in
     let place = c.place_of-place.result in
@@ -29,8 +29,8 @@ returns-then-zone_of c =
     subst (λ rs. CutAbove zone c.args.first.now.name (Some rs)) (sym (c.records.ensures.value ∙ c.deref.ensures))
     (ends_there zone c.args.first.now cuts place c.requires.least c.requires.qualified are.tops c.requires.searched.ordered parts e at (omega arith) (c.as_name.ensures.lower) lower.lower (c.zone_of.ensures.0 c.if-zone_of.true))
 
-pub returns-else-zone_of : goal.returns-else-zone_of
-returns-else-zone_of c =
+pub returns-else-zone_of-clause-cut : goal.returns-else-zone_of-clause-cut
+returns-else-zone_of-clause-cut c =
     λ zone are.
     let cuts = c.args.self.now.entries.items in
     let place = c.place_of-place.result in
@@ -40,3 +40,14 @@ returns-else-zone_of c =
     (slice_get_read c.as_slice-entries.result.now (length c.as_slice-entries.result.now) (place - 1) e refl (omega arith) c.index-entries-place.is) in
     let other : c.zone_of.result ≡ false = c.if-zone_of.false in
     none_above zone c.args.first.now cuts place c.requires.least c.requires.qualified are.tops c.requires.searched.ordered parts e at (omega arith) (λ h. false≢true (sym other ∙ c.zone_of.ensures.1 h))
+
+pub returns-then-zone_of-clause-at : goal.returns-then-zone_of-clause-at
+returns-then-zone_of-clause-at c =
+    let place = c.place_of-place.result in
+    let e : Entry = c.index-entries-place.result in
+    record {
+      entry = e;
+      is = subst (λ (es : List Entry). slice_get es (place - 1) ≡ Some e) c.as_slice-entries.ensures.value
+          (slice_get_read c.as_slice-entries.result.now (length c.as_slice-entries.result.now) (place - 1) e refl (omega arith) c.index-entries-place.is);
+      servers = sym (c.records.ensures.value ∙ c.deref.ensures);
+    }
