@@ -7,4 +7,5 @@ pub mod Handling
 pub mod Hosts
 pub mod OneChain
 pub mod OneReply
+pub mod Referred
 pub mod Searching

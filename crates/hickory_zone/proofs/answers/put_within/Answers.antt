@@ -8,6 +8,7 @@ use Rattle.hickory_zone.specs.Replies.{EndsIn, denial_soa}
 use Rattle.hickory_zone.specs.Zones.{Records, Sets, Zone}
 use Rattle.hickory_zone.proofs.lemmas.replies.Finished.{finished_at_once, zone_is}
 use Rattle.hickory_zone.proofs.lemmas.replies.Hosts.{on_ok}
+use Rattle.hickory_zone.proofs.lemmas.replies.Referred.{referred}
 use Rattle.hickory_zone.proofs.answers.put_within.Goals as goal
 
 pub returns-then-put_at_once : goal.returns-then-put_at_once
@@ -30,3 +31,8 @@ returns-in-Some c =
     (λ made. finished_at_once c.args.zone.now c.args.name.now low c.args.record_type c.origin-origin.result.now sets (outcome_of sets low c.in_ok-found.found) c.in-Some.link.answers.now (ending_of c.in-Some.link.end) reply
     c.origin-origin.ensures c.records-sets.ensures.sets c.requires.spelled c.in_ok-found.ensures (c.in-Some.ensures sets low c.args.name.now c.args.record_type)
     (subst (λ (rs : Records). EndsIn zone rs (ending_of c.in-Some.link.end) reply) c.lent-answers.ensures made))
+
+pub returns-then-put_referral_at_once : goal.returns-then-put_referral_at_once
+returns-then-put_referral_at_once c =
+    referred c.args.zone.now c.args.name.now c.args.first.now.name c.args.record_type c.origin-origin.result.now (sets_of c.records-sets.result.now) c.in_ok-cut.cut c.args.has c.put_referral_at_once.new.reply
+    c.origin-origin.ensures c.records-sets.ensures.sets c.requires.spelled c.requires.features c.in_ok-cut.ensures.cut c.in_ok-cut.ensures.glue (c.put_referral_at_once.ensures c.if-put_referral_at_once.true)

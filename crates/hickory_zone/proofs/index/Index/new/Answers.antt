@@ -9,7 +9,7 @@ use Rattle.hickory_base.specs.zone_store.ZoneSets.{AreSetsInOrder, sets_of, shar
 use Rattle.hickory_base.proofs.lemmas.zone_store.ZoneByName.{keys-shared}
 use Rattle.hickory_zone.specs.Indexes.{AreWordsOf, IsWordOf}
 use Rattle.hickory_zone.specs.KeysBeside.{Entry}
-use Rattle.hickory_zone.specs.TopCuts.{AreCutsOf}
+use Rattle.hickory_zone.specs.TopCuts.{AreCutsOf, AreGlueOf}
 use Rattle.wire_names.specs.rr.domain.DomainName.{DomainName}
 use Rattle.hickory_zone.specs.Zones.{IsOwner, Sets}
 use Rattle.hickory_zone.proofs.lemmas.zones.Indexed.{one_more}
@@ -53,11 +53,14 @@ loop-key-preserved c =
       owners = (subst (λ es. AllByRecursion (IsOwner origin) (keys_of (shared_sets es))) step c.loop-key.invariant.owners).1;
     }
 
--- all were put, and in order
+-- all were put
+all_put : (es rest : List Entry) (sets : Sets) → shared_sets es ++ shared_sets rest ≡ sets → rest ≡ [] → shared_sets es ≡ sets
+all_put es rest sets is none = sym (append-nil (shared_sets es)) ∙ sym (ap (λ ms. shared_sets es ++ shared_sets ms) none) ∙ is
+
+-- and in order
 in_order : (es rest : List Entry) (sets : Sets) → shared_sets es ++ shared_sets rest ≡ sets → rest ≡ [] → AreSetsInOrder sets → IsStrictlySortedBy key_cmp (keys_of es)
 in_order es rest sets is none ordered =
-    let whole : shared_sets es ≡ sets = sym (append-nil (shared_sets es)) ∙ sym (ap (λ ms. shared_sets es ++ shared_sets ms) none) ∙ is in
-    subst (IsStrictlySortedBy key_cmp) (sym (ap keys_of whole) ∙ keys-shared es) ordered
+    subst (IsStrictlySortedBy key_cmp) (sym (ap keys_of (all_put es rest sets is none)) ∙ keys-shared es) ordered
 
 pub new-requires-clause-ordered : goal.new-requires-clause-ordered
 new-requires-clause-ordered c = subst (λ (es : List Entry). IsStrictlySortedBy key_cmp (keys_of es)) (sym c.as_slice.ensures.value)
@@ -67,8 +70,12 @@ pub invariant_of-result : goal.invariant_of-result
 invariant_of-result c =
     let entries = c.loop-key.entries.items in
     let apex : c.in_ok-clone-3.field-0 ≡ c.args.origin.now = c.in_ok-clone-3.ensures.cases in
+    let whole : shared_sets entries ≡ sets_of c.args.sets.now = all_put entries c.loop-key.key-iterator (sets_of c.args.sets.now) c.loop-key.invariant.sets c.in-None.ensures.steps.0 in
     let cuts : AreCutsOf (record { origin = c.args.origin.now; sets = shared_sets entries }) c.in_ok-cuts.cuts =
-    subst (λ (es : List Entry). AreCutsOf (record { origin = c.args.origin.now; sets = shared_sets es }) c.in_ok-cuts.cuts) c.as_slice.ensures.value c.in_ok-cuts.ensures in (
+    subst (λ (es : List Entry). AreCutsOf (record { origin = c.args.origin.now; sets = shared_sets es }) c.in_ok-cuts.cuts) c.as_slice.ensures.value c.in_ok-cuts.ensures in
+    let glue : AreGlueOf (record { origin = c.args.origin.now; sets = shared_sets entries }) c.in_ok-cuts.cuts.entries.items c.in_ok-glue.glue.items =
+    subst (λ (sets : Sets). AreGlueOf (record { origin = c.args.origin.now; sets = sets }) c.in_ok-cuts.cuts.entries.items c.in_ok-glue.glue.items) (sym whole) c.in_ok-glue.ensures in (
       record { ordered = in_order entries c.loop-key.key-iterator (sets_of c.args.sets.now) c.loop-key.invariant.sets c.in-None.ensures.steps.0 c.requires.ordered; numbered = subst (λ d. AreWordsOf d entries c.loop-key.words.items) (sym apex) c.loop-key.invariant.numbered },
       subst (λ (d : DomainName). AreCutsOf (record { origin = d; sets = shared_sets entries }) c.in_ok-cuts.cuts) (sym apex) cuts,
+      subst (λ (d : DomainName). AreGlueOf (record { origin = d; sets = shared_sets entries }) c.in_ok-cuts.cuts.entries.items c.in_ok-glue.glue.items) (sym apex) glue,
     )

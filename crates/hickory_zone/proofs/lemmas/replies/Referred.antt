@@ -1,0 +1,36 @@
+-- What the zone replies to a name below a cut whose servers' addresses were looked up before.
+use Rattle.std.proofs.Common.{◌≡◌, ℕ, [], Option, None, Some, refl, sym, subst}
+use Rattle.std.specs.Prelude.{IfSome}
+use Rattle.std.specs.Option.{option_copied}
+use Rattle.wire_names.specs.rr.domain.DomainName.{DomainName}
+use Rattle.wire_names.specs.rr.domain.NameOrder.{lower_name}
+use Rattle.hickory_base.specs.declared.zone_store.lookup.WholeReply.{WholeReply}
+use Rattle.hickory_base.specs.zone_store.ZoneAnswers.{MemoryZone}
+use Rattle.hickory_zone.proofs.lemmas.replies.Finished.{finished_at_once, zone_is}
+use Rattle.hickory_zone.proofs.lemmas.zones.CutsAbove.{undirected}
+use Rattle.hickory_zone.specs.declared.additionals.Source.TheVariants as source
+use Rattle.hickory_zone.specs.declared.cuts.Cut.{Cut}
+use Rattle.hickory_zone.specs.declared.features.Features.{Features}
+use Rattle.hickory_zone.specs.Additionals.{AreAdditionals, hosts_of}
+use Rattle.hickory_zone.specs.Endings as ended
+use Rattle.hickory_zone.specs.Features.{AreFeatures}
+use Rattle.hickory_zone.specs.FoundRecords.{CutAbove, EndsAbove}
+use Rattle.hickory_zone.specs.Replies.{EndsIn, IsReplied, zone_of}
+use Rattle.hickory_zone.specs.ReplyAtOnce.{IsReferredAtOnce}
+use Rattle.hickory_zone.specs.TopCuts.{HasGlue, servers_at}
+use Rattle.hickory_zone.specs.Zones.{Records, Sets, Zone, referral}
+
+pub referred : (zone : MemoryZone) (name low : DomainName) (t : ℕ) (origin : DomainName) (sets : Sets) (cut : Option Cut) (has : Features) (reply : WholeReply) → origin ≡ zone.origin → sets ≡ zone.sets → low ≡ lower_name name
+    → AreFeatures (zone_of zone) has → CutAbove (record { origin = origin; sets = sets }) low (servers_at cut) → IfSome cut (HasGlue (record { origin = origin; sets = sets })) → IsReferredAtOnce cut has reply
+    → IsReplied (zone_of zone) name t reply
+referred zone name low t origin sets None has reply o s n features above glue r = absurd (let none : servers_at None ≡ Some r.servers = r.at in cc)
+referred zone name low t origin sets (Some cut) has reply o s n features above glue r =
+    let z : Zone = record { origin = origin; sets = sets } in
+    let servers : cut.servers.now ≡ r.servers = let at : Some cut.servers.now ≡ Some r.servers = r.at in cc in
+    let told : option_copied cut.glue ≡ Some r.glue = let all : Some (option_copied cut.glue) ≡ Some (Some r.glue) = r.told in cc in
+    let of_zone : AreFeatures z has = subst (λ (y : Zone). AreFeatures y has) (sym (zone_is zone origin sets o s)) features in
+    let addresses : AreAdditionals source.Glue z [] (hosts_of r.servers) r.glue =
+    subst (λ (rs : Records). AreAdditionals source.Glue z [] (hosts_of rs) r.glue) servers (subst (λ (g : Option Records). IfSome g (AreAdditionals source.Glue z [] (hosts_of cut.servers.now))) told glue) in
+    let ends : EndsAbove z low r.servers = subst (EndsAbove z low) servers above in
+    let made : EndsIn z [] (ended.referral r.servers) reply = record { additionals = r.glue; completed = addresses; is = r.is } in
+    finished_at_once zone name low t origin sets (referral r.servers) [] (ended.referral r.servers) reply o s n (undirected z low t r.servers (of_zone.dnames r.none) ends) refl made
