@@ -3,16 +3,29 @@
 use crate::WRONG;
 use crate::zones::lower_name;
 use hickory_base::zone_store::{LookupControlFlow, LookupOptions, ZoneHandler};
-use hickory_store::blocklist::{BlocklistConfig, BlocklistZoneHandler, CountedReader};
+use hickory_store::blocklist::{
+    BlocklistConfig, BlocklistConsultAction, BlocklistZoneHandler, CountedReader,
+};
 use hickory_wire::{BinDecoder, LowerName, Name, RecordType};
 use std::alloc::Global;
 
-/// A handler that blocks the names that the lines of a text list.
-pub(crate) fn blocklist(alloc: Global, text: &[u8]) -> Option<BlocklistZoneHandler> {
-    let config = BlocklistConfig::default();
+/// A handler that blocks the names that the lines of a text list, as it is set.
+fn list_of(alloc: Global, text: &[u8], config: BlocklistConfig) -> Option<BlocklistZoneHandler> {
     let mut list = BlocklistZoneHandler::new(alloc, Name::root(), config).ok()?;
     list.add(&mut CountedReader::new(text)).ok()?;
     Some(list)
+}
+
+/// A handler that blocks the names that the lines of a text list.
+fn blocklist(alloc: Global, text: &[u8]) -> Option<BlocklistZoneHandler> {
+    list_of(alloc, text, BlocklistConfig::default())
+}
+
+/// A handler that blocks these names also where it is consulted about what a zone answers, as that of a served zone is.
+pub(crate) fn consulted_list(alloc: Global, text: &[u8]) -> Option<BlocklistZoneHandler> {
+    let mut config = BlocklistConfig::default();
+    config.consult_action = BlocklistConsultAction::Enforce;
+    list_of(alloc, text, config)
 }
 
 #[inline(never)]

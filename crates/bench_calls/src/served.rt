@@ -3,7 +3,7 @@
 
 use crate::WRONG;
 use crate::answers::catalog;
-use crate::blocklist::blocklist;
+use crate::blocklist::consulted_list;
 use crate::messages::source;
 use crate::zone::authoritative_zone;
 use hickory_base::zone_store::{Either, ZoneHandler};
@@ -130,7 +130,7 @@ fn serve_filtered(
     bytes: &[u8],
     rounds: u64,
 ) -> Option<u64> {
-    let list = blocklist(alloc, list)?;
+    let list = consulted_list(alloc, list)?;
     let (origin, zone) = authoritative_zone(alloc, zone)?;
     let catalog = filtered_catalog(alloc, origin, zone, list)?;
     serve_rounds(alloc, catalog, bytes, rounds)

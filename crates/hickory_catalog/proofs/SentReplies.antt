@@ -1,35 +1,24 @@
 -- From what a sink's answer says to what a call says of it.
-use Rattle.std.proofs.Common.{◌≡◌, ◌≢◌, Result, Ok, Err, ℕ, ◌+◌, ◌%◌, ◌^◌, ◌⊎◌, inl, inr, false, List, [], ◌∷◌, ◌++◌, length, Option, None, Bor, map, ◌∙◌, sym, ap, subst, refl}
-use Rattle.std.specs.Option.{option_copied}
+use Rattle.std.proofs.Common.{◌≡◌, ◌≢◌, Result, Ok, Err, ℕ, ◌+◌, ◌%◌, ◌^◌, ◌⊎◌, inl, inr, false, List, ◌++◌, Bor, ◌∙◌, sym, subst}
 use Rattle.std.specs.Prelude.{IfOk, IfErr, OnOk}
 use Rattle.hickory_wire.specs.serialize.writing.ReplyParts.{CannotBeWritten, ReplyWritten}
 use Rattle.wire_writing.specs.serialize.writing.Writing.{Fronts, Written}
 use Rattle.wire_names.specs.declared.error.ProtoError.{ProtoError}
 use Rattle.wire_names.specs.declared.error.ProtoError.TheVariants.{Memory}
-use Rattle.std.specs.Iterator.Adapters.{chain_first, chain_first_done, chain_second, chain_second_done, chain_steps, once_steps, once_item}
+use Rattle.std.specs.Iterator.Adapters.{chain_first, chain_first_done, chain_second, chain_second_done, chain_steps}
 use Rattle.std.specs.Slice.Iter.{iter_steps, iter_rest}
-use Rattle.std.proofs.lemmas.Iterator.Adapters.{YieldsList-from_once}
 use Rattle.std.proofs.lemmas.Iterator.Consumers.{YieldsList-from_chain}
 use Rattle.std.proofs.lemmas.Iterator.{items_from_drains, YieldsList-from_slice}
-use Rattle.wire_messages.specs.op.EdnsFields.{EdnsFields}
 use Rattle.wire_messages.specs.serialize.writing.Reply.{Reply}
 use Rattle.wire_messages.specs.declared.op.header.Header.{Header}
 use Rattle.wire_messages.specs.declared.op.header.Metadata.{Metadata}
 use Rattle.wire_messages.specs.declared.rr.rdata.RData.{RData}
 use Rattle.wire_messages.specs.declared.rr.record.Record.{Record}
-use Rattle.wire_messages.specs.declared.rr.tsig.TSIG.{TSIG}
-use Rattle.hickory_base.specs.responses.Responses.{GivesBy, IsReplyOf, ReplyBase, header_of}
+use Rattle.hickory_base.specs.responses.Responses.{GivesBy, header_of}
 use Rattle.hickory_base.specs.responses.Sinks.{AddsEntry}
-use Rattle.hickory_base.specs.declared.responses.message_response.MessageResponse.{MessageResponse}
 use Rattle.hickory_base.specs.declared.responses.message_response.ResponseInfo.{ResponseInfo}
 use Rattle.hickory_base.specs.declared.responses.response_handler.ResponseHandler.{Ghosts}
 use Rattle.hickory_catalog.specs.Sending.{Fails, IsFailed, IsTaken, Sends, Takes, failure_header}
-
--- the iterator of a slice gives the slice
-pub given_by_slice : {records xs : List (Record RData)} {it : _} → GivesBy iter_steps (λ (x : Bor (Record RData)). x.now) it records → iter_rest it ≡ xs → records ≡ xs
-given_by_slice {xs = xs} gives e =
-    let d = gives.1 in
-    sym gives.2 ∙ items_from_drains gives.0 (d.1.0, d.1.1, λ _. (d.0, d.1.2)) (YieldsList-from_slice xs e)
 
 -- three slices' iterators that are chained give one slice after another
 pub given_by_chain : {records xs ys zs : List (Record RData)} {it : _} → GivesBy (chain_steps iter_steps (chain_steps iter_steps iter_steps)) (λ (x : Bor (Record RData)). x.now) it records
@@ -40,33 +29,6 @@ given_by_chain {xs = xs} {ys = ys} {zs = zs} gives e f g h k m n =
     let d = gives.1 in
     sym gives.2 ∙ items_from_drains gives.0 (d.1.0, d.1.1, λ _. (d.0, d.1.2))
     (YieldsList-from_chain (YieldsList-from_slice xs e) (YieldsList-from_chain (YieldsList-from_slice ys f) (YieldsList-from_slice zs g) m n) h k)
-
-no_items : (items : List (Bor (Record RData))) → map (λ (x : Bor (Record RData)). x) items ≡ [] → map (λ (x : Bor (Record RData)). x.now) items ≡ []
-no_items [] e = refl
-no_items (x ∷ xs) e = cc
-
--- the empty iterator gives nothing
-pub given_by_empty : {records : List (Record RData)} {it : _} → GivesBy once_steps (λ (x : Bor (Record RData)). x.now) it records → once_item it ≡ None → records ≡ []
-given_by_empty gives e =
-    let d = gives.1 in
-    let none : map (λ (x : Bor (Record RData)). x) gives.0 ≡ [] = items_from_drains gives.0 (d.1.0, d.1.1, λ _. (d.0, d.1.2)) (YieldsList-from_once None e) in
-    sym gives.2 ∙ no_items gives.0 none
-
--- a reply is known by its parts
-reply_by_parts : (r : Reply) (metadata : Metadata) (question : List ℕ) (count : ℕ) (edns : Option EdnsFields) (answers authorities soa additionals : List (Record RData)) (signature : Option (Record TSIG))
-    → r.metadata ≡ metadata → r.question ≡ question → r.question_count ≡ count → r.edns ≡ edns → r.answers ≡ answers → r.authorities ≡ authorities → r.soa ≡ soa → r.additionals ≡ additionals → r.signature ≡ signature
-    → r ≡ record { metadata = metadata; question = question; question_count = count; edns = edns; answers = answers; authorities = authorities; soa = soa; additionals = additionals; signature = signature }
-reply_by_parts r metadata question count edns answers authorities soa additionals signature e f g h i j k l m = rw (← e, ← f, ← g, ← h, ← i, ← j, ← k, ← l, ← m)
-
--- the reply of a response of these parts
-pub reply_of_parts : {A N S D : Type 0} {answers_give : A → List (Record RData) → Type 0} {authorities_give : N → List (Record RData) → Type 0} {soa_gives : S → List (Record RData) → Type 0} {additionals_give : D → List (Record RData) → Type 0}
-    {response : MessageResponse A N S D} {base : ReplyBase} {metadata : Metadata} {answers authorities soa additionals : List (Record RData)} {signature : Option (Record TSIG)}
-    → (r : Reply) → IsReplyOf answers_give authorities_give soa_gives additionals_give response r
-    → response.metadata ≡ metadata → response.queries.now ≡ base.questions → option_copied response.edns ≡ base.edns → response.signature ≡ signature
-    → r.answers ≡ answers → r.authorities ≡ authorities → r.soa ≡ soa → r.additionals ≡ additionals
-    → r ≡ record { metadata = metadata; question = base.questions.bytes; question_count = length base.questions.queries; edns = base.edns; answers = answers; authorities = authorities; soa = soa; additionals = additionals; signature = signature }
-reply_of_parts r is m q e s answers authorities soa additionals =
-    reply_by_parts r _ _ _ _ _ _ _ _ _ (is.metadata ∙ m) (is.question ∙ ap (λ z. z.bytes) q) (is.question_count ∙ ap (λ z. length z.queries) q) (is.edns ∙ e) answers authorities soa additionals (is.signature ∙ s)
 
 module _ {Entry : Type 0} {P : Reply → Type 0} {shows : Reply → Entry → Type 0} {old new : List Entry} where
   added_or_not : {reply : Reply} → ((r : Reply) → P r → r ≡ reply) → ((r : Reply) × P r × AddsEntry (shows r) old new) ⊎ (new ≡ old) → AddsEntry (shows reply) old new ⊎ (new ≡ old)

@@ -107,37 +107,3 @@ pub(crate) fn response<'q>(
         contents.additionals.as_slice().iter(),
     )
 }
-
-/// A reply whose records are lent, a slice for each section.
-type LentResponse<'q> = MessageResponse<
-    'q,
-    'q,
-    Iter<'q, Record>,
-    Iter<'q, Record>,
-    EmptySection<'q>,
-    Iter<'q, Record>,
->;
-
-/// The reply to a request of this metadata and these records, with this EDNS, and without a signature.
-pub(crate) fn lent_response<'q>(
-    request: &'q MessageRequest,
-    edns: Option<&'q Edns>,
-    metadata: Metadata,
-    answers: &'q [Record],
-    authorities: &'q [Record],
-    additionals: &'q [Record],
-) -> LentResponse<'q>
-    ensures parts { IsBuilt (record { questions = request.now.queries; edns = option_copied edns.entry }) metadata result }
-    ensures answers { iter_rest result.answers ≡ answers.now }
-    ensures authorities { iter_rest result.authorities ≡ authorities.now }
-    ensures soa { once_item result.soa ≡ None }
-    ensures additionals { iter_rest result.additionals ≡ additionals.now }
-{
-    MessageResponseBuilder::new(&request.queries, edns).build(
-        metadata,
-        answers.iter(),
-        authorities.iter(),
-        iter::empty::<&Record>(),
-        additionals.iter(),
-    )
-}

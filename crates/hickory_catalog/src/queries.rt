@@ -18,7 +18,7 @@ ghost use Rattle.hickory_catalog.specs.WholeTransfers.{ChainTransfers};
 
 use crate::authoritative::authoritative_contents;
 use crate::catalog::Catalog;
-use crate::chains::{chain_answer, is_memory, options_of};
+use crate::chains::{ChainAnswer, Given, chain_answer, is_memory, options_of, unanswered};
 use crate::contents::ReplyContents;
 use crate::edns::set_high_code;
 use crate::forwarded::forwarded_contents;
@@ -31,8 +31,7 @@ use hickory_base::errors::{CatalogError, LookupError};
 use hickory_base::message_request::MessageRequest;
 use hickory_base::server::{Request, RequestInfo, ResponseHandler, ResponseInfo};
 use hickory_base::zone_store::{
-    AuthLookup, LookupControlFlow, LookupOptions, RecordList, WholeReply, ZoneHandler,
-    ZoneTransfer, ZoneType,
+    AuthLookup, LookupControlFlow, LookupOptions, WholeReply, ZoneHandler, ZoneTransfer, ZoneType,
 };
 use hickory_wire::{Edns, LowerQuery, Metadata, RecordType, ResponseCode, TSigResponseContext};
 use std::alloc::Global;
@@ -365,13 +364,11 @@ fn answer_transfer<S: ReplySigner, H: ZoneHandler, R: ResponseHandler>(
 
 /// Answers to what the chain of a zone answered, at this place if it did, and hands the reply over, with this EDNS. The records of the answer may be
 /// taken out.
+#[inline(always)]
 fn answer_chained<'q, S: ReplySigner, H: ZoneHandler, R: ResponseHandler>(
     asked: &ZoneQuery<'q, S, H>,
     place: usize,
-    given: &mut (
-        LookupControlFlow<AuthLookup<'q>>,
-        Option<TSigResponseContext>,
-    ),
+    given: &mut Given<'q>,
     edns: &mut Option<Edns>,
     sink: &mut R,
 ) -> Result<ResponseInfo, CatalogError>
@@ -430,19 +427,6 @@ fn answer_searched<'q, S: ReplySigner, H: ZoneHandler, R: ResponseHandler>(
     )
 }
 
-/// A reply in whose place a handler puts another: Refused, which is 5, and no records.
-fn unanswered<'z>() -> WholeReply<'z>
-    ensures { result ≡ record { response_code = 5; authoritative = false; answers = []; authorities = []; additionals = [] } }
-{
-    WholeReply {
-        response_code: ResponseCode::REFUSED,
-        authoritative: false,
-        answers: RecordList::empty(),
-        authorities: RecordList::empty(),
-        additionals: RecordList::empty(),
-    }
-}
-
 /// Answers a query by the whole reply that a handler puts in the place of this one, and hands it over, with this EDNS. `None` says that the handler puts
 /// none, and that nothing was handed over.
 #[inline(always)]
@@ -490,14 +474,15 @@ fn answer_alone<'q, S: ReplySigner, H: ZoneHandler, R: ResponseHandler>(
     answer_searched(asked, handler, edns, sink)
 }
 
-/// Answers a query of a zone of other chains, but for a transfer, and hands the reply over, with this EDNS.
-#[inline(never)]
-fn answer_by_chain<S: ReplySigner, H: ZoneHandler, R: ResponseHandler>(
-    asked: &ZoneQuery<'_, S, H>,
+/// Answers a query of a zone by its handlers, but for a transfer, and hands the reply over, with this EDNS. What they answer is put in this place.
+fn answer_in_place<'q, S: ReplySigner, H: ZoneHandler, R: ResponseHandler>(
+    asked: &ZoneQuery<'q, S, H>,
     edns: &mut Option<Edns>,
     sink: &mut R,
+    answer: &mut ChainAnswer<'q>,
 ) -> Result<ResponseInfo, CatalogError>
-    requires { (asked.now.query.now.query_type == 252) ≡ false }
+    requires lookup { (asked.now.query.now.query_type == 252) ≡ false }
+    requires unsigned { answer.old.given.1 ≡ None }
     ensures replied { IfOk result (λ info. (reply : Reply) ×
         ZoneReply (server_of H.ZoneHandler S.signature_for asked.now.catalog.now) asked.now.chain.now asked.now.request.now edns.old asked.now.moment asked.now.query.now reply ×
         Sends R.ResponseHandler asked.now.request.now.message.metadata sink.old sink.new reply (header_of info)) }
@@ -512,10 +497,25 @@ fn answer_by_chain<S: ReplySigner, H: ZoneHandler, R: ResponseHandler>(
         asked.query,
     );
     let options = LookupOptions::from_edns(edns.as_ref());
-    let mut answered = chain_answer(asked.chain, alloc, request, &info, options);
-    let told = answer_chained(asked, answered.place, &mut answered.given, edns, sink);
-    drop(answered);
-    told
+    chain_answer(asked.chain, alloc, request, &info, options, answer);
+    answer_chained(asked, answer.place, &mut answer.given, edns, sink)
+}
+
+/// Answers a query of a zone of other chains, but for a transfer, and hands the reply over, with this EDNS.
+#[inline(never)]
+fn answer_by_chain<S: ReplySigner, H: ZoneHandler, R: ResponseHandler>(
+    asked: &ZoneQuery<'_, S, H>,
+    edns: &mut Option<Edns>,
+    sink: &mut R,
+) -> Result<ResponseInfo, CatalogError>
+    requires { (asked.now.query.now.query_type == 252) ≡ false }
+    ensures replied { IfOk result (λ info. (reply : Reply) ×
+        ZoneReply (server_of H.ZoneHandler S.signature_for asked.now.catalog.now) asked.now.chain.now asked.now.request.now edns.old asked.now.moment asked.now.query.now reply ×
+        Sends R.ResponseHandler asked.now.request.now.message.metadata sink.old sink.new reply (header_of info)) }
+    ensures refused { IfErr result (λ e. (e ≡ CatalogError.Memory) × IsUntouched R.ResponseHandler sink.old sink.new) }
+{
+    // speed: served, an address past a block list. What is lent is made where it stays.
+    answer_in_place(asked, edns, sink, &mut ChainAnswer::unasked())
 }
 
 /// Answers a query of a zone, but for a transfer, by its handlers, and hands the reply over, with this EDNS.

@@ -10,7 +10,7 @@ ghost use Rattle.hickory_catalog.specs.Sending.{Fails, Sends, Takes, failure_hea
 ghost use Rattle.hickory_catalog.specs.Transfers.{message_of_transfer};
 
 use crate::authoritative::authoritative_metadata;
-use crate::contents::{ReplyContents, lent_response, response};
+use crate::contents::{ReplyContents, response};
 use crate::edns::set_high_code;
 use hickory_base::message_request::MessageRequest;
 use hickory_base::message_response::MessageResponse;
@@ -142,8 +142,10 @@ pub(crate) fn send_records<R: ResponseHandler>(
     ensures failed { IfErr result (λ info. Fails R.ResponseHandler request.now.metadata sink.old sink.new (message_of_transfer request.now (option_copied edns.entry) records.now) (header_of info)) }
 {
     let metadata = authoritative_metadata(&request.metadata, ResponseCode::NO_ERROR);
-    let response = lent_response(request, edns, metadata, records, &[], &[]);
-    send_once(sink, alloc, &request.metadata, response)
+    match sink.send_lent(alloc, &request.queries, edns, metadata, records, &[], &[]) {
+        Ok(sent) => Ok(sent),
+        Err(_) => Err(failure(&request.metadata)),
+    }
 }
 
 /// Hands an error reply over, with this EDNS: a response code, and no records.

@@ -9,19 +9,19 @@ pub returns-else-is_continue-clause-answers : goal.returns-else-is_continue-clau
 returns-else-is_continue-clause-answers g c = elim c.else-is_continue.branch [
   | else-is_continue-via-then-is_continue+else-chain-gt1 w ↦
       let goes_on = sym c.is_continue.ensures ∙ w.if-is_continue.true in
-      let nobody : remove c.args.chain.now c.ask-asked.result.place ≡ [] =
-      alone c.args.chain.now c.ask-asked.result.place w.if-chain-gt1.false (c.ask-asked.ensures.place (continue_is_answer c.ask-asked.result.given.0 goes_on)) in
+      let nobody : remove c.args.chain.now c.ask.new.answer.place ≡ [] =
+      alone c.args.chain.now c.ask.new.answer.place w.if-chain-gt1.false (c.ask.ensures.place (continue_is_answer c.ask.new.answer.given.0 goes_on)) in
       record {
-        answer = c.ask-asked.result.given.0;
-        context = c.ask-asked.result.given.1;
-        asked = c.ask-asked.ensures.asked;
-        followed = continued c.ask-asked.result.given.0 goes_on (rw nobody all_consulted);
+        answer = c.ask.new.answer.given.0;
+        context = c.ask.new.answer.given.1;
+        asked = c.ask.ensures.asked;
+        followed = continued c.ask.new.answer.given.0 goes_on (rw nobody all_consulted);
       }
   | else-is_continue-via-else-is_continue w ↦
       record {
-        answer = c.ask-asked.result.given.0;
-        context = c.ask-asked.result.given.1;
-        asked = c.ask-asked.ensures.asked;
-        followed = stands _ _ _ _ c.ask-asked.result.given.0 _ (sym c.is_continue.ensures ∙ w.if-is_continue.false) (skip_without_context c.ask-asked.ensures.asked);
+        answer = c.ask.new.answer.given.0;
+        context = c.ask.new.answer.given.1;
+        asked = c.ask.ensures.asked;
+        followed = stands _ _ _ _ c.ask.new.answer.given.0 _ (sym c.is_continue.ensures ∙ w.if-is_continue.false) (skip_without_context c.ask.ensures.asked);
       }
 ]

@@ -3,4 +3,4 @@ use Rattle.hickory_catalog.proofs.Consulting.{ConsultedOn}
 use Rattle.hickory_catalog.proofs.chains.consult.Given as goal
 
 abbrev pub invariant-loop-i : goal.invariant-loop-i
-invariant-loop-i g l = ConsultedOn g.H.ZoneHandler (information_of l.info) l.options l.handlers l.fn.first l.fn.first_context l.i l.last l.context
+invariant-loop-i g l = ConsultedOn g.H.ZoneHandler (information_of l.info) l.options l.handlers l.fn.given.0 l.fn.given.1 l.i l.given.0 l.given.1

@@ -3,5 +3,4 @@ use Rattle.hickory_catalog.proofs.chains.consult_others.Goals as goal
 
 pub returns-clause-consulted : goal.returns-clause-consulted
 returns-clause-consulted g c =
-    let replaced = c.replace-answer.ensures.value in
-    joined (rw replaced at c.consult-answer.ensures) (rw (behind_is c.args.chain.now c.args.asked.now.place) at c.consult.ensures)
+    joined c.consult.ensures (rw (behind_is c.args.chain.now c.args.asked.now.place) at c.consult-2.ensures)
