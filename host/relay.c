@@ -130,8 +130,8 @@ static size_t take_reply(uint8_t *frame) {
     return 2 + len;
 }
 
-uint32_t ask(const uint8_t *message, size_t len, struct source source, bool stream, uint8_t *out,
-             size_t *written, size_t *waiting) {
+uint32_t ask(const uint8_t *message, size_t len, struct source source, bool stream, uint8_t *out, size_t *written,
+             size_t *waiting) {
     uint32_t number = ZONE_SERVICE_UNREADABLE;
     *written = *waiting = 0;
     if (len > 0) {
