@@ -120,21 +120,34 @@ struct source {
     size_t len;
     uint16_t port;
 };
-struct source source_of(const struct sockaddr_storage *address);
+static inline struct source source_of(const struct sockaddr_storage *address) {
+    const struct sockaddr_in *v4 = (const void *)address;
+    const struct sockaddr_in6 *v6 = (const void *)address;
+    if (address->ss_family == AF_INET6)
+        return (struct source){v6->sin6_addr.s6_addr, 16, ntohs(v6->sin6_port)};
+    return (struct source){(const uint8_t *)&v4->sin_addr, 4, ntohs(v4->sin_port)};
+}
 
 /* relay.c: where zones have journals, begin starts the process that answers, once the one before has ended, and waits
  * until it does: 0, or -1 with a line on the standard error. Behind one that could not write updates which it held,
  * those of the same settings hold none. leave has nobody but the worker ask it. tell_ahead tells it the first of these
- * datagrams, and how many; each that is whole and not empty is to be answered next, in their order. answer,
- * answer_stream and take are those of zone_service.h, by that process where there is one; with it, take may find that
- * nothing waits any more. */
+ * datagrams, and how many; each that is whole and not empty is to be answered next, in their order. ask has it answer
+ * a message. answer, answer_stream and take are those of zone_service.h, by that process where there is one; with it,
+ * take may find that nothing waits any more. */
 extern pid_t serving; /* that process, or 0; whoever waits for its end sets it to 0 */
 #define TELLS_UNWRITTEN(status) (WIFEXITED(status) && WEXITSTATUS(status) == 6) /* that updates it held are not written */
+extern int asked; /* where that process is asked and answers, or less than 0 */
 int relay_begin(void);
 void relay_leave(void);
 int tell_ahead(const struct mmsghdr *datagrams, int count);
-uint32_t answer(const uint8_t *message, size_t len, const struct source *source, bool stream, uint8_t *out, size_t room,
-                size_t *written, size_t *waiting);
+uint32_t ask(const uint8_t *message, size_t len, struct source source, bool stream, uint8_t *out, size_t *written,
+             size_t *waiting);
+static inline uint32_t answer(const uint8_t *message, size_t len, const struct source *source, bool stream,
+                              uint8_t *out, size_t room, size_t *written, size_t *waiting) {
+    return asked >= 0 ? ask(message, len, *source, stream, out, written, waiting)
+                      : zone_service_answer(&settings->service, message, len, source->bytes, source->len, source->port,
+                                            stream, now, out, room, written, waiting);
+}
 uint32_t answer_stream(const uint8_t *bytes, size_t len, const struct source *source, uint8_t *out, size_t room,
                        size_t *taken, size_t *written, size_t *waiting);
 size_t take(uint8_t *out, size_t room, size_t *waiting);

@@ -9,7 +9,7 @@
 #define AHEAD (32 << 10) /* of lines told at once: a pair of sockets has room for more, by wmem_default of the system */
 
 pid_t serving;
-static int asked = -1;  /* where it is asked and answers, or less than 0 */
+int asked = -1;
 static char *line;      /* the last line that it told, without its end */
 static bool is_pending; /* more lines come that answer what it was asked: not behind an empty one, or a word */
 static int ahead;       /* messages that it was told ahead, and whose answers nobody asked for */
@@ -130,15 +130,12 @@ static size_t take_reply(uint8_t *frame) {
     return 2 + len;
 }
 
-uint32_t answer(const uint8_t *message, size_t len, const struct source *source, bool stream, uint8_t *out, size_t room,
-                size_t *written, size_t *waiting) {
-    if (asked < 0)
-        return zone_service_answer(&settings->service, message, len, source->bytes, source->len, source->port, stream,
-                                   now, out, room, written, waiting);
+uint32_t ask(const uint8_t *message, size_t len, struct source source, bool stream, uint8_t *out, size_t *written,
+             size_t *waiting) {
     uint32_t number = ZONE_SERVICE_UNREADABLE;
     *written = *waiting = 0;
     if (len > 0) {
-        tell(ahead > 0 ? 0 : put_line(text, message, len, source, stream));
+        tell(ahead > 0 ? 0 : put_line(text, message, len, &source, stream));
         ahead -= ahead > 0;
         is_pending = true;
         *written = take_reply(out);
@@ -160,7 +157,7 @@ uint32_t answer_stream(const uint8_t *bytes, size_t len, const struct source *so
     if (len < whole)
         return ZONE_SERVICE_DONE;
     *taken = whole;
-    return answer(bytes + 2, whole - 2, source, true, out, room, written, waiting);
+    return ask(bytes + 2, whole - 2, *source, true, out, written, waiting);
 }
 
 size_t take(uint8_t *out, size_t room, size_t *waiting) {

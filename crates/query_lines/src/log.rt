@@ -1,7 +1,7 @@
 //! A log of queries, of which one in so many has a line.
 
 ghost use Rattle.std.specs.Prelude.{◌≡◌, ◌≤◌, ◌++◌, [], OnErr, OnOk, drop, length, take};
-ghost use Rattle.query_lines.specs.QueryLogs.{IsLogged, counted, is_due, told_line};
+ghost use Rattle.query_lines.specs.QueryLogs.{IsLogged, counted, is_due, is_on, told_line};
 
 use crate::lines::put_query_line;
 use std::alloc::{AllocError, Global};
@@ -52,6 +52,15 @@ impl QueryLog {
         self.left = 0;
     }
 
+    /// Whether one in so many queries has a line, and few enough bytes wait.
+    // speed: served, an address
+    #[inline(always)]
+    pub fn is_on(&self) -> bool
+        ensures { result ≡ is_on self.now }
+    {
+        self.every > 0 && self.lines.len() <= MOST_BYTES
+    }
+
     /// Counts a query: whether it is to have a line.
     fn is_due(&mut self) -> bool
         ensures due { result ≡ is_due self.old }
@@ -97,6 +106,7 @@ impl QueryLog {
     }
 
     /// Counts a query that has a reply, and puts its line, if it is to have one and memory is given for it.
+    #[inline(never)]
     pub fn put(
         &mut self,
         alloc: Global,

@@ -67,6 +67,7 @@ fn counts_no_record(bytes: &[u8]) -> bool
 }
 
 /// Whether a message is one that the server judges where it may have a signature.
+#[inline(always)]
 fn is_request(keys: &Keys, rules: &Rules, bytes: &[u8], src: SocketAddr) -> bool
     ensures { IsTrue result ↔ IsRequestWithKeys keys.now rules.now bytes.now src }
 {
@@ -319,7 +320,7 @@ impl<S: ReplySigner, H: ZoneHandler> SignedServer<S, H> {
     }
 
     /// Serves one message that is judged.
-    #[inline(never)]
+    #[inline(always)]
     fn serve_judged(
         &mut self,
         alloc: Global,

@@ -85,6 +85,8 @@ impl<S: ReplySigner, H: ZoneHandler> Answering<S, H> {
     }
 
     /// Serves a message: its replies wait to be taken. Those to the message before it that still wait are let go, unless this one is refused.
+    // speed: served, an address
+    #[inline(always)]
     fn serve(
         &mut self,
         alloc: Global,
@@ -105,7 +107,7 @@ impl<S: ReplySigner, H: ZoneHandler> Answering<S, H> {
         match server.serve_reusing(alloc, bytes, source, protocol, now, spare) {
             Ok(Answer::Replies(replies)) => {
                 let sent = replies.as_slice();
-                log_replies(&mut self.log, alloc, now, source, protocol, bytes, sent);
+                log_replies(&mut self.log, alloc, now, &source, protocol, bytes, sent);
                 self.pending = replies;
                 self.taken = 0;
                 Ok(())
@@ -126,6 +128,8 @@ impl<S: ReplySigner, H: ZoneHandler> Answering<S, H> {
     }
 
     /// Writes replies that wait at this place, each behind its length, as many as there is room for: the place behind them.
+    // speed: served, an address
+    #[inline(always)]
     fn take_at(&mut self, out: &mut [u8], at: usize) -> usize
         requires { at ≤ length out.old }
         ensures others { self.new ≡ record self.old { taken = self.new.taken } }
@@ -149,6 +153,8 @@ impl<S: ReplySigner, H: ZoneHandler> Answering<S, H> {
 
     /// Answers a message at this place: writes its replies as `take_at` does. Those to the message before it that still wait are let go,
     /// unless this one is refused.
+    // speed: served, an address
+    #[inline(always)]
     fn answer_at(
         &mut self,
         alloc: Global,
@@ -175,6 +181,8 @@ impl<S: ReplySigner, H: ZoneHandler> Answering<S, H> {
 
     /// Answers a message: writes its replies as `take` does, and says how many bytes they take. Those to the message before it that still
     /// wait are let go, unless this one is refused.
+    // speed: served, an address
+    #[inline(always)]
     pub fn answer(
         &mut self,
         alloc: Global,

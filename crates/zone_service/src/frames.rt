@@ -1,6 +1,6 @@
 //! Replies behind their lengths (RFC 1035 section 4.2.2), and messages that stand so in a stream.
 
-ghost use Rattle.std.specs.Prelude.{◌≡◌, ◌≤◌, ◌+◌, ◌-◌, ◌++◌, ℕ, List, IfSome, IsNone, drop, length, take};
+ghost use Rattle.std.specs.Prelude.{◌≡◌, ◌≤◌, ◌+◌, ◌-◌, ◌++◌, ◌∷◌, [], ℕ, List, IfSome, IsNone, drop, length, take};
 ghost use Rattle.zone_service.specs.Frames.{ArePut, BeginsWith, HasNoRoom, IsCutShort, IsFrame};
 
 use hickory_server::proto::Octets;
@@ -56,12 +56,30 @@ pub(crate) fn put_frame(out: &mut [u8], at: usize, reply: &[u8]) -> Option<usize
     Some(put(out, behind, reply))
 }
 
+/// Writes a reply at this place, as `put_frames` does several.
+// speed: served, an address
+#[inline(always)]
+fn put_only(out: &mut [u8], at: usize, reply: &[u8]) -> (usize, usize)
+    requires { at ≤ length out.old }
+    ensures put { ArePut (reply.now ∷ []) out.old at out.new result.0 (drop result.1 (reply.now ∷ [])) }
+    ensures count { result.1 ≤ 1 }
+{
+    match put_frame(out, at, reply) {
+        Some(end) => (end, 1),
+        None => (at, 0),
+    }
+}
+
 /// Writes replies at this place, each behind its length, as many as there is room for: the place behind them, and how many they are.
 pub(crate) fn put_frames(out: &mut [u8], at: usize, replies: &[Octets]) -> (usize, usize)
     requires { at ≤ length out.old }
     ensures put { ArePut replies.now out.old at out.new result.0 (drop result.1 replies.now) }
     ensures count { result.1 ≤ length replies.now }
 {
+    // speed: served, an address
+    if let [reply] = replies {
+        return put_only(out, at, reply.as_slice());
+    }
     let mut end = at;
     let mut count = 0;
     for reply in replies {

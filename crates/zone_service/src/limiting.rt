@@ -89,11 +89,12 @@ pub(crate) fn limit(
     ensures limited { IsLimited limits.old stream source.now now made (take written.old out.old) result (take written.new out.new) limits.new }
     ensures within { written.new ≤ length out.new }
 {
+    // speed: served, an address
+    let Some(limits) = limits else {
+        return made;
+    };
     if made != DONE || stream || *written == 0 {
         return made;
     }
-    match limits {
-        Some(limits) => limit_reply(alloc, limits, source, now, out, written),
-        None => made,
-    }
+    limit_reply(alloc, limits, source, now, out, written)
 }

@@ -20,17 +20,23 @@ fn is_stream(protocol: Protocol) -> bool
 }
 
 /// Has a log tell a message with the first of its replies.
+// speed: served, an address
+#[inline(always)]
 pub(crate) fn log_replies(
     log: &mut QueryLog,
     alloc: Global,
     now: u64,
-    source: SocketAddr,
+    source: &SocketAddr,
     protocol: Protocol,
     message: &[u8],
     replies: &[Octets],
 )
-    ensures { AreLogged log.old now (socket_ip source) protocol message.now replies.now log.new }
+    ensures { AreLogged log.old now (socket_ip source.now) protocol message.now replies.now log.new }
 {
+    // speed: served, an address
+    if !log.is_on() {
+        return;
+    }
     if let [reply, ..] = replies {
         let stream = is_stream(protocol);
         log.put(alloc, now, source.ip(), stream, message, reply.as_slice());

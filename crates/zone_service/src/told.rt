@@ -1,6 +1,6 @@
 //! What is told of messages, in numbers.
 
-ghost use Rattle.std.specs.Prelude.{◌≡◌, ◌≢◌, ◌≤◌, [], IfErr, IfOk, IfSome, IsNone, length};
+ghost use Rattle.std.specs.Prelude.{◌≡◌, ◌≢◌, ◌≤◌, [], ℕ, IfErr, IfOk, IfSome, IsNone, List, length};
 ghost use Rattle.zone_service.specs.Exports.{AnswerTold, IsAddress, IsNoAddress, IsSource, StreamTold, refusal_number, transport_of};
 ghost use Rattle.zone_service.specs.Serving.{Stays, keyed_of, waiting_in};
 
@@ -64,8 +64,82 @@ fn transport(stream: bool) -> Protocol
     if stream { Protocol::Tcp } else { Protocol::Udp }
 }
 
+/// The source of the four bytes of an IPv4 address and this port.
+// speed: served, an address
+#[inline(always)]
+fn source_of_four(octets: [u8; 4], port: u16) -> SocketAddr
+    ensures { IsSource octets port result }
+{
+    SocketAddr::new(IpAddr::V4(Ipv4Addr::from_octets(octets)), port)
+}
+
+/// Answers a message from this source, as `tell_answer` does.
+// speed: served, an address
+#[inline(always)]
+fn tell_from<S: ReplySigner, H: ZoneHandler>(
+    alloc: Global,
+    answering: &mut Answering<S, H>,
+    message: &[u8],
+    source: SocketAddr,
+    stream: bool,
+    now: u64,
+    out: &mut [u8],
+    written: &mut usize,
+    waiting: &mut usize,
+) -> u32
+    ensures stays { Stays answering.old.server answering.new.server }
+    ensures told { (address : List ℕ) → (port : ℕ) → IsSource address port source →
+        AnswerTold (keyed_of H.ZoneHandler S.signature_for answering.old.server) answering.old message.now address port (transport_of stream) now out.old result written.new out.new answering.new }
+    ensures waiting { waiting.new ≡ length (waiting_in answering.new) }
+    ensures within { written.new ≤ length out.new }
+{
+    let answer = answering.answer(alloc, message, source, transport(stream), now, out);
+    *waiting = answering.waiting();
+    match answer {
+        Ok(end) => {
+            *written = end;
+            DONE
+        }
+        Err(refusal) => {
+            *written = 0;
+            number(refusal)
+        }
+    }
+}
+
+/// Answers a message of any source, as `tell_answer` does.
+#[inline(never)]
+fn tell_any<S: ReplySigner, H: ZoneHandler>(
+    alloc: Global,
+    answering: &mut Answering<S, H>,
+    message: &[u8],
+    source: &[u8],
+    port: u16,
+    stream: bool,
+    now: u64,
+    out: &mut [u8],
+    written: &mut usize,
+    waiting: &mut usize,
+) -> u32
+    ensures stays { Stays answering.old.server answering.new.server }
+    ensures told { AnswerTold (keyed_of H.ZoneHandler S.signature_for answering.old.server) answering.old message.now source.now port (transport_of stream) now out.old result written.new out.new answering.new }
+    ensures waiting { waiting.new ≡ length (waiting_in answering.new) }
+    ensures within { written.new ≤ length out.new }
+{
+    let Some(source) = source_of(source, port) else {
+        *written = 0;
+        *waiting = answering.waiting();
+        return NO_ADDRESS;
+    };
+    tell_from(
+        alloc, answering, message, source, stream, now, out, written, waiting,
+    )
+}
+
 /// Answers a message: writes its replies, each behind its length in two bytes, as many as there is room for, and says how many bytes they take
 /// and how many replies wait. The number says why there is none.
+// speed: served, an address
+#[inline(always)]
 pub(crate) fn tell_answer<S: ReplySigner, H: ZoneHandler>(
     alloc: Global,
     answering: &mut Answering<S, H>,
@@ -83,20 +157,16 @@ pub(crate) fn tell_answer<S: ReplySigner, H: ZoneHandler>(
     ensures waiting { waiting.new ≡ length (waiting_in answering.new) }
     ensures within { written.new ≤ length out.new }
 {
-    *written = 0;
-    let Some(source) = source_of(source, port) else {
-        *waiting = answering.waiting();
-        return NO_ADDRESS;
-    };
-    let answer = answering.answer(alloc, message, source, transport(stream), now, out);
-    *waiting = answering.waiting();
-    match answer {
-        Ok(end) => {
-            *written = end;
-            DONE
-        }
-        Err(refusal) => number(refusal),
+    // What is inlined behind this knows of which kind the address is.
+    if let Ok(octets) = <[u8; 4]>::try_from(source) {
+        let source = source_of_four(octets, port);
+        return tell_from(
+            alloc, answering, message, source, stream, now, out, written, waiting,
+        );
     }
+    tell_any(
+        alloc, answering, message, source, port, stream, now, out, written, waiting,
+    )
 }
 
 /// Answers the messages that stand whole at the front of a stream's bytes, each behind its length in two bytes, and says how many bytes

@@ -46,6 +46,8 @@ pub(crate) fn is_response(bytes: &[u8]) -> bool
 }
 
 /// The question of a query, if it has just one and its version of EDNS is known.
+// speed: served, an address
+#[inline(always)]
 fn question_of(message: &MessageRequest) -> Option<&LowerQuery>
     ensures { MatchOption result ((query : Query) → ¬ (IsQuery message.now query)) (λ query. IsQuery message.now query.now) }
 {
@@ -116,6 +118,8 @@ impl Rules {
     }
 
     /// What becomes of a query whose one question this is.
+    // speed: served, an address
+    #[inline(always)]
     fn ruling_of(&self, request: &Request, query: &LowerQuery) -> Ruling
         requires { IsQuery request.now.message query.now }
         ensures { IsRuling self.now request.now result }
@@ -133,6 +137,8 @@ impl Rules {
     }
 
     /// What the rules make of a request.
+    // speed: served, an address
+    #[inline(always)]
     pub fn ruling(&self, request: &Request) -> Ruling
         ensures { IsRuling self.now request.now result }
     {

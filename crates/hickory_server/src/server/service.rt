@@ -16,7 +16,7 @@ ghost use Rattle.hickory_server.specs.ServedBy.{AreSent, BytesServed, LeavesByte
 ghost use Rattle.hickory_server.specs.Serving.{LeavesRequest};
 
 use crate::server::answer::Answer;
-use crate::server::datagrams::{sent, truncated};
+use crate::server::datagrams::{are_as_sent, sent, truncated};
 use crate::server::no_keys::NoKeys;
 use crate::server::rules::{Rules, Ruling, is_response};
 use crate::server::serve::{ServeError, replies_to};
@@ -173,6 +173,7 @@ fn unhandled<T: Drop>(made: Result<T, AllocError>) -> Result<T, ServeError>
 }
 
 /// What is sent to a request that passes, in the memory of these other replies.
+#[inline(never)]
 fn passed<S: ReplySigner, H: ZoneHandler>(
     alloc: Global,
     rules: &Rules,
@@ -190,13 +191,44 @@ fn passed<S: ReplySigner, H: ZoneHandler>(
         LeavesRequest (server_of H.ZoneHandler S.signature_for catalog.old) request.now now sink e catalog.new.zones) }
 {
     let replies = replies_to(alloc, catalog, request, now, spare)?;
-    match sent(alloc, request, rules.udp_limit(), replies) {
+    let limit = rules.udp_limit();
+    // speed: served, an address
+    if are_as_sent(request, limit, replies.as_slice()) {
+        return Ok(replies);
+    }
+    match sent(alloc, request, limit, replies) {
         Ok(sent) => Ok(sent),
         Err(_) => Err(ServeError::MemoryAfterHandling),
     }
 }
 
+/// What is sent to a request.
+#[inline(never)]
+fn ruled<S: ReplySigner, H: ZoneHandler>(
+    alloc: Global,
+    rules: &Rules,
+    catalog: &mut Catalog<S, H>,
+    request: &Request,
+    now: u64,
+) -> Result<Items<Octets>, ServeError>
+    ensures others { catalog.new ≡ record catalog.old { zones = catalog.new.zones } }
+    ensures ok { IfOk result (λ sent. (encoded : List (List ℕ)) ×
+        RequestServed rules.now (server_of H.ZoneHandler S.signature_for catalog.old) request.now now encoded catalog.new.zones ×
+        AreSent request.now.protocol (udp_limit rules.now) encoded sent) }
+    ensures err { IfErr result (λ e. (sink : EncodedReplies) ×
+        LeavesRequest (server_of H.ZoneHandler S.signature_for catalog.old) request.now now sink e catalog.new.zones) }
+{
+    match rules.ruling(request) {
+        Ruling::Pass => passed(alloc, rules, catalog, request, now, Items::new(alloc)),
+        Ruling::Refuse => unhandled(refuse(alloc, rules, catalog, request, now)),
+        Ruling::Truncate => unhandled(truncate(alloc, rules, catalog, request, now)),
+        Ruling::Transfer => unhandled(transferred(alloc, rules, catalog, request, now)),
+    }
+}
+
 /// What is sent to a request, in the memory of these other replies where it passes.
+// speed: served, an address
+#[inline(always)]
 fn answered<S: ReplySigner, H: ZoneHandler>(
     alloc: Global,
     rules: &Rules,
@@ -214,9 +246,7 @@ fn answered<S: ReplySigner, H: ZoneHandler>(
 {
     match rules.ruling(request) {
         Ruling::Pass => passed(alloc, rules, catalog, request, now, spare),
-        Ruling::Refuse => unhandled(refuse(alloc, rules, catalog, request, now)),
-        Ruling::Truncate => unhandled(truncate(alloc, rules, catalog, request, now)),
-        Ruling::Transfer => unhandled(transferred(alloc, rules, catalog, request, now)),
+        _ => ruled(alloc, rules, catalog, request, now),
     }
 }
 

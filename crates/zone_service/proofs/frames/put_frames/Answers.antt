@@ -11,8 +11,8 @@ loop-reply-preserved c =
       room,
       omega arith,
       frames ++ frame,
-      rw (one_more c.args.replies.now c.loop-reply.reply-index c.reply-item.result (search rules) c.reply-item.is)
-          (frames_more frames _ frame c.reply-item.result so_far (rw c.as_slice.ensures at is)),
+      rw (one_more c.args.replies.now c.loop-reply.reply-index c.reply-item-in-loop-reply.result (search rules) c.reply-item-in-loop-reply.is)
+          (frames_more frames _ frame c.reply-item-in-loop-reply.result so_far (rw c.as_slice-in-loop-reply.ensures at is)),
       put ∙ ap (λ xs. xs ++ frame) written ∙ append_assoc _ frames frame,
     )
 
@@ -20,7 +20,7 @@ pub returns-in-None-clause-put : goal.returns-in-None-clause-put
 returns-in-None-clause-put c =
     let (len, within, count, frames, so_far, written) = c.loop-reply.invariant in
     let same : c.put_frame.new.out ≡ c.loop-reply.out = search rules in
-    let next = begins_at c.args.replies.now c.loop-reply.count c.reply-item.result (search rules) (rw (sym count) at c.reply-item.is) in
+    let next = begins_at c.args.replies.now c.loop-reply.count c.reply-item-in-loop-reply.result (search rules) (rw (sym count) at c.reply-item-in-loop-reply.is) in
     record {
       written = take c.loop-reply.count c.args.replies.now;
       frames = frames;
@@ -29,7 +29,7 @@ returns-in-None-clause-put c =
       all = sym (take-append-drop c.loop-reply.count c.args.replies.now);
       same_length = ap length same ∙ len;
       within = search rules;
-      full = rw (next, same) (rw c.as_slice.ensures at (c.in-None.ensures.no_room refl));
+      full = rw (next, same) (rw c.as_slice-in-loop-reply.ensures at (c.in-None.ensures.no_room refl));
     }
 
 pub returns-clause-put : goal.returns-clause-put

@@ -1,6 +1,6 @@
 use Rattle.hickory_catalog.specs.Server.{server_of}
 use Rattle.hickory_server.proofs.Results.{leaves_all}
-use Rattle.hickory_server.proofs.server.service.answered.Goals as goal
+use Rattle.hickory_server.proofs.server.service.ruled.Goals as goal
 
 pub returns-in-Refuse-clause-err : goal.returns-in-Refuse-clause-err
 returns-in-Refuse-clause-err g c =
