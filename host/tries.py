@@ -603,10 +603,10 @@ class Kept:
     def said(self):
         return open(self.log).read()
 
-    def says(self, text):
-        """How often it has said this, within two seconds: it tells behind its answers."""
+    def says(self, text, times=1):
+        """How often it has said this, within two seconds or once it has so often: it tells behind its answers."""
         for _ in range(100):
-            if text in self.said():
+            if self.said().count(text) >= times:
                 break
             time.sleep(0.02)
         return self.said().count(text)
@@ -826,7 +826,7 @@ def try_journal_limit(folder, port):
     want("and it ends", kept.end())
     kept.limit = 4096
     want("a start that may write nothing serves the zone", kept.start() and kept.has(made | {"later"}) == made | {"later"})
-    want("and an update is SERVFAIL, and told", kept.update("refused") == 2 and kept.says(shut) == 2)
+    want("and an update is SERVFAIL, and told", kept.update("refused") == 2 and kept.says(shut, 2) == 2)
     want("and it ends", kept.end())
     kept.limit = None
     want("and without the limit all is there", kept.start() and kept.has(made | {"later", "refused"}) == made | {"later"} and kept.update("last") == 0 and kept.end())
