@@ -44,11 +44,7 @@ pub record IsSearched (apex : DomainName) (entries : List Entry) (words : List �
   pub ordered : IsStrictlySortedBy key_cmp (keys_of entries)
   pub numbered : AreWordsOf apex entries words
 
--- All their keys are before this one.
-abbrev pub AreBefore : RrKey → List Entry → Type 0
-AreBefore first entries = AllByRecursion (λ (e : Entry). range_contains key_cmp (Included first) Unbounded e.0 ≡ false) entries
-
 -- The place stands behind the keys that are before this one.
 pub record IsPlaceOf (first : RrKey) (entries : List Entry) (place : ℕ) : Type 0 where
-  pub before : AreBefore first (take place entries)
+  pub before : AllByRecursion (λ e. range_contains key_cmp (Included first) Unbounded e.0 ≡ false) (take place entries)
   pub behind : AllByRecursion (λ e. range_contains key_cmp (Included first) Unbounded e.0 ≡ true) (drop place entries)

@@ -1,6 +1,6 @@
 //! The sets of a zone that does not change, in an order that is searched by numbers.
 
-ghost use Rattle.std.specs.Prelude.{◌≡◌, ◌<◌, ◌≤◌, ◌++◌, IfOk, IfSome, List, Some, drop, length, take, true};
+ghost use Rattle.std.specs.Prelude.{◌≡◌, ◌<◌, ◌≤◌, ◌++◌, IfOk, IfSome, Some, drop, length, true};
 ghost use Rattle.std.specs.List.{slice_get};
 ghost use Rattle.std.specs.List.Sorted.{IsStrictlySortedBy};
 ghost use Rattle.std.specs.Map.{keys_of};
@@ -13,7 +13,7 @@ ghost use Rattle.wire_messages.specs.rr.RrKeys.{key_cmp};
 ghost use Rattle.hickory_base.specs.zone_store.ZoneSets.{AreSetsInOrder, sets_of, shared_sets};
 ghost use Rattle.hickory_zone.specs.Features.{AreFeatures};
 ghost use Rattle.hickory_zone.specs.FoundRecords.{CutAbove};
-ghost use Rattle.hickory_zone.specs.Indexes.{AreBefore, AreWordsOf, IsIndexOf, IsPlaceOf, IsSearched, IsWordOf};
+ghost use Rattle.hickory_zone.specs.Indexes.{AreWordsOf, IsIndexOf, IsPlaceOf, IsSearched, IsWordOf};
 ghost use Rattle.hickory_zone.specs.KeysBeside.{Entry};
 ghost use Rattle.hickory_zone.specs.TopCuts.{HasGlue, servers_at};
 ghost use Rattle.hickory_zone.specs.Zones.{AreOwners};
@@ -94,54 +94,6 @@ fn is_before(entries: &[SharedSet], words: &[u64], place: usize, word: u64, firs
     }
 }
 
-/// A place before which there are only keys before one of this number, as the numbers alone tell. Mostly the key there, if there is one, is not.
-#[inline(always)]
-fn place_by_words(words: &[u64], word: u64) -> usize
-    ensures within { result ≤ length words.now }
-    ensures before { (apex : DomainName) (first : RrKey) (entries : List Entry) → IsSearched apex entries words.now → IsWordOf apex first word → AreBefore first (take result entries) }
-{
-    let mut low = 0;
-    let mut high = words.len();
-    while low < high {
-        let middle = low + (high - low) / 2;
-        if words[middle] < word {
-            low = middle + 1;
-        } else {
-            high = middle;
-        }
-    }
-    low
-}
-
-/// The place from which on no key is before this one, whose number is known, where all before another place are.
-#[inline(never)]
-fn place_behind(
-    entries: &[SharedSet],
-    words: &[u64],
-    word: u64,
-    first: &RrKey,
-    start: usize,
-) -> usize
-    requires searched { (apex : DomainName) × IsSearched apex entries.now words.now × IsWordOf apex first.now word }
-    requires start { start ≤ length entries.now }
-    requires before { AreBefore first.now (take start entries.now) }
-    ensures within { result ≤ length entries.now }
-    ensures place { IsPlaceOf first.now entries.now result }
-    ensures is { drop result entries.now ≡ entries_between key_cmp (Included first.now) Unbounded entries.now }
-{
-    let mut low = start;
-    let mut high = entries.len();
-    while low < high {
-        let middle = low + (high - low) / 2;
-        if is_before(entries, words, middle, word, first) {
-            low = middle + 1;
-        } else {
-            high = middle;
-        }
-    }
-    low
-}
-
 /// The place from which on no key is before this one.
 pub(crate) fn place_of(
     apex: &LowerName,
@@ -156,12 +108,17 @@ pub(crate) fn place_of(
     ensures is { drop result entries.now ≡ entries_between key_cmp (Included first.now) Unbounded entries.now }
 {
     let word = word_of(apex, first);
-    // speed: served, an address
-    let place = place_by_words(words, word);
-    if place < entries.len() && is_before(entries, words, place, word, first) {
-        return place_behind(entries, words, word, first, place);
+    let mut low = 0;
+    let mut high = entries.len();
+    while low < high {
+        let middle = low + (high - low) / 2;
+        if is_before(entries, words, middle, word, first) {
+            low = middle + 1;
+        } else {
+            high = middle;
+        }
     }
-    place
+    low
 }
 
 impl Index {

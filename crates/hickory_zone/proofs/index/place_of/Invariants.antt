@@ -2,7 +2,7 @@
 use Rattle.std.proofs.Common.{◌≤◌, ◌-◌, length, take, drop}
 use Rattle.wire_messages.specs.rr.RrKeys.{key_cmp}
 use Rattle.hickory_zone.proofs.lemmas.zones.Searches.{AreBelow, AreFrom}
-use Rattle.hickory_zone.proofs.index.place_behind.Given as goal
+use Rattle.hickory_zone.proofs.index.place_of.Given as goal
 
 abbrev pub invariant-loop-low : goal.invariant-loop-low
 invariant-loop-low l = record {
